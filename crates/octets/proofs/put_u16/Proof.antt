@@ -1,0 +1,55 @@
+-- `put_u16` meets its contract: where the number does not fit nothing changes, and otherwise its two halves are written. Assumes nothing.
+use mathlib.Core.Path.{sym, ap, _∙_}
+use mathlib.Core.List.{List}
+use Prim.Native.Nat.{ℕ, _+_, _%_, _^_}
+use native.Mathlib.Omega.{arith}
+use Rattle.octets.specs.Numbers.{putAt, octetsOf}
+use Rattle.octets.proofs.Numbers.{octets-length}
+use Rattle.octets.proofs.Stores.{put-short, put-halves}
+use borrow.Author.Needs.{needs}
+use Rattle.octets.proofs.put_u16.Statement.{statement}
+use Rattle.octets.proofs.put_u16.Tie as tie
+
+room-requires : tie.Need-room-requires
+room-requires c κs = search needs
+
+returns : tie.Need-returns
+returns c = sym (put-short _ _ _ (omega (arith, octets-length 2 (c .before .before .before .args .v))))
+
+cast-put-u8 : tie.Need-cast-put-u8
+cast-put-u8 c = search needs
+
+put-u8-requires : tie.Need-put-u8-requires
+put-u8-requires c κs = search needs
+
+add-put-u8 : tie.Need-add-put-u8
+add-put-u8 c = search needs
+
+cast-put-u8-2 : tie.Need-cast-put-u8-2
+cast-put-u8-2 c = search needs
+
+put-u8-requires-2 : tie.Need-put-u8-requires-2
+put-u8-requires-2 c κs = search needs
+
+same-length : tie.Need-same-length
+same-length c = search needs
+
+returns-2 : tie.Need-returns-2
+returns-2 c = let a = c .before .before .before .before .before .before .before .before .before .before .before .args in
+    c .before .before .put-u82 .ensures
+    ∙ ap (λ (l : List ℕ). putAt l (a .at + 1) (octetsOf 1 (a .v % 256 ^ 1))) (c .before .before .before .before .before .before .put-u8 .ensures)
+    ∙ put-halves (a .out .now) (a .at) 1 1 (a .v) (omega arith)
+
+pub put-u16-spec : {M : Type 1} → statement M
+put-u16-spec =
+    tie.close
+    (tie.spec
+    room-requires
+    returns
+    cast-put-u8
+    put-u8-requires
+    add-put-u8
+    cast-put-u8-2
+    put-u8-requires-2
+    same-length
+    returns-2)

@@ -1,0 +1,72 @@
+-- Appending one field of a named type to lent output at a place (01, "Template table", its last sentence). Assumes nothing.
+use Prim.Native.Nat.{ℕ, _+_, _-_, _*_, _^_}
+use mathlib.Core.Bool.{Bool, true, false, cond, not, _&&_}
+use mathlib.Core.List.{List, [], _∷_, _++_}
+use lib.Dec.{eqb, leb, ltb}
+use lib.ListN.{length, getD}
+use lib.Seq.{sets}
+use Rattle.octets.specs.Answers.{Check, _when_, judge, recordInvalid, outputTooShort}
+use Rattle.octets.specs.Numbers.{octetsOf}
+use Rattle.wire.specs.Each.{every}
+use Rattle.wire.specs.FieldTypes.{widthOf, isNumber, isSigned, booleanType, stringType, terminatedType, blobType}
+use Rattle.wire.specs.declared.walk.Value.{Value}
+use Rattle.wire.specs.declared.walk.Value.the-variants.{Octets, Number, Negative}
+use Rattle.wire.specs.declared.append.Appended.{Appended}
+use Rattle.wire.specs.declared.append.Appended.the-variants.{Next, Refused}
+
+-- A number is of a type: a Boolean is 0 or 1; unsigned types hold 0 to 256 to the w less 1, signed ones the lower half of that.
+unfoldable pub numberFits : ℕ → ℕ → Bool
+numberFits type n =
+    cond (eqb type booleanType) (leb n 1)
+    (cond (isSigned type) (ltb (2 * n) (256 ^ widthOf type))
+    (isNumber type && ltb n (256 ^ widthOf type)))
+
+-- A number below 0, given by its size, is of a signed type.
+unfoldable pub negativeFits : ℕ → ℕ → Bool
+negativeFits type n = isSigned type && (leb 1 n && leb (2 * n) (256 ^ widthOf type))
+
+-- Octets are of a type: as many as an address has; for a string or blob no more than a 32-bit length can say, a string's each below
+-- 128; for a zero-terminated string, which comes without its zero, none of them 0.
+unfoldable pub octetsFit : ℕ → List ℕ → Bool
+octetsFit type octets =
+    cond (eqb type stringType) (ltb (length octets) (2 ^ 32) && every (length octets) (λ i. ltb (getD octets i 0) 128))
+    (cond (eqb type terminatedType) (every (length octets) (λ i. not (eqb (getD octets i 0) 0)))
+    (cond (eqb type blobType) (ltb (length octets) (2 ^ 32))
+    (ltb 0 (widthOf type) && (not (isNumber type) && eqb (length octets) (widthOf type)))))
+
+-- A value is of a type; the octets count where the value says that it is octets.
+abbrev pub valueFits : ℕ → Value → List ℕ → Bool
+valueFits type (Number n) octets = numberFits type n
+valueFits type (Negative n) octets = negativeFits type n
+valueFits type Octets octets = octetsFit type octets
+
+-- The octets of the field that holds octets: behind their length, in front of a zero, or alone.
+unfoldable pub octetsField : ℕ → List ℕ → List ℕ
+octetsField type octets =
+    cond (eqb type terminatedType) (octets ++ (0 ∷ []))
+    (cond (ltb 0 (widthOf type)) octets (octetsOf 4 (length octets) ++ octets))
+
+-- The octets of the field that holds a value: a number in the type's width, two's complement where it is below 0.
+abbrev pub fieldOctets : ℕ → Value → List ℕ → List ℕ
+fieldOctets type (Number n) octets = octetsOf (widthOf type) n
+fieldOctets type (Negative n) octets = octetsOf (widthOf type) (256 ^ widthOf type - n)
+fieldOctets type Octets octets = octetsField type octets
+
+-- Appending is judged 16, 12.
+unfoldable pub appendAnswer : ℕ → Value → List ℕ → List ℕ → ℕ → ℕ
+appendAnswer type value octets out at =
+    judge
+    ((recordInvalid when not (valueFits type value octets))
+    ∷ (outputTooShort when ltb (length out) (at + length (fieldOctets type value octets)))
+    ∷ [])
+
+-- It answers the place after the field, or the refusal.
+unfoldable pub appendOf : ℕ → Value → List ℕ → List ℕ → ℕ → Appended
+appendOf type value octets out at =
+    let answer = appendAnswer type value octets out at in
+    cond (eqb answer 0) (Next (at + length (fieldOctets type value octets))) (Refused answer)
+
+-- The output afterwards: the field at its place and nothing else changed, or as it was.
+unfoldable pub appendOut : ℕ → Value → List ℕ → List ℕ → ℕ → List ℕ
+appendOut type value octets out at =
+    cond (eqb (appendAnswer type value octets out at) 0) (sets out at (fieldOctets type value octets)) out

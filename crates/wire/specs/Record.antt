@@ -1,0 +1,76 @@
+-- Fields and records: how long the field of a type is that begins at a place, and which octets are a valid record (01, "Template table").
+-- Assumes nothing.
+use Prim.Native.Nat.{ℕ, zero, suc, _+_, _-_}
+use mathlib.Core.Bool.{Bool, cond, not, _&&_, _||_}
+use mathlib.Core.List.{List, [], _∷_}
+use lib.Dec.{eqb, leb, ltb}
+use lib.ListN.{length, getD}
+use Rattle.octets.specs.Answers.{Check, _when_, judge, unsoundTable, templateNotFound, recordInvalid}
+use Rattle.octets.specs.Numbers.{uintAt}
+use Rattle.wire.specs.Each.{every, firstFrom}
+use Rattle.wire.specs.FieldTypes.{widthOf, booleanType, stringType, terminatedType, blobType}
+use Rattle.wire.specs.Table.{keyAt, keyType, isEnabled, tableSound, isMissing, templateOf}
+use Rattle.wire.specs.declared.table.Template.{Template}
+
+-- ---- the length of the field that begins at a place of a record, 0 where no valid field of its type does (a field has an octet at least)
+
+-- How many octets the record has from a place on.
+abbrev pub left : List ℕ → ℕ → ℕ
+left r at = length r - at
+
+-- A type of a fixed width: as many octets; a Boolean's octet is 0 or 1.
+unfoldable pub fixedLength : ℕ → List ℕ → ℕ → ℕ
+fixedLength type r at =
+    cond (ltb (left r at) (widthOf type)) 0
+    (cond (eqb type booleanType && ltb 1 (uintAt r at 1)) 0 (widthOf type))
+
+-- A blob: a 32-bit length, then as many octets.
+unfoldable pub blobLength : List ℕ → ℕ → ℕ
+blobLength r at =
+    cond (ltb (left r at) 4) 0
+    (cond (ltb (left r (at + 4)) (uintAt r at 4)) 0 (4 + uintAt r at 4))
+
+-- A string: the same, each octet below 128.
+unfoldable pub stringLength : List ℕ → ℕ → ℕ
+stringLength r at = cond (every (uintAt r at 4) (λ i. ltb (getD r (at + 4 + i) 0) 128)) (blobLength r at) 0
+
+-- A zero-terminated string: the octets to the first zero, zero included.
+unfoldable pub terminatedLength : List ℕ → ℕ → ℕ
+terminatedLength r at =
+    let zeroAt = firstFrom at (left r at) (λ p. eqb (getD r p 0) 0) in
+    cond (ltb zeroAt (length r)) (zeroAt + 1 - at) 0
+
+unfoldable pub fieldLength : ℕ → List ℕ → ℕ → ℕ
+fieldLength type r at =
+    cond (ltb 0 (widthOf type)) (fixedLength type r at)
+    (cond (eqb type stringType) (stringLength r at)
+    (cond (eqb type terminatedType) (terminatedLength r at)
+    (cond (eqb type blobType) (blobLength r at) 0)))
+
+-- ---- a record under a template
+
+-- The length of key k's field at a place of the record: 0 for a disabled key, which has no field.
+abbrev pub lengthUnder : List ℕ → Template → List ℕ → ℕ → ℕ → ℕ
+lengthUnder t m r k at = cond (isEnabled t (keyAt (m .keys) k)) (fieldLength (keyType t (keyAt (m .keys) k)) r at) 0
+
+-- Where key k's field begins: the fields of the enabled keys before it stand in front, in order and unpadded.
+unfoldable pub fieldAt : List ℕ → Template → List ℕ → ℕ → ℕ
+fieldAt t m r zero = 0
+fieldAt t m r (suc k) = fieldAt t m r k + lengthUnder t m r k (fieldAt t m r k)
+
+-- Key k is disabled, or a valid field of its type begins there.
+abbrev pub fieldValid : List ℕ → Template → List ℕ → ℕ → Bool
+fieldValid t m r k = not (isEnabled t (keyAt (m .keys) k)) || ltb 0 (lengthUnder t m r k (fieldAt t m r k))
+
+-- Every field is valid, and together they use up exactly the record's octets.
+unfoldable pub recordValid : List ℕ → Template → List ℕ → Bool
+recordValid t m r = every (m .count) (fieldValid t m r) && eqb (fieldAt t m r (m .count)) (length r)
+
+-- A record under the template with an ID is judged 21, 15, 16.
+unfoldable pub recordAnswer : List ℕ → ℕ → List ℕ → ℕ
+recordAnswer t id r =
+    judge
+    ((unsoundTable when not (tableSound t))
+    ∷ (templateNotFound when isMissing t id)
+    ∷ (recordInvalid when not (recordValid t (templateOf t id) r))
+    ∷ [])

@@ -1,0 +1,171 @@
+-- The template table: its layout, which octets are a sound one, and the template with an ID (01, "Template table"). Assumes nothing.
+use Prim.Native.Nat.{ℕ, zero, suc, _+_, _-_, _*_, _/_}
+use mathlib.Core.Bool.{Bool, cond, not, _&&_}
+use mathlib.Core.List.{List, [], _∷_}
+use lib.Dec.{eqb, leb}
+use lib.ListN.{length, getD}
+use Rattle.octets.specs.Answers.{Check, _when_, judge, unsoundTable, templateNotFound}
+use Rattle.octets.specs.Numbers.{uintAt}
+use Rattle.wire.specs.Each.{every, firstFrom, allOf}
+use Rattle.wire.specs.FieldTypes.{isType}
+use Rattle.wire.specs.declared.table.Template.{Template}
+use Rattle.wire.specs.declared.table.Found.{Found}
+use Rattle.wire.specs.declared.table.Found.the-variants.{At, Refused}
+
+-- ---- the key block at a place: 12 octets
+
+abbrev pub keyOctets : ℕ
+keyOctets = 12
+
+abbrev pub keyId : List ℕ → ℕ → ℕ
+keyId t at = uintAt t at 4
+
+abbrev pub keyType : List ℕ → ℕ → ℕ
+keyType t at = uintAt t (at + 4) 2
+
+abbrev pub keyReserved : List ℕ → ℕ → ℕ
+keyReserved t at = uintAt t (at + 6) 2
+
+abbrev pub keyAttributes : List ℕ → ℕ → ℕ
+keyAttributes t at = uintAt t (at + 8) 4
+
+-- Its type is listed, its reserved octets are 0, its attributes 0 or 1.
+unfoldable pub keySound : List ℕ → ℕ → Bool
+keySound t at = isType (keyType t at) && eqb (keyReserved t at) 0 && leb (keyAttributes t at) 1
+
+-- Attributes 0 enable it, 1 disables it.
+abbrev pub isEnabled : List ℕ → ℕ → Bool
+isEnabled t at = eqb (keyAttributes t at) 0
+
+-- ---- the template block at a place
+
+abbrev pub blockHeadOctets : ℕ
+blockHeadOctets = 12
+
+abbrev pub templateId : List ℕ → ℕ → ℕ
+templateId t at = uintAt t at 2
+
+abbrev pub keyCount : List ℕ → ℕ → ℕ
+keyCount t at = uintAt t (at + 2) 2
+
+abbrev pub blockFlags : List ℕ → ℕ → ℕ
+blockFlags t at = uintAt t (at + 4) 2
+
+abbrev pub descriptionLength : List ℕ → ℕ → ℕ
+descriptionLength t at = uintAt t (at + 6) 2
+
+abbrev pub blockLength : List ℕ → ℕ → ℕ
+blockLength t at = uintAt t (at + 8) 4
+
+-- A length brought up to a multiple of 4.
+abbrev pub padded : ℕ → ℕ
+padded n = (n + 3) / 4 * 4
+
+-- Where its description begins, and where its key blocks do.
+abbrev pub descriptionAt : ℕ → ℕ
+descriptionAt at = at + blockHeadOctets
+
+abbrev pub keysAt : List ℕ → ℕ → ℕ
+keysAt t at = descriptionAt at + padded (descriptionLength t at)
+
+-- Where key block k of the key blocks at a place begins.
+abbrev pub keyAt : ℕ → ℕ → ℕ
+keyAt keys k = keys + keyOctets * k
+
+-- Where the block ends: 12 octets, the padded description and 12 octets for each key.
+unfoldable pub blockEnd : List ℕ → ℕ → ℕ
+blockEnd t at = keyAt (keysAt t at) (keyCount t at)
+
+-- The octets that pad the description are 0.
+abbrev pub paddingSound : List ℕ → ℕ → Bool
+paddingSound t at =
+    every (padded (descriptionLength t at) - descriptionLength t at)
+    (λ i. eqb (getD t (descriptionAt at + descriptionLength t at + i) 0) 0)
+
+-- Each of n key blocks is sound, and no two have one ID.
+abbrev pub keysSound : List ℕ → ℕ → ℕ → Bool
+keysSound t keys n = every n (λ k. keySound t (keyAt keys k))
+
+abbrev pub keysDiffer : List ℕ → ℕ → ℕ → Bool
+keysDiffer t keys n = every n (λ k. every k (λ j. not (eqb (keyId t (keyAt keys j)) (keyId t (keyAt keys k)))))
+
+-- The block lies within the table, has 1 to 32 keys, flags 0, the block length that its parts make, zero padding and sound keys.
+unfoldable pub blockSound : List ℕ → ℕ → Bool
+blockSound t at =
+    allOf
+    (leb (blockEnd t at) (length t)
+    ∷ leb 1 (keyCount t at)
+    ∷ leb (keyCount t at) 32
+    ∷ eqb (blockFlags t at) 0
+    ∷ eqb (at + blockLength t at) (blockEnd t at)
+    ∷ paddingSound t at
+    ∷ keysSound t (keysAt t at) (keyCount t at)
+    ∷ keysDiffer t (keysAt t at) (keyCount t at)
+    ∷ [])
+
+-- ---- the table
+
+abbrev pub maxTableOctets : ℕ
+maxTableOctets = 16384
+
+abbrev pub configurationId : List ℕ → ℕ
+configurationId t = uintAt t 0 1
+
+abbrev pub tableFlags : List ℕ → ℕ
+tableFlags t = uintAt t 1 1
+
+abbrev pub templateCount : List ℕ → ℕ
+templateCount t = uintAt t 2 2
+
+-- Where block i begins: the first follows the table's head of 4 octets, each other the block before it.
+unfoldable pub blockAt : List ℕ → ℕ → ℕ
+blockAt t zero = 4
+blockAt t (suc i) = blockEnd t (blockAt t i)
+
+-- The ID of template i.
+abbrev pub idAt : List ℕ → ℕ → ℕ
+idAt t i = templateId t (blockAt t i)
+
+-- Each of the first n blocks is sound, and no two have one template ID.
+abbrev pub blocksSound : List ℕ → ℕ → Bool
+blocksSound t n = every n (λ i. blockSound t (blockAt t i))
+
+abbrev pub templatesDiffer : List ℕ → ℕ → Bool
+templatesDiffer t n = every n (λ i. every i (λ j. not (eqb (idAt t j) (idAt t i))))
+
+-- At most 16,384 octets, flags 1, 1 to 8 sound blocks with different IDs, and nothing after the last.
+unfoldable pub tableSound : List ℕ → Bool
+tableSound t =
+    allOf
+    (leb (length t) maxTableOctets
+    ∷ eqb (tableFlags t) 1
+    ∷ leb 1 (templateCount t)
+    ∷ leb (templateCount t) 8
+    ∷ blocksSound t (templateCount t)
+    ∷ templatesDiffer t (templateCount t)
+    ∷ eqb (blockAt t (templateCount t)) (length t)
+    ∷ [])
+
+-- ---- the template with an ID
+
+-- Its place among the templates, which is their count where there is none.
+unfoldable pub templateIndex : List ℕ → ℕ → ℕ
+templateIndex t id = firstFrom 0 (templateCount t) (λ i. eqb (idAt t i) id)
+
+abbrev pub isMissing : List ℕ → ℕ → Bool
+isMissing t id = leb (templateCount t) (templateIndex t id)
+
+-- Its key blocks: where they begin and how many they are.
+unfoldable pub templateAt : List ℕ → ℕ → Template
+templateAt t at = record { keys = keysAt t at; count = keyCount t at }
+
+abbrev pub templateOf : List ℕ → ℕ → Template
+templateOf t id = templateAt t (blockAt t (templateIndex t id))
+
+-- 15 for an ID that the table does not have.
+unfoldable pub locateOf : List ℕ → ℕ → Found
+locateOf t id = cond (isMissing t id) (Refused templateNotFound) (At (templateOf t id))
+
+-- Finding a template is judged 21, 15.
+unfoldable pub findOf : List ℕ → ℕ → Found
+findOf t id = cond (tableSound t) (locateOf t id) (Refused unsoundTable)

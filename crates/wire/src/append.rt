@@ -1,0 +1,5 @@
+// append
+pub enum Appended {
+    Next(usize),
+    Refused(u8),
+}

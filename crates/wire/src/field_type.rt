@@ -1,0 +1,4 @@
+// The field types.
+pub struct FieldType {
+    pub number: u16,
+}
