@@ -50,7 +50,7 @@ unfolding uintAt
 uint-join s at a b =
     number-join (λ i. getD s (at + i) 0) a b
     ∙ ap (λ (n : ℕ). numberOf (λ i. getD s (at + i) 0) a * 256 ^ b + n)
-        (number-same (λ i. getD s (at + (a + i)) 0) (λ i. getD s (at + a + i) 0) b (λ i l. ap (λ (n : ℕ). getD s n 0) (sym (add-assoc at a i))))
+    (number-same (λ i. getD s (at + (a + i)) 0) (λ i. getD s (at + a + i) 0) b (λ i l. ap (λ (n : ℕ). getD s n 0) (sym (add-assoc at a i))))
 
 -- one octet is its own number
 pub uint-one : (s : List ℕ) (at : ℕ) → uintAt s at 1 ≡ getD s at 0
@@ -61,6 +61,16 @@ uint-one s at = rw add-zero (omega arith)
 pub uint-more : (s : List ℕ) (at w : ℕ) → uintAt s at (w + 1) ≡ uintAt s at w * 256 + getD s (at + w) 0
 unfolding uintAt numberOf
 uint-more s at w = rw add-one refl
+
+-- octets that were read one by one, at the places from `at` on
+pub uint-two : (s : List ℕ) (at i j : ℕ) → i ≡ at → j ≡ at + 1 → uintAt (getD s i 0 ∷ getD s j 0 ∷ []) 0 2 ≡ uintAt s at 2
+unfolding uintAt numberOf
+uint-two s at i j p q = rw (p, q, add-zero at)
+
+pub uint-four : (s : List ℕ) (at i j k l : ℕ) → i ≡ at → j ≡ at + 1 → k ≡ at + 2 → l ≡ at + 3
+    → uintAt (getD s i 0 ∷ getD s j 0 ∷ getD s k 0 ∷ getD s l 0 ∷ []) 0 4 ≡ uintAt s at 4
+unfolding uintAt numberOf
+uint-four s at i j k l p q r t = rw (p, q, r, t, add-zero at)
 
 -- past the end the number is 0
 pub uint-past : (s : List ℕ) (at w : ℕ) → length s ≤ at → uintAt s at w ≡ 0
@@ -104,9 +114,9 @@ read-back (suc w) v h =
     let front = octetsOf w (v / 256) in
     let n : length front ≡ w = octets-length w (v / 256) in
     let last : getD (front ++ (v % 256 ∷ [])) (0 + w) 0 ≡ v % 256 =
-        ap (λ (k : ℕ). getD (front ++ (v % 256 ∷ [])) k 0) (zero-add w ∙ sym n ∙ sym (add-zero (length front))) ∙ getD-append-add front (v % 256 ∷ []) 0 0 in
+    ap (λ (k : ℕ). getD (front ++ (v % 256 ∷ [])) k 0) (zero-add w ∙ sym n ∙ sym (add-zero (length front))) ∙ getD-append-add front (v % 256 ∷ []) 0 0 in
     let first : uintAt (front ++ (v % 256 ∷ [])) 0 w ≡ v / 256 =
-        uint-front front (v % 256 ∷ []) 0 w (omega arith) ∙ read-back w (v / 256) (div-lt-iff-lt-mul (lit< tt) .1 (rw (pow-suc 256 w) at h)) in
+    uint-front front (v % 256 ∷ []) 0 w (omega arith) ∙ read-back w (v / 256) (div-lt-iff-lt-mul (lit< tt) .1 (rw (pow-suc 256 w) at h)) in
     omega (arith, last, first, div-add-mod' v 256)
 
 -- only what v is modulo 256 to the w counts

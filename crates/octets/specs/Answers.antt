@@ -78,7 +78,7 @@ infix 20 _when_
 pub data Check : Type 0 where
   _when_ : ℕ → Bool → Check
 
--- The line "Order, first that applies": the number of the first check in the list whose test holds, or `done`.
+-- The number of the first check whose test holds, or `done` where none does.
 abbrev pub judge : List Check → ℕ
 judge [] = done
 judge ((number when test) ∷ checks) = cond test number (judge checks)

@@ -16,7 +16,7 @@ numberOf d (suc w) = numberOf d w * 256 + d w
 unfoldable pub uintAt : List ℕ → ℕ → ℕ → ℕ
 uintAt s at w = numberOf (λ i. getD s (at + i) 0) w
 
--- The w octets of v, most significant first; v is taken modulo 256 to the w. Least significant first they stand in reverse.
+-- The w octets of v, most significant first; v is taken modulo 256 to the w.
 unfoldable pub octetsOf : ℕ → ℕ → List ℕ
 octetsOf zero v = []
 octetsOf (suc w) v = octetsOf w (v / 256) ++ (v % 256 ∷ [])
@@ -25,6 +25,6 @@ octetsOf (suc w) v = octetsOf w (v / 256) ++ (v % 256 ∷ [])
 unfoldable pub putAt : List ℕ → ℕ → List ℕ → List ℕ
 putAt out at octets = cond (leb (at + length octets) (length out)) (sets out at octets) out
 
--- What the type of a slice of octets says of its list.
+-- Every element is below 256, as in any slice of octets.
 abbrev pub Octets : List ℕ → Type 0
 Octets s = (i : ℕ) → getD s i 0 < 256

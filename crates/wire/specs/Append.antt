@@ -1,12 +1,13 @@
--- Appending one field of a named type to lent output at a place (01, "Template table", its last sentence). Assumes nothing.
+-- Writing a single field into the caller's octets (01, "Template table"). Assumes nothing.
 use Prim.Native.Nat.{ℕ, _+_, _-_, _*_, _^_}
-use mathlib.Core.Bool.{Bool, true, false, cond, not, _&&_}
+use mathlib.Core.Path.{_≡_}
+use mathlib.Core.Bool.{Bool, cond, not, _&&_}
 use mathlib.Core.List.{List, [], _∷_, _++_}
 use lib.Dec.{eqb, leb, ltb}
 use lib.ListN.{length, getD}
 use lib.Seq.{sets}
-use Rattle.octets.specs.Answers.{Check, _when_, judge, recordInvalid, outputTooShort}
-use Rattle.octets.specs.Numbers.{octetsOf}
+use Rattle.octets.specs.Answers.{done, _when_, judge, recordInvalid, outputTooShort}
+use Rattle.octets.specs.Numbers.{octetsOf, putAt}
 use Rattle.wire.specs.Each.{every}
 use Rattle.wire.specs.FieldTypes.{widthOf, isNumber, isSigned, booleanType, stringType, terminatedType, blobType}
 use Rattle.wire.specs.declared.walk.Value.{Value}
@@ -14,14 +15,15 @@ use Rattle.wire.specs.declared.walk.Value.the-variants.{Octets, Number, 
 use Rattle.wire.specs.declared.append.Appended.{Appended}
 use Rattle.wire.specs.declared.append.Appended.the-variants.{Next, Refused}
 
--- A number is of a type: a Boolean is 0 or 1; unsigned types hold 0 to 256 to the w less 1, signed ones the lower half of that.
+-- A number is of a type: a Boolean is 0 or 1; unsigned types of w octets hold the numbers below 256 to the w, signed ones those below
+-- half of it, and no other type holds a number.
 unfoldable pub numberFits : ℕ → ℕ → Bool
 numberFits type n =
     cond (eqb type booleanType) (leb n 1)
     (cond (isSigned type) (ltb (2 * n) (256 ^ widthOf type))
     (isNumber type && ltb n (256 ^ widthOf type)))
 
--- A number below 0, given by its size, is of a signed type.
+-- Minus n is of a signed type of w octets: n is 1 to half of 256 to the w.
 unfoldable pub negativeFits : ℕ → ℕ → Bool
 negativeFits type n = isSigned type && (leb 1 n && leb (2 * n) (256 ^ widthOf type))
 
@@ -40,7 +42,8 @@ valueFits type (Number n) octets = numberFits type n
 valueFits type (Negative n) octets = negativeFits type n
 valueFits type Octets octets = octetsFit type octets
 
--- The octets of the field that holds octets: behind their length, in front of a zero, or alone.
+-- The field that holds octets: a zero-terminated string in front of its zero, an address alone, a string or blob behind its 32-bit
+-- length; asked only of octets that fit.
 unfoldable pub octetsField : ℕ → List ℕ → List ℕ
 octetsField type octets =
     cond (eqb type terminatedType) (octets ++ (0 ∷ []))
@@ -51,6 +54,10 @@ abbrev pub fieldOctets : ℕ → Value → List ℕ → List ℕ
 fieldOctets type (Number n) octets = octetsOf (widthOf type) n
 fieldOctets type (Negative n) octets = octetsOf (widthOf type) (256 ^ widthOf type - n)
 fieldOctets type Octets octets = octetsField type octets
+
+-- How many octets stand in front of a value's octets in its field: the 32-bit length of a string or blob.
+unfoldable pub prefixOctets : ℕ → ℕ
+prefixOctets type = cond (eqb type stringType) 4 (cond (eqb type blobType) 4 0)
 
 -- Appending is judged 16, 12.
 unfoldable pub appendAnswer : ℕ → Value → List ℕ → List ℕ → ℕ → ℕ
@@ -64,9 +71,24 @@ appendAnswer type value octets out at =
 unfoldable pub appendOf : ℕ → Value → List ℕ → List ℕ → ℕ → Appended
 appendOf type value octets out at =
     let answer = appendAnswer type value octets out at in
-    cond (eqb answer 0) (Next (at + length (fieldOctets type value octets))) (Refused answer)
+    cond (eqb answer done) (Next (at + length (fieldOctets type value octets))) (Refused answer)
 
 -- The output afterwards: the field at its place and nothing else changed, or as it was.
 unfoldable pub appendOut : ℕ → Value → List ℕ → List ℕ → ℕ → List ℕ
 appendOut type value octets out at =
-    cond (eqb (appendAnswer type value octets out at) 0) (sets out at (fieldOctets type value octets)) out
+    cond (eqb (appendAnswer type value octets out at) done) (sets out at (fieldOctets type value octets)) out
+
+-- The answer number of appending.
+abbrev pub appendedAnswer : Appended → ℕ
+appendedAnswer (Next place) = done
+appendedAnswer (Refused a) = a
+
+-- ---- a field stored where it fits
+
+-- 12 where a field does not fit at its place, and otherwise the place after it.
+unfoldable pub storedOf : List ℕ → List ℕ → ℕ → Appended
+storedOf field out at = cond (leb (at + length field) (length out)) (Next (at + length field)) (Refused outputTooShort)
+
+-- What storing a field at a place answers, and the output afterwards.
+abbrev pub Stored : List ℕ → List ℕ → ℕ → Appended → List ℕ → Type 0
+Stored field out at answer after = (answer ≡ storedOf field out at) × (after ≡ putAt out at field)

@@ -1,4 +1,4 @@
--- The field types (01, "Template table", the paragraph on field types): one row each. Assumes nothing.
+-- The field types, one row each (01, "Template table"). Assumes nothing.
 use Prim.Native.Nat.{ℕ}
 use mathlib.Core.Bool.{Bool, true, false, cond}
 use mathlib.Core.List.{List, [], _∷_}
@@ -30,10 +30,10 @@ terminatedType = 0x400d
 abbrev pub blobType : ℕ
 blobType = 0x4015
 
--- The types whose fields have a fixed width: Boolean; the integers, even numbers unsigned and odd ones signed; float and double;
--- the two addresses; the five times.
-abbrev pub fixedRows : List Row
-fixedRows =
+-- Boolean; the integers, even numbers unsigned and odd ones signed; float and double; the two addresses; the five times;
+-- string, zero-terminated string and blob.
+abbrev pub rows : List Row
+rows =
     row booleanType 1 unsigned
     ∷ row 0x02 1 unsigned ∷ row 0x03 1 signed
     ∷ row 0x04 2 unsigned ∷ row 0x05 2 signed
@@ -42,23 +42,21 @@ fixedRows =
     ∷ row 0x0a 4 unsigned ∷ row 0x0b 8 unsigned
     ∷ row 0x10 4 octets ∷ row 0x11 16 octets
     ∷ row 0x12 4 unsigned ∷ row 0x13 8 unsigned ∷ row 0x14 8 unsigned ∷ row 0x15 4 unsigned ∷ row 0x16 4 unsigned
+    ∷ row stringType 0 octets ∷ row terminatedType 0 octets ∷ row blobType 0 octets
     ∷ []
 
--- What f gives of the row with a number, or `other` where no row of a fixed width has it.
+-- What f gives of the row with a number, or `other` where no row has it.
 abbrev pub ofRow : {A : Type 0} → (Row → A) → A → List Row → ℕ → A
 ofRow f other [] n = other
-ofRow f other (r ∷ rows) n = cond (eqb n (r .number)) (f r) (ofRow f other rows n)
+ofRow f other (r ∷ rs) n = cond (eqb n (r .number)) (f r) (ofRow f other rs n)
 
 -- The width of a type's fields, 0 where it varies and for a number that is no type's.
 unfoldable pub widthOf : ℕ → ℕ
-widthOf n = ofRow (λ r. r .width) 0 fixedRows n
+widthOf n = ofRow (λ r. r .width) 0 rows n
 
-abbrev pub isVariable : ℕ → Bool
-isVariable n = cond (eqb n stringType) true (cond (eqb n terminatedType) true (eqb n blobType))
-
--- The number is a type's: one of a fixed width, or one of the three whose width varies.
+-- The number is a type's.
 unfoldable pub isType : ℕ → Bool
-isType n = ofRow (λ r. true) (isVariable n) fixedRows n
+isType n = ofRow (λ r. true) false rows n
 
 abbrev pub isSignedClass : Class → Bool
 isSignedClass unsigned = false
@@ -70,9 +68,10 @@ isNumberClass unsigned = true
 isNumberClass signed = true
 isNumberClass octets = false
 
--- A type of signed numbers, and a type of numbers.
+-- The type's fields are signed numbers.
 unfoldable pub isSigned : ℕ → Bool
-isSigned n = ofRow (λ r. isSignedClass (r .class)) false fixedRows n
+isSigned n = ofRow (λ r. isSignedClass (r .class)) false rows n
 
+-- The type's fields are numbers.
 unfoldable pub isNumber : ℕ → Bool
-isNumber n = ofRow (λ r. isNumberClass (r .class)) false fixedRows n
+isNumber n = ofRow (λ r. isNumberClass (r .class)) false rows n

@@ -1,12 +1,13 @@
 -- Messages: their layouts, reading and writing alone (01, "Messages" and "Answer numbers"). Assumes nothing.
-use Prim.Native.Nat.{ℕ, _+_, _-_, _*_, _%_, _/_}
+use mathlib.Core.Path.{_≡_}
+use Prim.Native.Nat.{ℕ, _+_, _-_, _%_, _/_, _^_, _<_, _≤_}
 use mathlib.Core.Bool.{Bool, true, false, cond, not, _&&_, _||_}
 use mathlib.Core.List.{List, [], _∷_, _++_}
 use lib.Dec.{eqb, leb, ltb}
 use lib.ListN.{length, drop}
 use lib.Seq.{sets}
-use Rattle.octets.specs.Answers.{Check, _when_, judge, shortMessage, otherVersion, lengthDiffers, messageNotAccepted, bodyLengthWrong, outputTooShort, recordTooLong, unsoundTable}
-use Rattle.octets.specs.Numbers.{uintAt, octetsOf}
+use Rattle.octets.specs.Answers.{Check, _when_, judge, done, shortMessage, otherVersion, lengthDiffers, messageNotAccepted, bodyLengthWrong, outputTooShort, recordTooLong, unsoundTable}
+use Rattle.octets.specs.Numbers.{uintAt, octetsOf, putAt}
 use Rattle.wire.specs.Table.{tableSound}
 use Rattle.wire.specs.declared.message.DataHead.{DataHead}
 use Rattle.wire.specs.declared.message.Message.{Message}
@@ -24,14 +25,15 @@ use Rattle.wire.specs.declared.message.Written.the-variants as written
 abbrev pub headerOctets : ℕ
 headerOctets = 8
 
-abbrev pub crane : ℕ
-crane = 1
+-- The version that every header names.
+abbrev pub protocolVersion : ℕ
+protocolVersion = 1
 
 abbrev pub versionOf : List ℕ → ℕ
 versionOf m = uintAt m 0 1
 
-abbrev pub numberOf : List ℕ → ℕ
-numberOf m = uintAt m 1 1
+abbrev pub messageNumber : List ℕ → ℕ
+messageNumber m = uintAt m 1 1
 
 abbrev pub sessionOf : List ℕ → ℕ
 sessionOf m = uintAt m 2 1
@@ -92,18 +94,23 @@ abbrev pub ofForm : (Form → Bool) → List Form → ℕ → Bool
 ofForm f [] n = false
 ofForm f (r ∷ rows) n = cond (eqb n (r .number)) (f r) (ofForm f rows n)
 
+-- The number is a message's.
 unfoldable pub isMessage : ℕ → Bool
 isMessage n = ofForm (λ f. true) forms n
 
--- A body of a message has the right length: a table of any length is judged by its soundness alone.
+-- A body has exactly the row's octets, or at least as many where more may follow.
 unfoldable pub bodyFits : ℕ → ℕ → Bool
 bodyFits n body = ofForm (λ f. cond (f .more) (leb (f .body) body) (eqb body (f .body))) forms n
 
 -- ---- layouts
 
--- Version, message number, session, message flags 0, the length of the whole message; then the body.
+-- Version, message number, session, message flags 0, the length of the whole message.
+abbrev pub headerOctetsOf : ℕ → ℕ → ℕ → List ℕ
+headerOctetsOf number session len = protocolVersion ∷ number ∷ session ∷ 0 ∷ octetsOf 4 len
+
+-- The header, then the body.
 unfoldable pub messageOf : ℕ → ℕ → List ℕ → List ℕ
-messageOf number session body = (crane ∷ number ∷ session ∷ 0 ∷ octetsOf 4 (headerOctets + length body)) ++ body
+messageOf number session body = headerOctetsOf number session (headerOctets + length body) ++ body
 
 -- DATA's flags: S is 1, D is 2, the other bits 0.
 abbrev pub flagsOf : Bool → Bool → ℕ
@@ -112,6 +119,10 @@ flagsOf s d = cond s 1 0 + cond d 2 0
 -- DATA's body in front of the record: template ID, Configuration ID, flags, DSN.
 abbrev pub dataFront : DataHead → List ℕ
 dataFront h = octetsOf 2 (h .template) ++ (h .config ∷ flagsOf (h .first) (h .duplicate) ∷ octetsOf 4 (h .dsn))
+
+-- The octets of a DATA message in front of its record, which has n octets.
+abbrev pub dataHeadOctets : DataHead → ℕ → List ℕ
+dataHeadOctets h n = headerOctetsOf dataNumber (h .session) (16 + n) ++ dataFront h
 
 -- The octets of the message that says m; `part` is the record of a DATA and the table of a TMPL DATA, and no other message has one.
 unfoldable pub layoutOf : Message → List ℕ → List ℕ
@@ -132,39 +143,41 @@ layoutOf (DataAck s dsn config) part = messageOf dataAck s (octetsOf 4 dsn ++ (c
 abbrev pub headerChecks : List ℕ → List Check
 headerChecks m =
     (shortMessage when ltb (length m) headerOctets)
-    ∷ (otherVersion when not (eqb (versionOf m) crane))
+    ∷ (otherVersion when not (eqb (versionOf m) protocolVersion))
     ∷ (lengthDiffers when not (eqb (lengthField m) (length m)))
     ∷ []
 
+-- The answer number of reading a header alone.
 unfoldable pub headerAnswer : List ℕ → ℕ
 headerAnswer m = judge (headerChecks m)
 
 -- Reading a header alone: its session and message number, or the refusal.
 unfoldable pub headerOf : List ℕ → HeaderReading
 headerOf m =
-    cond (eqb (headerAnswer m) 0)
-    (header.Header (record { session = sessionOf m; number = numberOf m }))
+    cond (eqb (headerAnswer m) done)
+    (header.Header (record { session = sessionOf m; number = messageNumber m }))
     (header.Refused (headerAnswer m))
 
--- A message is judged 3, 4, 5, 7, 8, then 21 for the table of a TMPL DATA.
-unfoldable pub readAnswer : List ℕ → ℕ
-readAnswer m =
-    judge
-    ((shortMessage when ltb (length m) headerOctets)
-    ∷ (otherVersion when not (eqb (versionOf m) crane))
-    ∷ (lengthDiffers when not (eqb (lengthField m) (length m)))
-    ∷ (messageNotAccepted when not (isMessage (numberOf m)))
-    ∷ (bodyLengthWrong when not (bodyFits (numberOf m) (length m - headerOctets)))
-    ∷ (unsoundTable when (eqb (numberOf m) tmplData && not (tableSound (drop headerOctets m))))
-    ∷ [])
+-- Its body is judged 7, 8, then 21 for the table of a TMPL DATA.
+abbrev pub bodyChecks : List ℕ → List Check
+bodyChecks m =
+    (messageNotAccepted when not (isMessage (messageNumber m)))
+    ∷ (bodyLengthWrong when not (bodyFits (messageNumber m) (length m - headerOctets)))
+    ∷ (unsoundTable when (eqb (messageNumber m) tmplData && not (tableSound (drop headerOctets m))))
+    ∷ []
 
--- Of DATA's flags only S and D count.
+-- The answer number of reading a message alone: its header is judged first, then its body.
+unfoldable pub readAnswer : List ℕ → ℕ
+readAnswer m = judge (headerChecks m ++ bodyChecks m)
+
+-- Of DATA's flags S is the lowest bit, D the next; the others are not looked at.
 abbrev pub flagFirst : ℕ → Bool
 flagFirst flags = eqb (flags % 2) 1
 
 abbrev pub flagDuplicate : ℕ → Bool
 flagDuplicate flags = eqb (flags / 2 % 2) 1
 
+-- Template ID at octet 8, Configuration ID at 10, flags at 11, DSN at 12.
 unfoldable pub dataHeadOf : List ℕ → DataHead
 dataHeadOf m =
     record {
@@ -173,13 +186,13 @@ dataHeadOf m =
       config = uintAt m 10 1;
       first = flagFirst (uintAt m 11 1);
       duplicate = flagDuplicate (uintAt m 11 1);
-      dsn = uintAt m 12 4
+      dsn = uintAt m 12 4;
     }
 
--- What a message says, by its number; asked only of one that is not refused.
+-- What a message says, by its number; asked only of one that is not refused, so the last case is DATA ACK.
 unfoldable pub meaningOf : List ℕ → Message
 meaningOf m =
-    let n = numberOf m in
+    let n = messageNumber m in
     let s = sessionOf m in
     cond (eqb n start) (Start s)
     (cond (eqb n startAck) (StartAck s (uintAt m 8 4))
@@ -194,16 +207,17 @@ meaningOf m =
 
 -- Reading alone answers the meaning or the refusal.
 unfoldable pub readOf : List ℕ → Reading
-readOf m = cond (eqb (readAnswer m) 0) (reading.Message (meaningOf m)) (reading.Refused (readAnswer m))
+readOf m = cond (eqb (readAnswer m) done) (reading.Message (meaningOf m)) (reading.Refused (readAnswer m))
 
--- The part that is handed back: the record of a DATA from octet 16 on, the table of a TMPL DATA from octet 8 on; of any other
--- message, and of a refused one, the empty part at its start.
+-- The message is not refused, and is a DATA or a TMPL DATA: only then a part is handed back.
 abbrev pub hasPart : List ℕ → Bool
-hasPart m = eqb (readAnswer m) 0 && (eqb (numberOf m) dataNumber || eqb (numberOf m) tmplData)
+hasPart m = eqb (readAnswer m) done && (eqb (messageNumber m) dataNumber || eqb (messageNumber m) tmplData)
 
+-- Where the part begins: a DATA's record at octet 16, a TMPL DATA's table at octet 8, no octets at octet 0.
 unfoldable pub partAt : List ℕ → ℕ
-partAt m = cond (hasPart m) (cond (eqb (numberOf m) dataNumber) 16 8) 0
+partAt m = cond (hasPart m) (cond (eqb (messageNumber m) dataNumber) 16 8) 0
 
+-- The octets of the part, to the message's end.
 unfoldable pub partOf : List ℕ → List ℕ
 partOf m = cond (hasPart m) (drop (partAt m) m) []
 
@@ -212,6 +226,7 @@ partOf m = cond (hasPart m) (drop (partAt m) m) []
 abbrev pub maxRecordOctets : ℕ
 maxRecordOctets = 1024
 
+-- The message has a table as its part.
 abbrev pub isTmplData : Message → Bool
 isTmplData (Start s) = false
 isTmplData (StartAck s boot) = false
@@ -224,6 +239,7 @@ isTmplData (StartNegotiateAck s) = false
 isTmplData (Data h) = false
 isTmplData (DataAck s dsn config) = false
 
+-- The message has a record as its part.
 abbrev pub isData : Message → Bool
 isData (Start s) = false
 isData (StartAck s boot) = false
@@ -236,22 +252,94 @@ isData (StartNegotiateAck s) = false
 isData (Data h) = true
 isData (DataAck s dsn config) = false
 
--- Writing is judged 21, 17, 12.
-unfoldable pub writeAnswer : Message → List ℕ → List ℕ → ℕ
-writeAnswer m part out =
-    judge
-    ((unsoundTable when (isTmplData m && not (tableSound part)))
+-- Writing into an output of `room` octets is judged 21, 17, 12.
+abbrev pub writeChecks : Message → List ℕ → ℕ → List Check
+writeChecks m part room =
+    (unsoundTable when (isTmplData m && not (tableSound part)))
     ∷ (recordTooLong when (isData m && ltb maxRecordOctets (length part)))
-    ∷ (outputTooShort when ltb (length out) (length (layoutOf m part)))
-    ∷ [])
+    ∷ (outputTooShort when ltb room (length (layoutOf m part)))
+    ∷ []
+
+-- The answer number of writing a message alone.
+unfoldable pub writeAnswer : Message → List ℕ → ℕ → ℕ
+writeAnswer m part room = judge (writeChecks m part room)
 
 -- It answers the number of octets written, or the refusal.
 unfoldable pub writeOf : Message → List ℕ → List ℕ → Written
 writeOf m part out =
-    cond (eqb (writeAnswer m part out) 0)
+    cond (eqb (writeAnswer m part (length out)) done)
     (written.Octets (length (layoutOf m part)))
-    (written.Refused (writeAnswer m part out))
+    (written.Refused (writeAnswer m part (length out)))
 
 -- The output afterwards: the message from its first octet on and no octet after it changed, or as it was.
 unfoldable pub writeOut : Message → List ℕ → List ℕ → List ℕ
-writeOut m part out = cond (eqb (writeAnswer m part out) 0) (sets out 0 (layoutOf m part)) out
+writeOut m part out = cond (eqb (writeAnswer m part (length out)) done) (sets out 0 (layoutOf m part)) out
+
+-- A DATA's octets in front of a record of n octets that the caller writes behind them: judged 17, 12 as the whole message is.
+unfoldable pub headWriteAnswer : ℕ → ℕ → ℕ
+headWriteAnswer n room = judge ((recordTooLong when ltb maxRecordOctets n) ∷ (outputTooShort when ltb room (16 + n)) ∷ [])
+
+-- It answers the whole message's octets, or the refusal.
+unfoldable pub headWriteOf : ℕ → ℕ → Written
+headWriteOf n room =
+    cond (eqb (headWriteAnswer n room) done) (written.Octets (16 + n)) (written.Refused (headWriteAnswer n room))
+
+-- The output afterwards: the 16 octets from its first one on, or as it was.
+unfoldable pub headWriteOut : DataHead → ℕ → List ℕ → List ℕ
+headWriteOut h n out = cond (eqb (headWriteAnswer n (length out)) done) (sets out 0 (dataHeadOctets h n)) out
+
+-- Octets written to an output from its first octet on, where no rule but the room's refuses them: what is answered, and the output
+-- afterwards.
+pub record Placed (octets out : List ℕ) (answer : Written) (after : List ℕ) : Type 0 where
+  pub answered : answer ≡ cond (ltb (length out) (length octets)) (written.Refused outputTooShort) (written.Octets (length octets))
+  pub left : after ≡ putAt out 0 octets
+
+-- ---- what is written, and what can be written
+
+-- The part that the message hands back when it is read: a TMPL DATA's table, a DATA's record, and else no octets.
+abbrev pub carried : Message → List ℕ → List ℕ
+carried m part = cond (isData m || isTmplData m) part []
+
+-- The octet at which it begins.
+abbrev pub carriedAt : Message → ℕ
+carriedAt m = cond (isData m) 16 (cond (isTmplData m) 8 0)
+
+-- The message's numbers fit their places.
+abbrev pub InRange : Message → Type 0
+InRange (Start s) = s < 256
+InRange (StartAck s boot) = (s < 256) × (boot < 2 ^ 32)
+InRange (Stop s) = s < 256
+InRange (StopAck s) = s < 256
+InRange (TmplData s) = s < 256
+InRange (FinalTmplDataAck s config) = (s < 256) × (config < 256)
+InRange (StartNegotiate s) = s < 256
+InRange (StartNegotiateAck s) = s < 256
+InRange (Data h) = (h .session < 256) × ((h .template < 2 ^ 16) × ((h .config < 256) × (h .dsn < 2 ^ 32)))
+InRange (DataAck s dsn config) = (s < 256) × ((dsn < 2 ^ 32) × (config < 256))
+
+-- The message can be written with its part: its numbers are in range, a table is sound, a record has at most 1,024 octets.
+pub record Writable (m : Message) (part : List ℕ) : Type 0 where
+  pub ranges : InRange m
+  pub table : isTmplData m ≡ true → tableSound part ≡ true
+  pub short : isData m ≡ true → length part ≤ maxRecordOctets
+
+-- The message's flags and reserved octets are 0, and of DATA's flags all but S and D: so the message is as it would be written.
+pub record Plain (m : List ℕ) : Type 0 where
+  pub flags : uintAt m 3 1 ≡ 0
+  pub marks : messageNumber m ≡ dataNumber → uintAt m 11 1 < 4
+  pub reserved : messageNumber m ≡ finalTmplDataAck → uintAt m 9 3 ≡ 0
+  pub unused : messageNumber m ≡ dataAck → uintAt m 13 3 ≡ 0
+
+-- ---- the answer numbers of the answers that are enums
+
+abbrev pub headerReadingAnswer : HeaderReading → ℕ
+headerReadingAnswer (header.Header h) = done
+headerReadingAnswer (header.Refused a) = a
+
+abbrev pub readingAnswer : Reading → ℕ
+readingAnswer (reading.Message m) = done
+readingAnswer (reading.Refused a) = a
+
+abbrev pub writtenAnswer : Written → ℕ
+writtenAnswer (written.Octets n) = done
+writtenAnswer (written.Refused a) = a

@@ -3,9 +3,9 @@
 use Prim.Native.Nat.{ℕ, zero, suc, _+_, _-_}
 use mathlib.Core.Bool.{Bool, cond, not, _&&_, _||_}
 use mathlib.Core.List.{List, [], _∷_}
-use lib.Dec.{eqb, leb, ltb}
+use lib.Dec.{eqb, ltb}
 use lib.ListN.{length, getD}
-use Rattle.octets.specs.Answers.{Check, _when_, judge, unsoundTable, templateNotFound, recordInvalid}
+use Rattle.octets.specs.Answers.{_when_, judge, unsoundTable, templateNotFound, recordInvalid}
 use Rattle.octets.specs.Numbers.{uintAt}
 use Rattle.wire.specs.Each.{every, firstFrom}
 use Rattle.wire.specs.FieldTypes.{widthOf, booleanType, stringType, terminatedType, blobType}
@@ -18,7 +18,7 @@ use Rattle.wire.specs.declared.table.Template.{Template}
 abbrev pub left : List ℕ → ℕ → ℕ
 left r at = length r - at
 
--- A type of a fixed width: as many octets; a Boolean's octet is 0 or 1.
+-- A field of a fixed width: the type's width, where so many octets are left; a Boolean's octet is 0 or 1.
 unfoldable pub fixedLength : ℕ → List ℕ → ℕ → ℕ
 fixedLength type r at =
     cond (ltb (left r at) (widthOf type)) 0
@@ -30,16 +30,17 @@ blobLength r at =
     cond (ltb (left r at) 4) 0
     (cond (ltb (left r (at + 4)) (uintAt r at 4)) 0 (4 + uintAt r at 4))
 
--- A string: the same, each octet below 128.
+-- A string: a blob whose octets after its length are below 128.
 unfoldable pub stringLength : List ℕ → ℕ → ℕ
-stringLength r at = cond (every (uintAt r at 4) (λ i. ltb (getD r (at + 4 + i) 0) 128)) (blobLength r at) 0
+stringLength r at = cond (every (blobLength r at - 4) (λ i. ltb (getD r (at + 4 + i) 0) 128)) (blobLength r at) 0
 
--- A zero-terminated string: the octets to the first zero, zero included.
+-- A zero-terminated string ends with the first zero from its place on, and that zero counts.
 unfoldable pub terminatedLength : List ℕ → ℕ → ℕ
 terminatedLength r at =
     let zeroAt = firstFrom at (left r at) (λ p. eqb (getD r p 0) 0) in
     cond (ltb zeroAt (length r)) (zeroAt + 1 - at) 0
 
+-- The field of a type.
 unfoldable pub fieldLength : ℕ → List ℕ → ℕ → ℕ
 fieldLength type r at =
     cond (ltb 0 (widthOf type)) (fixedLength type r at)
@@ -62,7 +63,7 @@ fieldAt t m r (suc k) = fieldAt t m r k + lengthUnder t m r k (fieldAt t m r k)
 abbrev pub fieldValid : List ℕ → Template → List ℕ → ℕ → Bool
 fieldValid t m r k = not (isEnabled t (keyAt (m .keys) k)) || ltb 0 (lengthUnder t m r k (fieldAt t m r k))
 
--- Every field is valid, and together they use up exactly the record's octets.
+-- Every field is valid, and the last one ends where the record ends.
 unfoldable pub recordValid : List ℕ → Template → List ℕ → Bool
 recordValid t m r = every (m .count) (fieldValid t m r) && eqb (fieldAt t m r (m .count)) (length r)
 

@@ -4,7 +4,7 @@ use mathlib.Core.Bool.{Bool, cond, not, _&&_}
 use mathlib.Core.List.{List, [], _∷_}
 use lib.Dec.{eqb, leb}
 use lib.ListN.{length, getD}
-use Rattle.octets.specs.Answers.{Check, _when_, judge, unsoundTable, templateNotFound}
+use Rattle.octets.specs.Answers.{done, unsoundTable, templateNotFound}
 use Rattle.octets.specs.Numbers.{uintAt}
 use Rattle.wire.specs.Each.{every, firstFrom, allOf}
 use Rattle.wire.specs.FieldTypes.{isType}
@@ -72,32 +72,42 @@ keysAt t at = descriptionAt at + padded (descriptionLength t at)
 abbrev pub keyAt : ℕ → ℕ → ℕ
 keyAt keys k = keys + keyOctets * k
 
--- Where the block ends: 12 octets, the padded description and 12 octets for each key.
+-- How many octets its parts have: its head, the padded description and 12 for each key.
+abbrev pub blockOctets : List ℕ → ℕ → ℕ
+blockOctets t at = blockHeadOctets + padded (descriptionLength t at) + keyOctets * keyCount t at
+
+-- Where it ends.
 unfoldable pub blockEnd : List ℕ → ℕ → ℕ
-blockEnd t at = keyAt (keysAt t at) (keyCount t at)
+blockEnd t at = at + blockOctets t at
+
+-- Its head is sound: the block lies within the table, has 1 to 32 keys, flags 0, and the length of its parts as its block length.
+unfoldable pub headSound : List ℕ → ℕ → Bool
+headSound t at =
+    leb (blockEnd t at) (length t)
+    && leb 1 (keyCount t at)
+    && leb (keyCount t at) 32
+    && eqb (blockFlags t at) 0
+    && eqb (blockLength t at) (blockOctets t at)
 
 -- The octets that pad the description are 0.
-abbrev pub paddingSound : List ℕ → ℕ → Bool
+unfoldable pub paddingSound : List ℕ → ℕ → Bool
 paddingSound t at =
     every (padded (descriptionLength t at) - descriptionLength t at)
     (λ i. eqb (getD t (descriptionAt at + descriptionLength t at + i) 0) 0)
 
--- Each of n key blocks is sound, and no two have one ID.
+-- Each of n key blocks is sound.
 abbrev pub keysSound : List ℕ → ℕ → ℕ → Bool
 keysSound t keys n = every n (λ k. keySound t (keyAt keys k))
 
+-- No two of n key blocks have one ID.
 abbrev pub keysDiffer : List ℕ → ℕ → ℕ → Bool
 keysDiffer t keys n = every n (λ k. every k (λ j. not (eqb (keyId t (keyAt keys j)) (keyId t (keyAt keys k)))))
 
--- The block lies within the table, has 1 to 32 keys, flags 0, the block length that its parts make, zero padding and sound keys.
+-- The block has a sound head, zero padding, and sound keys with different IDs.
 unfoldable pub blockSound : List ℕ → ℕ → Bool
 blockSound t at =
     allOf
-    (leb (blockEnd t at) (length t)
-    ∷ leb 1 (keyCount t at)
-    ∷ leb (keyCount t at) 32
-    ∷ eqb (blockFlags t at) 0
-    ∷ eqb (at + blockLength t at) (blockEnd t at)
+    (headSound t at
     ∷ paddingSound t at
     ∷ keysSound t (keysAt t at) (keyCount t at)
     ∷ keysDiffer t (keysAt t at) (keyCount t at)
@@ -126,10 +136,11 @@ blockAt t (suc i) = blockEnd t (blockAt t i)
 abbrev pub idAt : List ℕ → ℕ → ℕ
 idAt t i = templateId t (blockAt t i)
 
--- Each of the first n blocks is sound, and no two have one template ID.
+-- Each of the first n blocks is sound.
 abbrev pub blocksSound : List ℕ → ℕ → Bool
 blocksSound t n = every n (λ i. blockSound t (blockAt t i))
 
+-- No two of the first n blocks have one template ID.
 abbrev pub templatesDiffer : List ℕ → ℕ → Bool
 templatesDiffer t n = every n (λ i. every i (λ j. not (eqb (idAt t j) (idAt t i))))
 
@@ -148,17 +159,19 @@ tableSound t =
 
 -- ---- the template with an ID
 
--- Its place among the templates, which is their count where there is none.
+-- Its index among the templates; their count where none has the ID.
 unfoldable pub templateIndex : List ℕ → ℕ → ℕ
 templateIndex t id = firstFrom 0 (templateCount t) (λ i. eqb (idAt t i) id)
 
+-- No template has the ID.
 abbrev pub isMissing : List ℕ → ℕ → Bool
 isMissing t id = leb (templateCount t) (templateIndex t id)
 
--- Its key blocks: where they begin and how many they are.
+-- The key blocks of the template block at a place: where they begin and how many they are.
 unfoldable pub templateAt : List ℕ → ℕ → Template
 templateAt t at = record { keys = keysAt t at; count = keyCount t at }
 
+-- The template with an ID; asked only where there is one.
 abbrev pub templateOf : List ℕ → ℕ → Template
 templateOf t id = templateAt t (blockAt t (templateIndex t id))
 
@@ -169,3 +182,8 @@ locateOf t id = cond (isMissing t id) (Refused templateNotFound) (At (templateOf
 -- Finding a template is judged 21, 15.
 unfoldable pub findOf : List ℕ → ℕ → Found
 findOf t id = cond (tableSound t) (locateOf t id) (Refused unsoundTable)
+
+-- The answer number of finding a template.
+abbrev pub foundAnswer : Found → ℕ
+foundAnswer (At m) = done
+foundAnswer (Refused a) = a

@@ -1,14 +1,15 @@
--- The field walk over a borrowed record (01, "Template table", on the field walk). Assumes nothing.
-use Prim.Native.Nat.{ℕ, _+_, _-_, _*_, _^_}
-use mathlib.Core.Bool.{Bool, cond, not}
-use mathlib.Core.List.{List, [], _∷_}
+-- Going through a record field by field (01, "Template table"). Assumes nothing.
+use Prim.Native.Nat.{ℕ, zero, suc, _+_, _-_, _*_, _^_}
+use mathlib.Core.Bool.{cond, not}
+use mathlib.Core.List.{List, [], _∷_, _++_, map}
 use lib.Dec.{eqb, leb, ltb}
-use Rattle.octets.specs.Answers.{Check, _when_, judge, unsoundTable, templateNotFound, recordInvalid}
+use lib.ListN.{take, drop}
+use Rattle.octets.specs.Answers.{done, unsoundTable, templateNotFound, recordInvalid}
 use Rattle.octets.specs.Numbers.{uintAt}
 use Rattle.wire.specs.Each.{firstFrom}
 use Rattle.wire.specs.FieldTypes.{widthOf, isNumber, isSigned}
 use Rattle.wire.specs.Table.{keyAt, keyType, isEnabled, tableSound, isMissing, templateOf}
-use Rattle.wire.specs.Record.{fieldLength, recordAnswer}
+use Rattle.wire.specs.Record.{fieldLength, fieldAt, recordAnswer}
 use Rattle.wire.specs.declared.table.Template.{Template}
 use Rattle.wire.specs.declared.walk.Value.{Value}
 use Rattle.wire.specs.declared.walk.Value.the-variants.{Octets, Number, Negative}
@@ -19,7 +20,8 @@ use Rattle.wire.specs.declared.walk.Opened.the-variants as opened
 use Rattle.wire.specs.declared.walk.Step.{Step}
 use Rattle.wire.specs.declared.walk.Step.the-variants as step
 
--- A number of w octets in two's complement: one whose half of the range is the upper stands for itself less 256 to the w.
+-- `Number n` is n and `Negative n` is minus n. In two's complement, u in w octets is u where it lies below half of 256 to the w, and
+-- otherwise minus what it lacks of 256 to the w.
 unfoldable pub signedAt : List ℕ → ℕ → ℕ → Value
 signedAt r at w = cond (ltb (2 * uintAt r at w) (256 ^ w)) (Number (uintAt r at w)) (Negative (256 ^ w - uintAt r at w))
 
@@ -37,7 +39,7 @@ fieldOf type r at = record { kind = type; at = at; len = fieldLength type r at; 
 unfoldable pub nextKey : List ℕ → Template → ℕ → ℕ
 nextKey t m index = firstFrom index (m .count - index) (λ k. isEnabled t (keyAt (m .keys) k))
 
--- A step over the next enabled key's field at its place: 16 where no valid field begins there, the end where there is no such key.
+-- The field of the next enabled key is read where the cursor stands: 16 where no valid one begins there; the end where no key is left.
 unfoldable pub stepUnder : List ℕ → Template → List ℕ → Cursor → Step
 stepUnder t m r c =
     let k = nextKey t m (c .index) in
@@ -53,19 +55,62 @@ stepOf t id r c =
     (cond (isMissing t id) (step.Refused templateNotFound)
     (stepUnder t (templateOf t id) r c))
 
--- Opening is judged over the whole record, 21, 15, 16; it answers the walk's start.
+-- Before the first key, at the first octet.
 abbrev pub walkStart : Cursor
 walkStart = record { index = 0; at = 0 }
 
+-- Opening is judged over the whole record, 21, 15, 16.
 unfoldable pub openOf : List ℕ → ℕ → List ℕ → Opened
-openOf t id r = cond (eqb (recordAnswer t id r) 0) (opened.At walkStart) (opened.Refused (recordAnswer t id r))
+openOf t id r = cond (eqb (recordAnswer t id r) done) (opened.At walkStart) (opened.Refused (recordAnswer t id r))
 
 -- The answer number of an opening and of a step.
 abbrev pub openAnswer : Opened → ℕ
-openAnswer (opened.At c) = 0
+openAnswer (opened.At c) = done
 openAnswer (opened.Refused a) = a
 
 abbrev pub stepAnswer : Step → ℕ
-stepAnswer (step.Next f c) = 0
-stepAnswer step.End = 0
+stepAnswer (step.Next f c) = done
+stepAnswer step.End = done
 stepAnswer (step.Refused a) = a
+
+-- ---- a whole walk, by any step function
+
+-- What follows a step: where it answered a field and a cursor, what `next` makes of them, and otherwise `stop`.
+abbrev pub afterStep : {A : Type 0} → (Field → Cursor → A) → A → Step → A
+afterStep next stop (step.Next f c) = next f c
+afterStep next stop step.End = stop
+afterStep next stop (step.Refused a) = stop
+
+-- The fields that at most n steps from a cursor visit, up to the first answer that is no field.
+unfoldable pub visited : (Cursor → Step) → ℕ → Cursor → List Field
+visited walk zero c = []
+visited walk (suc n) c = afterStep (λ f d. f ∷ visited walk n d) [] (walk c)
+
+-- The cursor where those steps end: that of the first answer that is no field, or the one after n fields.
+unfoldable pub lastCursor : (Cursor → Step) → ℕ → Cursor → Cursor
+lastCursor walk zero c = c
+lastCursor walk (suc n) c = afterStep (λ f d. lastCursor walk n d) c (walk c)
+
+-- What is answered there.
+abbrev pub lastAnswer : (Cursor → Step) → ℕ → Cursor → Step
+lastAnswer walk n c = walk (lastCursor walk n c)
+
+-- The octets of fields, laid end to end.
+unfoldable pub laidOut : List ℕ → List Field → List ℕ
+laidOut r [] = []
+laidOut r (f ∷ fs) = take (f .len) (drop (f .at) r) ++ laidOut r fs
+
+-- The enabled ones of the n keys from key k on, in order.
+unfoldable pub enabledFrom : List ℕ → Template → ℕ → ℕ → List ℕ
+enabledFrom t m k zero = []
+enabledFrom t m k (suc n) = cond (isEnabled t (keyAt (m .keys) k)) (k ∷ enabledFrom t m (k + 1) n) (enabledFrom t m (k + 1) n)
+
+-- The enabled keys of a template, their types, and the fields of a record that they have under it.
+abbrev pub enabledKeys : List ℕ → Template → List ℕ
+enabledKeys t m = enabledFrom t m 0 (m .count)
+
+abbrev pub enabledTypes : List ℕ → Template → List ℕ
+enabledTypes t m = map (λ k. keyType t (keyAt (m .keys) k)) (enabledKeys t m)
+
+abbrev pub fieldUnder : List ℕ → Template → List ℕ → ℕ → Field
+fieldUnder t m r k = fieldOf (keyType t (keyAt (m .keys) k)) r (fieldAt t m r k)

@@ -5,5 +5,6 @@
 pub mod append;
 pub mod field_type;
 pub mod message;
+pub mod record;
 pub mod table;
 pub mod walk;

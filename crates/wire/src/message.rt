@@ -1,4 +1,36 @@
-// messages
+// CRANE's messages: reading and writing alone, each by the layout of its octets.
+ghost use mathlib.Core.Path.{_≡_};
+ghost use mathlib.Core.List.{[], _∷_, _++_};
+ghost use Prim.Native.Nat.{_+_, _≤_};
+ghost use lib.ListN.{length};
+ghost use lib.Seq.{sets};
+ghost use Rattle.octets.specs.Answers.{judge};
+ghost use Rattle.octets.specs.Numbers.{octetsOf};
+ghost use Rattle.wire.specs.Messages.{isMessage, bodyFits, headerAnswer, headerOf, bodyChecks, readAnswer, dataHeadOf, meaningOf, readOf, partAt, partOf};
+ghost use Rattle.wire.specs.Messages.{headerOctetsOf, dataHeadOctets, messageOf, flagsOf, startAck, finalTmplDataAck, dataAck, Placed, headWriteOf, headWriteOut, writeOf, writeOut};
+ghost use Rattle.wire.specs.declared.message.Message.the-variants.{TmplData, Data};
+use octets::Answer;
+
+// The octets of a message's header.
+pub const HEADER_OCTETS: usize = 8;
+
+// The octets of a DATA message in front of its record.
+pub const DATA_HEAD_OCTETS: usize = 16;
+
+// The octets of the acknowledgements that have a body.
+const START_ACK_OCTETS: usize = 12;
+
+const FINAL_TMPL_DATA_ACK_OCTETS: usize = 12;
+
+const DATA_ACK_OCTETS: usize = 16;
+
+// The most octets that a record has in a message that is written.
+pub const MAX_RECORD_OCTETS: usize = 1024;
+
+// The version that the header of every message names.
+pub const VERSION: u8 = 1;
+
+// What a DATA message says in front of its record; `first` is its S flag, `duplicate` its D flag.
 pub struct DataHead {
     pub session: u8,
     pub template: u16,
@@ -7,6 +39,8 @@ pub struct DataHead {
     pub duplicate: bool,
     pub dsn: u32,
 }
+
+// What a message says. A TMPL DATA's table and a DATA's record lie in the message itself.
 pub enum Message {
     Start { session: u8 },
     StartAck { session: u8, boot_time: u32 },
@@ -19,19 +53,419 @@ pub enum Message {
     Data(DataHead),
     DataAck { session: u8, dsn: u32, config: u8 },
 }
+
+impl Message {
+    pub const START: u8 = 0x01;
+
+    pub const START_ACK: u8 = 0x02;
+
+    pub const STOP: u8 = 0x03;
+
+    pub const STOP_ACK: u8 = 0x04;
+
+    pub const TMPL_DATA: u8 = 0x10;
+
+    pub const FINAL_TMPL_DATA_ACK: u8 = 0x13;
+
+    pub const START_NEGOTIATE: u8 = 0x18;
+
+    pub const START_NEGOTIATE_ACK: u8 = 0x19;
+
+    pub const DATA: u8 = 0x20;
+
+    pub const DATA_ACK: u8 = 0x21;
+}
+
+// What a message's header says.
 pub struct Header {
     pub session: u8,
     pub number: u8,
 }
+
+// What reading a header answers.
 pub enum HeaderReading {
     Header(Header),
     Refused(u8),
 }
+
+// What reading a message answers.
 pub enum Reading {
     Message(Message),
     Refused(u8),
 }
+
+// What writing a message answers: how many octets were written, or the refusal.
 pub enum Written {
     Octets(usize),
     Refused(u8),
+}
+
+// Whether a message has this number.
+fn is_message(number: u8) -> bool
+    ensures { λ r. ⌜ r ≡ isMessage number ⌝ }
+{
+    (number == Message::START)
+        | (number == Message::START_ACK)
+        | (number == Message::STOP)
+        | (number == Message::STOP_ACK)
+        | (number == Message::TMPL_DATA)
+        | (number == Message::FINAL_TMPL_DATA_ACK)
+        | (number == Message::START_NEGOTIATE)
+        | (number == Message::START_NEGOTIATE_ACK)
+        | (number == Message::DATA)
+        | (number == Message::DATA_ACK)
+}
+
+// Whether a body of this length is right for the message with this number.
+fn body_fits(number: u8, body: usize) -> bool
+    ensures { λ r. ⌜ r ≡ bodyFits number body ⌝ }
+{
+    match number {
+        Message::START => body == 0,
+        Message::START_ACK => body == 4,
+        Message::STOP => body == 0,
+        Message::STOP_ACK => body == 0,
+        Message::TMPL_DATA => true,
+        Message::FINAL_TMPL_DATA_ACK => body == 4,
+        Message::START_NEGOTIATE => body == 0,
+        Message::START_NEGOTIATE_ACK => body == 0,
+        Message::DATA => 8 <= body,
+        Message::DATA_ACK => body == 8,
+        _ => false,
+    }
+}
+
+// 0 for a whole header whose length field is right, else 3, 4 or 5.
+fn header_answer(message: &[u8]) -> u8
+    ensures { λ r. ⌜ r ≡ headerAnswer (now (message .entry)) ⌝ }
+{
+    if message.len() < HEADER_OCTETS {
+        return Answer::SHORT_MESSAGE;
+    }
+    if octets::get_u8(message, 0) != VERSION {
+        return Answer::OTHER_VERSION;
+    }
+    if octets::get_u32(message, 4) as usize != message.len() {
+        return Answer::LENGTH_DIFFERS;
+    }
+    Answer::DONE
+}
+
+// Reads a message's header alone: its session and number, or 3, 4 or 5.
+pub fn read_header(message: &[u8]) -> HeaderReading
+    ensures { λ r. ⌜ r ≡ headerOf (now (message .entry)) ⌝ }
+{
+    let answer = header_answer(message);
+    if answer == Answer::DONE {
+        return HeaderReading::Header(Header {
+            session: octets::get_u8(message, 2),
+            number: octets::get_u8(message, 1),
+        });
+    }
+    HeaderReading::Refused(answer)
+}
+
+// 0 for a message whose body is right for its number, else 7, 8 or 21; its header is not refused.
+fn body_answer(message: &[u8]) -> u8
+    requires { ⌜ 8 ≤ length (now message) ⌝ }
+    ensures { λ r. ⌜ r ≡ judge (bodyChecks (now (message .entry))) ⌝ }
+{
+    let number = octets::get_u8(message, 1);
+    if !is_message(number) {
+        return Answer::MESSAGE_NOT_ACCEPTED;
+    }
+    if !body_fits(number, message.len() - HEADER_OCTETS) {
+        return Answer::BODY_LENGTH_WRONG;
+    }
+    if number != Message::TMPL_DATA {
+        return Answer::DONE;
+    }
+    if crate::table::table_sound(&message[HEADER_OCTETS..]) {
+        return Answer::DONE;
+    }
+    Answer::UNSOUND_TABLE
+}
+
+// 0 for a message that can be read, else 3, 4, 5, 7, 8 or 21.
+fn read_answer(message: &[u8]) -> u8
+    ensures { λ r. ⌜ r ≡ readAnswer (now (message .entry)) ⌝ }
+{
+    let answer = header_answer(message);
+    if answer != Answer::DONE {
+        return answer;
+    }
+    body_answer(message)
+}
+
+// What a DATA message says in front of its record.
+fn data_head(message: &[u8]) -> DataHead
+    ensures { λ r. ⌜ r ≡ dataHeadOf (now (message .entry)) ⌝ }
+{
+    let flags = octets::get_u8(message, 11);
+    DataHead {
+        session: octets::get_u8(message, 2),
+        template: octets::get_u16(message, 8),
+        config: octets::get_u8(message, 10),
+        first: flags % 2 == 1,
+        duplicate: flags / 2 % 2 == 1,
+        dsn: octets::get_u32(message, 12),
+    }
+}
+
+// What a message that can be read says.
+fn meaning(message: &[u8]) -> Message
+    ensures { λ r. ⌜ r ≡ meaningOf (now (message .entry)) ⌝ }
+{
+    let number = octets::get_u8(message, 1);
+    let session = octets::get_u8(message, 2);
+    if number == Message::START {
+        return Message::Start { session };
+    }
+    if number == Message::START_ACK {
+        return Message::StartAck {
+            session,
+            boot_time: octets::get_u32(message, 8),
+        };
+    }
+    if number == Message::STOP {
+        return Message::Stop { session };
+    }
+    if number == Message::STOP_ACK {
+        return Message::StopAck { session };
+    }
+    if number == Message::TMPL_DATA {
+        return Message::TmplData { session };
+    }
+    if number == Message::FINAL_TMPL_DATA_ACK {
+        return Message::FinalTmplDataAck {
+            session,
+            config: octets::get_u8(message, 8),
+        };
+    }
+    if number == Message::START_NEGOTIATE {
+        return Message::StartNegotiate { session };
+    }
+    if number == Message::START_NEGOTIATE_ACK {
+        return Message::StartNegotiateAck { session };
+    }
+    if number == Message::DATA {
+        return Message::Data(data_head(message));
+    }
+    Message::DataAck {
+        session,
+        dsn: octets::get_u32(message, 8),
+        config: octets::get_u8(message, 12),
+    }
+}
+
+// Reads a message alone: what it says, or 3, 4, 5, 7, 8 or 21.
+pub fn read_message(message: &[u8]) -> Reading
+    ensures { λ r. ⌜ r ≡ readOf (now (message .entry)) ⌝ }
+{
+    let answer = read_answer(message);
+    if answer == Answer::DONE {
+        return Reading::Message(meaning(message));
+    }
+    Reading::Refused(answer)
+}
+
+// The part that a message carries, as a part of the caller's octets: a DATA's record or a TMPL DATA's table. Of any other
+// message, and of one that cannot be read, the empty part at its start.
+pub fn message_part(message: &[u8]) -> &[u8]
+    ensures { λ r. ⌜ (now r ≡ partOf (now (message .entry)))
+        × ((r .ptr .0 ≡ message .entry .ptr .0) × (r .ptr .1 ≡ partAt (now (message .entry)) + message .entry .ptr .1)) ⌝ }
+{
+    if read_answer(message) != Answer::DONE {
+        return &message[..0];
+    }
+    let number = octets::get_u8(message, 1);
+    if number == Message::DATA {
+        return &message[DATA_HEAD_OCTETS..];
+    }
+    if number == Message::TMPL_DATA {
+        return &message[HEADER_OCTETS..];
+    }
+    &message[..0]
+}
+
+// The header of a message of `len` octets.
+fn put_header(number: u8, session: u8, len: u32, out: &mut [u8])
+    requires { ⌜ 8 ≤ length (now out) ⌝ }
+    ensures { λ _. ⌜ now (out .exit) ≡ sets (now (out .entry)) 0 (headerOctetsOf number session len) ⌝ }
+{
+    out[0] = VERSION;
+    out[1] = number;
+    out[2] = session;
+    out[3] = 0;
+    octets::put_u32(out, 4, len);
+}
+
+// Writes the message with a number that has no body.
+fn write_bare(number: u8, session: u8, out: &mut [u8]) -> Written
+    ensures { λ r. ⌜ Placed (messageOf number session []) (now (out .entry)) r (now (out .exit)) ⌝ }
+{
+    if out.len() < HEADER_OCTETS {
+        return Written::Refused(Answer::OUTPUT_TOO_SHORT);
+    }
+    put_header(number, session, HEADER_OCTETS as u32, out);
+    Written::Octets(HEADER_OCTETS)
+}
+
+// Writes a START ACK.
+fn write_start_ack(session: u8, boot_time: u32, out: &mut [u8]) -> Written
+    ensures { λ r. ⌜ Placed (messageOf startAck session (octetsOf 4 «boot_time»)) (now (out .entry)) r (now (out .exit)) ⌝ }
+{
+    if out.len() < START_ACK_OCTETS {
+        return Written::Refused(Answer::OUTPUT_TOO_SHORT);
+    }
+    put_header(Message::START_ACK, session, START_ACK_OCTETS as u32, out);
+    octets::put_u32(out, 8, boot_time);
+    Written::Octets(START_ACK_OCTETS)
+}
+
+// Writes a FINAL TMPL DATA ACK.
+fn write_final_tmpl_data_ack(session: u8, config: u8, out: &mut [u8]) -> Written
+    ensures { λ r. ⌜ Placed (messageOf finalTmplDataAck session (config ∷ 0 ∷ 0 ∷ 0 ∷ [])) (now (out .entry)) r (now (out .exit)) ⌝ }
+{
+    if out.len() < FINAL_TMPL_DATA_ACK_OCTETS {
+        return Written::Refused(Answer::OUTPUT_TOO_SHORT);
+    }
+    put_header(
+        Message::FINAL_TMPL_DATA_ACK,
+        session,
+        FINAL_TMPL_DATA_ACK_OCTETS as u32,
+        out,
+    );
+    out[8] = config;
+    out[9] = 0;
+    out[10] = 0;
+    out[11] = 0;
+    Written::Octets(FINAL_TMPL_DATA_ACK_OCTETS)
+}
+
+// Writes a DATA ACK.
+fn write_data_ack(session: u8, dsn: u32, config: u8, out: &mut [u8]) -> Written
+    ensures { λ r. ⌜ Placed (messageOf dataAck session (octetsOf 4 dsn ++ (config ∷ 0 ∷ 0 ∷ 0 ∷ []))) (now (out .entry)) r (now (out .exit)) ⌝ }
+{
+    if out.len() < DATA_ACK_OCTETS {
+        return Written::Refused(Answer::OUTPUT_TOO_SHORT);
+    }
+    put_header(Message::DATA_ACK, session, DATA_ACK_OCTETS as u32, out);
+    octets::put_u32(out, 8, dsn);
+    out[12] = config;
+    out[13] = 0;
+    out[14] = 0;
+    out[15] = 0;
+    Written::Octets(DATA_ACK_OCTETS)
+}
+
+// Writes a TMPL DATA with the table `part`.
+fn write_tmpl_data(session: u8, part: &[u8], out: &mut [u8]) -> Written
+    ensures { λ r. ⌜ (r ≡ writeOf (TmplData session) (now (part .entry)) (now (out .entry)))
+        × (now (out .exit) ≡ writeOut (TmplData session) (now (part .entry)) (now (out .entry))) ⌝ }
+{
+    if !crate::table::table_sound(part) {
+        return Written::Refused(Answer::UNSOUND_TABLE);
+    }
+    let len = HEADER_OCTETS + part.len();
+    if out.len() < len {
+        return Written::Refused(Answer::OUTPUT_TOO_SHORT);
+    }
+    put_header(Message::TMPL_DATA, session, len as u32, out);
+    octets::copy(out, HEADER_OCTETS, part);
+    Written::Octets(len)
+}
+
+// The flags of a DATA message: S is 1, D is 2.
+fn flags(first: bool, duplicate: bool) -> u8
+    ensures { λ r. ⌜ r ≡ flagsOf first duplicate ⌝ }
+{
+    if first {
+        if duplicate { 3 } else { 1 }
+    } else {
+        if duplicate { 2 } else { 0 }
+    }
+}
+
+// The octets of a DATA message in front of its record, which has `len` octets.
+fn put_data_head(head: DataHead, len: usize, out: &mut [u8])
+    requires { ⌜ (16 ≤ length (now out)) × (len ≤ 1024) ⌝ }
+    ensures { λ _. ⌜ now (out .exit) ≡ sets (now (out .entry)) 0 (dataHeadOctets head len) ⌝ }
+{
+    let marks = flags(head.first, head.duplicate);
+    put_header(
+        Message::DATA,
+        head.session,
+        (DATA_HEAD_OCTETS + len) as u32,
+        out,
+    );
+    octets::put_u16(out, 8, head.template);
+    out[10] = head.config;
+    out[11] = marks;
+    octets::put_u32(out, 12, head.dsn);
+}
+
+// Writes a DATA's octets in front of a record of `len` octets, which the caller writes behind them, where the whole message fits.
+// Answers the whole message's octets, or 17 or 12.
+pub fn write_data_head(head: DataHead, len: usize, out: &mut [u8]) -> Written
+    ensures { λ r. ⌜ (r ≡ headWriteOf len (length (now (out .entry)))) × (now (out .exit) ≡ headWriteOut head len (now (out .entry))) ⌝ }
+{
+    if MAX_RECORD_OCTETS < len {
+        return Written::Refused(Answer::RECORD_TOO_LONG);
+    }
+    let total = DATA_HEAD_OCTETS + len;
+    if out.len() < total {
+        return Written::Refused(Answer::OUTPUT_TOO_SHORT);
+    }
+    put_data_head(head, len, out);
+    Written::Octets(total)
+}
+
+// Writes a DATA with the record `part`.
+fn write_data(head: DataHead, part: &[u8], out: &mut [u8]) -> Written
+    ensures { λ r. ⌜ (r ≡ writeOf (Data head) (now (part .entry)) (now (out .entry)))
+        × (now (out .exit) ≡ writeOut (Data head) (now (part .entry)) (now (out .entry))) ⌝ }
+{
+    if MAX_RECORD_OCTETS < part.len() {
+        return Written::Refused(Answer::RECORD_TOO_LONG);
+    }
+    let len = DATA_HEAD_OCTETS + part.len();
+    if out.len() < len {
+        return Written::Refused(Answer::OUTPUT_TOO_SHORT);
+    }
+    put_data_head(head, part.len(), out);
+    octets::copy(out, DATA_HEAD_OCTETS, part);
+    Written::Octets(len)
+}
+
+// Writes a message alone from the output's first octet on, and no octet after it; `part` is a DATA's record or a TMPL DATA's table,
+// and is not looked at for other messages. Answers how many octets were written, or 21, 17 or 12.
+pub fn write_message(message: Message, part: &[u8], out: &mut [u8]) -> Written
+    ensures { λ r. ⌜ (r ≡ writeOf message (now (part .entry)) (now (out .entry)))
+        × (now (out .exit) ≡ writeOut message (now (part .entry)) (now (out .entry))) ⌝ }
+{
+    match message {
+        Message::Start { session } => write_bare(Message::START, session, out),
+        Message::StartAck { session, boot_time } => write_start_ack(session, boot_time, out),
+        Message::Stop { session } => write_bare(Message::STOP, session, out),
+        Message::StopAck { session } => write_bare(Message::STOP_ACK, session, out),
+        Message::TmplData { session } => write_tmpl_data(session, part, out),
+        Message::FinalTmplDataAck { session, config } => write_final_tmpl_data_ack(
+            session,
+            config,
+            out,
+        ),
+        Message::StartNegotiate { session } => write_bare(Message::START_NEGOTIATE, session, out),
+        Message::StartNegotiateAck { session } => write_bare(
+            Message::START_NEGOTIATE_ACK,
+            session,
+            out,
+        ),
+        Message::Data(head) => write_data(head, part, out),
+        Message::DataAck {
+            session,
+            dsn,
+            config,
+        } => write_data_ack(session, dsn, config, out),
+    }
 }

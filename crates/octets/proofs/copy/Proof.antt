@@ -46,7 +46,7 @@ loop-less : tie.Need-loop-less Inv-loop μ-loop
 loop-less c = omega arith
 
 loop-again : tie.Need-loop-again Inv-loop μ-loop
-loop-again c = 
+loop-again c =
     let l = c .before .before .loop in
     let a = c .before .before .before .before .before .before .before .before .args in
     (omega arith, (simp length-set (omega arith), sets-step (l .out) (a .at) (a .octets .now) (l .i) (c .before .loop-test .taken) ∙ l .inv .1 .1))
@@ -55,7 +55,7 @@ same-length : tie.Need-same-length Inv-loop μ-loop
 same-length c = omega arith
 
 returns-3 : tie.Need-returns-3 Inv-loop μ-loop
-returns-3 c = 
+returns-3 c =
     let l = c .before .loop in
     let a = c .before .before .before .before .before .before .before .args in
     sym (sets-done (l .out) (a .at + l .i) (a .octets .now) (l .i) (c .loop-test .left))

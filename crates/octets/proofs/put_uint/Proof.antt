@@ -47,7 +47,7 @@ loop-less : tie.Need-loop-less Inv-loop μ-loop
 loop-less c = omega arith
 
 loop-again : tie.Need-loop-again Inv-loop μ-loop
-loop-again c = 
+loop-again c =
     let l = c .before .loop in
     let a = c .before .before .before .before .before .before .args in
     (omega arith, (simp length-set (omega arith), number-step (l .out) (a .at) (l .i) (l .n) (c .loop-test .taken) ∙ l .inv .1 .1))

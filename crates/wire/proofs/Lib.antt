@@ -1,0 +1,13 @@
+pub mod Each
+pub mod FieldTypes
+pub mod FieldsWithin
+pub mod Tables
+pub mod Records
+pub mod TypeFacts
+pub mod Widths
+pub mod Appends
+pub mod ReadBack
+pub mod WalkLaws
+pub mod Messages
+pub mod RoundTrip
+pub mod Examples

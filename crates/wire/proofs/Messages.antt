@@ -1,0 +1,228 @@
+-- Laws of messages: what an answer of 0 says of a message, and what writing answers. Assumes nothing.
+use mathlib.Core.Path.{_≡_, refl, sym, ap, _∙_}
+use mathlib.Core.Bool.{Bool, true, false, cond, not, _&&_, _||_}
+use mathlib.Core.List.{List, [], _∷_, _++_}
+use Prim.Native.Nat.{ℕ, _+_, _-_, _≤_, _<_}
+use native.Mathlib.Nat.{zero-add}
+use native.Mathlib.Omega.{arith}
+use borrow.Author.Tests.{ltb-true, ltb-false, eqb-true, leb-true, not-false, le-ltb, lt-ltb, eq-eqb, ne-eqb}
+use lib.Dec.{eqb, leb, ltb}
+use lib.ListN.{length, take, drop, length-drop}
+use lib.Seq.{take-all, sets, length-sets}
+use Rattle.octets.specs.Answers.{judge, done, outputTooShort}
+use Rattle.octets.specs.Numbers.{octetsOf, putAt}
+use Rattle.octets.proofs.Stores.{put-fits, put-short, sets-append}
+use Rattle.wire.specs.Messages.{Form, ofForm, forms, isMessage, bodyFits, messageNumber, versionOf, lengthField, headerChecks, bodyChecks, headerAnswer, readAnswer, partAt, partOf, tmplData, dataNumber}
+use Rattle.wire.specs.Table.{tableSound}
+use Rattle.wire.specs.Messages.{headerOctetsOf, messageOf, dataFront, dataHeadOctets, Placed, isTmplData, isData, layoutOf, writeAnswer, writeOf, writeOut}
+use Rattle.wire.specs.declared.message.DataHead.{DataHead}
+use Rattle.wire.specs.declared.message.Message.{Message}
+use Rattle.wire.specs.declared.message.Message.the-variants.{Data}
+use Rattle.wire.specs.declared.message.Written.{Written}
+use Rattle.wire.specs.declared.message.Written.the-variants as written
+use Rattle.octets.proofs.Judging.{passed, judged-done, judged-first, judged-next}
+
+-- ---- choices
+
+-- one of two, then another: a chain of choices
+pub or-cond : (a b : Bool) → (a || b) ≡ cond a true b
+or-cond true b = refl
+or-cond false b = refl
+
+pub cond-cond : (a b c : Bool) → cond (cond a true b) true c ≡ cond a true (cond b true c)
+cond-cond true b c = refl
+cond-cond false b c = refl
+
+pub cond-true : (a : Bool) → cond a true false ≡ a
+cond-true true = refl
+cond-true false = refl
+
+-- what is left behind the first n octets
+pub take-rest : (m : List ℕ) (n : ℕ) → take (length m - n) (drop n m) ≡ drop n m
+take-rest m n = take-all (length m - n) (drop n m) (omega (arith, length-drop n m))
+
+-- ---- rows
+
+-- U holds, and no row has the number n; in the form in which the last arm of a match is told it.
+abbrev pub Others : Type 0 → List Form → ℕ → Type 0
+Others U [] n = U
+Others U (r ∷ rows) n = Others (U × (n ≡ r .number → ⊥)) rows n
+
+pub no-row : (U : Type 0) (f : Form → Bool) (rows : List Form) (n : ℕ) → Others U rows n → (ofForm f rows n ≡ false) × U
+no-row U f [] n h = (refl, h)
+no-row U f (r ∷ rows) n h =
+    let p = no-row (U × (n ≡ r .number → ⊥)) f rows n h in
+    (rw (ne-eqb n (r .number) (p .1 .1)) (p .0), p .1 .0)
+
+pub no-body-fits : (n body : ℕ) → Others (Unit {0}) forms n → bodyFits n body ≡ false
+unfolding bodyFits
+no-body-fits n body h = no-row (Unit {0}) (λ f. cond (f .more) (leb (f .body) body) (eqb body (f .body))) forms n h .0
+
+-- ---- a message that can be read
+
+-- What an answer of 0 says of a message.
+pub record Readable (m : List ℕ) : Type 0 where
+  pub long : 8 ≤ length m
+  pub version : versionOf m ≡ 1
+  pub field : lengthField m ≡ length m
+  pub known : isMessage (messageNumber m) ≡ true
+  pub fits : bodyFits (messageNumber m) (length m - 8) ≡ true
+  pub table : messageNumber m ≡ tmplData → tableSound (drop 8 m) ≡ true
+
+-- a header's refusal is the message's
+pub header-refused : (m : List ℕ) → (headerAnswer m ≡ done → ⊥) → readAnswer m ≡ headerAnswer m
+unfolding headerAnswer readAnswer
+header-refused m h = judged-first (headerChecks m) (bodyChecks m) h
+
+-- where the header is not refused, the body is judged
+pub header-passed : (m : List ℕ) → headerAnswer m ≡ done → readAnswer m ≡ judge (bodyChecks m)
+unfolding headerAnswer readAnswer
+header-passed m h = judged-next (headerChecks m) (bodyChecks m) tt h
+
+-- a header that is not refused has 8 octets
+pub header-long : (m : List ℕ) → headerAnswer m ≡ done → 8 ≤ length m
+unfolding headerAnswer
+header-long m h = ltb-false (length m) 8 (passed (headerChecks m) tt h .0)
+
+table-sound : (a b : Bool) → (a && not b) ≡ false → a ≡ true → b ≡ true
+table-sound true b e h = not-false b e
+table-sound false b e h = let z : _≡_ {A = ℕ} 0 1 = cc in absurd (omega arith)
+
+pub not-both : (a b : Bool) → (a ≡ true → b ≡ false) → (a && b) ≡ false
+not-both true b h = h refl
+not-both false b h = refl
+
+pub readable : (m : List ℕ) → readAnswer m ≡ done → Readable m
+unfolding readAnswer
+readable m h =
+    let p = passed (headerChecks m ++ bodyChecks m) tt h in
+    record {
+      long = ltb-false (length m) 8 (p .0);
+      version = eqb-true (versionOf m) 1 (not-false _ (p .1 .0));
+      field = eqb-true (lengthField m) (length m) (not-false _ (p .1 .1 .0));
+      known = not-false _ (p .1 .1 .1 .0);
+      fits = not-false _ (p .1 .1 .1 .1 .0);
+      table = λ e. table-sound (eqb (messageNumber m) tmplData) (tableSound (drop 8 m)) (p .1 .1 .1 .1 .1 .0) (eq-eqb (messageNumber m) tmplData e);
+    }
+
+pub reads : (m : List ℕ) → Readable m → readAnswer m ≡ done
+unfolding readAnswer
+reads m r =
+    judged-done (headerChecks m ++ bodyChecks m) (
+      le-ltb (length m) 8 (r .long),
+      (
+        ap not (eq-eqb (versionOf m) 1 (r .version)),
+        (
+          ap not (eq-eqb (lengthField m) (length m) (r .field)),
+          (
+            ap not (r .known),
+            (
+              ap not (r .fits),
+              (not-both (eqb (messageNumber m) tmplData) (not (tableSound (drop 8 m))) (λ e. ap not (r .table (eqb-true (messageNumber m) tmplData e))), tt),
+            ),
+          ),
+        ),
+      ),
+    )
+
+-- a DATA that can be read has 16 octets
+pub data-long : (m : List ℕ) → readAnswer m ≡ done → messageNumber m ≡ dataNumber → 16 ≤ length m
+unfolding bodyFits
+data-long m h e =
+    let f : bodyFits dataNumber (length m - 8) ≡ true = ap (λ (n : ℕ). bodyFits n (length m - 8)) (sym e) ∙ readable m h .fits in
+    omega (arith, leb-true 8 (length m - 8) f)
+
+-- ---- the part that a message carries
+
+pub part-of-data : (m : List ℕ) → readAnswer m ≡ done → messageNumber m ≡ dataNumber → (partAt m ≡ 16) × (partOf m ≡ drop 16 m)
+unfolding partAt partOf
+part-of-data m h e = (rw (h, e), rw (h, e))
+
+pub part-of-table : (m : List ℕ) → readAnswer m ≡ done → messageNumber m ≡ tmplData → (partAt m ≡ 8) × (partOf m ≡ drop 8 m)
+unfolding partAt partOf
+part-of-table m h e = (rw (h, e), rw (h, e))
+
+pub part-of-refused : (m : List ℕ) → (readAnswer m ≡ done → ⊥) → (partAt m ≡ 0) × (partOf m ≡ [])
+unfolding partAt partOf
+part-of-refused m h = (rw (ne-eqb (readAnswer m) done h), rw (ne-eqb (readAnswer m) done h))
+
+pub part-of-other : (m : List ℕ) → readAnswer m ≡ done → (messageNumber m ≡ dataNumber → ⊥) → (messageNumber m ≡ tmplData → ⊥)
+    → (partAt m ≡ 0) × (partOf m ≡ [])
+unfolding partAt partOf
+part-of-other m h d t =
+    let a = ne-eqb (messageNumber m) dataNumber d in
+    let b = ne-eqb (messageNumber m) tmplData t in
+    (rw (h, a, b), rw (h, a, b))
+
+-- ---- writing
+
+-- octets behind those that were written from the first octet on
+pub sets-then : (out a b l : List ℕ) (at : ℕ) → l ≡ sets out 0 a → length a ≡ at → sets l at b ≡ sets out 0 (a ++ b)
+sets-then out a b l at e n =
+    ap (λ (x : List ℕ). sets x at b) e ∙ ap (λ (k : ℕ). sets (sets out 0 a) k b) (sym n ∙ sym (zero-add (length a))) ∙ sets-append a out 0 b
+
+pub put-then : (out a b l : List ℕ) (at : ℕ) → l ≡ sets out 0 a → length a ≡ at → at + length b ≤ length out → putAt l at b ≡ sets out 0 (a ++ b)
+put-then out a b l at e n h =
+    put-fits l at b (omega (arith, ap length e, length-sets out 0 a)) ∙ sets-then out a b l at e n
+
+-- octets that find no room
+pub placed-short : (octets out : List ℕ) → length out < length octets → Placed octets out (written.Refused outputTooShort) out
+placed-short octets out h =
+    record { answered = rw (lt-ltb (length out) (length octets) h); left = sym (put-short out 0 octets (omega arith)) }
+
+-- octets that do
+pub placed : (octets out after : List ℕ) (n : ℕ) → length octets ≡ n → n ≤ length out → after ≡ sets out 0 octets → Placed octets out (written.Octets n) after
+placed octets out after n e h s =
+    record {
+      answered = rw (le-ltb (length out) (length octets) (omega arith)) (ap written.Octets (sym e));
+      left = s ∙ sym (put-fits out 0 octets (omega arith));
+    }
+
+room-answered : (short : Bool) (n : ℕ)
+    → cond short (written.Refused 12) (written.Octets n) ≡ cond (eqb (cond short 12 0) 0) (written.Octets n) (written.Refused (cond short 12 0))
+room-answered true n = refl
+room-answered false n = refl
+
+room-left : (short : Bool) (out octets : List ℕ) → ltb (length out) (length octets) ≡ short → putAt out 0 octets ≡ cond (eqb (cond short 12 0) 0) (sets out 0 octets) out
+room-left true out octets e = put-short out 0 octets (omega (arith, ltb-true (length out) (length octets) e))
+room-left false out octets e = put-fits out 0 octets (omega (arith, ltb-false (length out) (length octets) e))
+
+-- where neither the table nor the record is refused, the room alone decides
+pub allowed : (m : Message) (part out : List ℕ) (answer : Written) (after : List ℕ)
+    → (isTmplData m && not (tableSound part)) ≡ false
+    → (isData m && ltb 1024 (length part)) ≡ false
+    → Placed (layoutOf m part) out answer after
+    → (answer ≡ writeOf m part out) × (after ≡ writeOut m part out)
+unfolding writeAnswer writeOf writeOut
+allowed m part out answer after t d p =
+    let short = ltb (length out) (length (layoutOf m part)) in
+    (p .answered ∙ rw (t, d) (room-answered short (length (layoutOf m part))), p .left ∙ rw (t, d) (room-left short out (layoutOf m part) refl))
+
+-- a refusal is answered and changes nothing
+pub refused : (m : Message) (part out : List ℕ) (a : ℕ) → (a ≡ done → ⊥) → writeAnswer m part (length out) ≡ a
+    → (written.Refused a ≡ writeOf m part out) × (out ≡ writeOut m part out)
+unfolding writeOf writeOut
+refused m part out a h e = (rw (e, ne-eqb a done h), rw (e, ne-eqb a done h))
+
+pub message-length : (number session : ℕ) (body : List ℕ) → length (messageOf number session body) ≡ 8 + length body
+unfolding messageOf octetsOf
+message-length number session body = omega arith
+
+-- a DATA message is what stands in front of its record, then the record
+pub data-layout : (h : DataHead) (part : List ℕ) → layoutOf (Data h) part ≡ dataHeadOctets h (length part) ++ part
+unfolding layoutOf messageOf octetsOf
+data-layout h part =
+    ap (λ (n : ℕ). (headerOctetsOf dataNumber (h .session) n ++ dataFront h) ++ part) (omega arith)
+
+pub data-length : (h : DataHead) (part : List ℕ) → length (layoutOf (Data h) part) ≡ 16 + length part
+unfolding octetsOf
+data-length h part = ap length (data-layout h part) ∙ omega arith
+
+all-first : (a b : Bool) → cond a b false ≡ true → a ≡ true
+all-first true b e = refl
+all-first false b e = e
+
+-- a sound table has at most 16,384 octets
+pub table-small : (t : List ℕ) → tableSound t ≡ true → length t ≤ 16384
+unfolding tableSound
+table-small t e = leb-true (length t) 16384 (all-first _ _ e)

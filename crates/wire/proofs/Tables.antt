@@ -1,0 +1,154 @@
+-- Laws of template tables. Assumes nothing.
+use mathlib.Core.Path.{_≡_, refl, sym, ap, _∙_, subst}
+use mathlib.Core.Bool.{Bool, true, false, cond, not, _&&_, false≢true}
+use mathlib.Core.List.{List, [], _∷_}
+use Prim.Native.Nat.{ℕ, zero, suc, _+_, _-_, _*_, _≤_, _<_}
+use native.Mathlib.Nat.{le-refl}
+use native.Mathlib.Omega.{arith}
+use native.Mathlib.Numerals.{add-one}
+use borrow.Author.Tests.{ltb-true, ltb-false, leb-true, leb-false, eqb-true, ne-eqb}
+use lib.Dec.{ltb, leb, eqb, lit≤}
+use lib.ListN.{length}
+use Rattle.wire.specs.Each.{every, allOf}
+use Rattle.wire.specs.Table.{keyCount, blockFlags, blockLength, blockOctets, blockEnd, headSound, blockSound, blockAt, blocksSound, templatesDiffer, tableFlags, templateCount, tableSound, isMissing, templateIndex, templateAt, templateOf, locateOf}
+use Rattle.wire.specs.declared.table.Template.{Template}
+use Rattle.wire.specs.declared.table.Found.the-variants.{At, Refused}
+use Rattle.wire.proofs.Each.{clause-first, clause-rest, clause-last, every-at, every-step, every-intro, and-left, and-right}
+
+-- ---- IDs that rise all differ
+
+-- no two of the first n have one ID
+abbrev differ : (ℕ → ℕ) → ℕ → Bool
+differ ids n = every n (λ k. every k (λ j. not (eqb (ids j) (ids k))))
+
+-- the first k IDs differ, and none is above the last of them
+abbrev pub Rising : (ℕ → ℕ) → ℕ → Type 0
+Rising ids k = (differ ids k ≡ true) × ((j : ℕ) → j < k → ids j ≤ ids (k - 1))
+
+pub rise-start : (ids : ℕ → ℕ) → Rising ids 1
+unfolding every
+rise-start ids = (refl, λ j l. let e : j ≡ 0 = omega arith in rw e (le-refl (ids 0)))
+
+pub rise-step : (ids : ℕ → ℕ) (k : ℕ) → 1 ≤ k → Rising ids k → ids (k - 1) < ids k → Rising ids (k + 1)
+rise-step ids k h r l = (
+  every-step k (λ k. every k (λ j. not (eqb (ids j) (ids k)))) (r .0)
+      (every-intro k (λ j. not (eqb (ids j) (ids k))) (λ j b. ap not (ne-eqb (ids j) (ids k) (λ e. omega (arith, r .1 j b))))),
+  λ j b. let e : k + 1 - 1 ≡ k = omega arith in rw e (go j b (ltb j k) refl),
+)
+  where
+    go : (j : ℕ) → j < k + 1 → (b : Bool) → ltb j k ≡ b → ids j ≤ ids k
+    go j b true t = omega (arith, r .1 j (ltb-true j k t))
+    go j b false t = let e : j ≡ k = omega (arith, ltb-false j k t) in rw e (le-refl (ids k))
+
+-- ---- what a sound block says
+
+-- the numbers of a sound head
+pub record HeadFacts (t : List ℕ) (at : ℕ) : Type 0 where
+  pub within : blockEnd t at ≤ length t
+  pub some : 1 ≤ keyCount t at
+  pub few : keyCount t at ≤ 32
+
+pub head-facts : (t : List ℕ) (at : ℕ) → headSound t at ≡ true → HeadFacts t at
+unfolding headSound
+head-facts t at e =
+    let w = leb (blockEnd t at) (length t) in
+    let s = leb 1 (keyCount t at) in
+    let f = leb (keyCount t at) 32 in
+    let g = eqb (blockFlags t at) 0 in
+    let three = and-left (w && s && f) g (and-left (w && s && f && g) (eqb (blockLength t at) (blockOctets t at)) e) in
+    let two = and-left (w && s) f three in
+    record {
+      within = leb-true (blockEnd t at) (length t) (and-left w s two);
+      some = leb-true 1 (keyCount t at) (and-right w s two);
+      few = leb-true (keyCount t at) 32 (and-right (w && s) f three);
+    }
+
+-- a sound block has a sound head
+pub block-head : (t : List ℕ) (at : ℕ) → blockSound t at ≡ true → headSound t at ≡ true
+unfolding blockSound
+block-head t at e = clause-first (headSound t at) _ e
+
+-- ---- where blocks lie
+
+pub block-at-more : (t : List ℕ) (i : ℕ) → blockAt t (i + 1) ≡ blockEnd t (blockAt t i)
+unfolding blockAt
+block-at-more t i = rw add-one refl
+
+-- behind sound blocks one is still within the table, or at the end of its head
+pub block-near : (t : List ℕ) (n : ℕ) → length t ≤ 16384 → blocksSound t n ≡ true → (j : ℕ) → j ≤ n → blockAt t j ≤ 16384
+unfolding blockAt
+block-near t n h e zero l = lit≤ tt
+block-near t n h e (suc j) l =
+    omega (arith, head-facts t (blockAt t j) (block-head t (blockAt t j) (every-at n (λ i. blockSound t (blockAt t i)) e j l)) .within)
+
+-- ---- what a sound table says
+
+pub record TableFacts (t : List ℕ) : Type 0 where
+  pub short : length t ≤ 16384
+  pub some : 1 ≤ templateCount t
+  pub few : templateCount t ≤ 8
+  pub blocks : blocksSound t (templateCount t) ≡ true
+  pub differ : templatesDiffer t (templateCount t) ≡ true
+  pub ends : blockAt t (templateCount t) ≡ length t
+
+pub table-facts : (t : List ℕ) → tableSound t ≡ true → TableFacts t
+unfolding tableSound
+table-facts t e =
+    let e₁ = clause-rest (leb (length t) 16384) _ e in
+    let e₂ = clause-rest (eqb (tableFlags t) 1) _ e₁ in
+    let e₃ = clause-rest (leb 1 (templateCount t)) _ e₂ in
+    let e₄ = clause-rest (leb (templateCount t) 8) _ e₃ in
+    let e₅ = clause-rest (blocksSound t (templateCount t)) _ e₄ in
+    let e₆ = clause-rest (templatesDiffer t (templateCount t)) _ e₅ in
+    record {
+      short = leb-true (length t) 16384 (clause-first (leb (length t) 16384) _ e);
+      some = leb-true 1 (templateCount t) (clause-first (leb 1 (templateCount t)) _ e₂);
+      few = leb-true (templateCount t) 8 (clause-first (leb (templateCount t) 8) _ e₃);
+      blocks = clause-first (blocksSound t (templateCount t)) _ e₄;
+      differ = clause-first (templatesDiffer t (templateCount t)) _ e₅;
+      ends = eqb-true (blockAt t (templateCount t)) (length t) (clause-first (eqb (blockAt t (templateCount t)) (length t)) _ e₆);
+    }
+
+-- THE LAW OF A FOUND TEMPLATE: its key blocks lie within the table
+pub template-within : (t : List ℕ) (id : ℕ) → tableSound t ≡ true → isMissing t id ≡ false
+    → templateOf t id .keys + 12 * templateOf t id .count ≤ length t
+unfolding templateAt blockEnd
+template-within t id e m =
+    let f = table-facts t e in
+    let i = templateIndex t id in
+    let b = every-at (templateCount t) (λ i. blockSound t (blockAt t i)) (f .blocks) i (leb-false (templateCount t) i m) in
+    omega (arith, head-facts t (blockAt t i) (block-head t (blockAt t i) b) .within)
+
+pub template-few : (t : List ℕ) (id : ℕ) → tableSound t ≡ true → isMissing t id ≡ false → templateOf t id .count ≤ 32
+unfolding templateAt
+template-few t id e m =
+    let f = table-facts t e in
+    let i = templateIndex t id in
+    let b = every-at (templateCount t) (λ i. blockSound t (blockAt t i)) (f .blocks) i (leb-false (templateCount t) i m) in
+    head-facts t (blockAt t i) (block-head t (blockAt t i) b) .few
+
+-- ---- what locating a template says
+
+pub located : (t : List ℕ) (id : ℕ) (m : Template) → locateOf t id ≡ At m → (isMissing t id ≡ false) × (templateOf t id ≡ m)
+unfolding locateOf
+located t id m = go (isMissing t id)
+  where
+    go : (b : Bool) → cond b (Refused 15) (At (templateOf t id)) ≡ At m → (b ≡ false) × (templateOf t id ≡ m)
+    go true e = let z : _≡_ {A = ℕ} 0 1 = cc in absurd (omega arith)
+    go false e = (refl, cc)
+
+pub not-located : (t : List ℕ) (id a : ℕ) → locateOf t id ≡ Refused a → (isMissing t id ≡ true) × (a ≡ 15)
+unfolding locateOf
+not-located t id a = go (isMissing t id)
+  where
+    go : (b : Bool) → cond b (Refused 15) (At (templateOf t id)) ≡ Refused a → (b ≡ true) × (a ≡ 15)
+    go true e = (refl, cc)
+    go false e = let z : _≡_ {A = ℕ} 0 1 = cc in absurd (omega arith)
+
+pub located-near : (t : List ℕ) (id : ℕ) (m : Template) → tableSound t ≡ true → locateOf t id ≡ At m → (m .keys ≤ 16384) × (m .count ≤ 65535)
+located-near t id m s e =
+    let l = located t id m e in
+    let f = table-facts t s in
+    let w : m .keys + 12 * m .count ≤ length t = rw (l .1) at (template-within t id s (l .0)) in
+    let n : m .count ≤ 32 = rw (l .1) at (template-few t id s (l .0)) in
+    (omega (arith, f .short), omega arith)

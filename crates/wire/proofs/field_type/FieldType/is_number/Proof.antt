@@ -1,0 +1,10 @@
+-- `is_number` meets its contract: the law of the table of types says that the ranges tested are those of its rows. Assumes nothing.
+use Rattle.wire.proofs.FieldTypes.{number-code}
+use Rattle.wire.proofs.field_type.FieldType.is_number.Statement.{statement}
+use Rattle.wire.proofs.field_type.FieldType.is_number.Tie as tie
+
+returns : tie.Need-returns
+returns c = number-code (c .args .self .number)
+
+pub is-number-spec : {M : Type 1} → statement M
+is-number-spec = tie.close (tie.spec returns)

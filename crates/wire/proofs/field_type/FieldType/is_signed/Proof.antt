@@ -1,0 +1,10 @@
+-- `is_signed` meets its contract: the law of the table of types says that the ranges tested are those of its rows. Assumes nothing.
+use Rattle.wire.proofs.FieldTypes.{signed-code}
+use Rattle.wire.proofs.field_type.FieldType.is_signed.Statement.{statement}
+use Rattle.wire.proofs.field_type.FieldType.is_signed.Tie as tie
+
+returns : tie.Need-returns
+returns c = signed-code (c .args .self .number)
+
+pub is-signed-spec : {M : Type 1} → statement M
+is-signed-spec = tie.close (tie.spec returns)

@@ -1,0 +1,10 @@
+-- `is_type` meets its contract: the law of the table of types says that the ranges tested are those of its rows. Assumes nothing.
+use Rattle.wire.proofs.FieldTypes.{type-code}
+use Rattle.wire.proofs.field_type.FieldType.is_type.Statement.{statement}
+use Rattle.wire.proofs.field_type.FieldType.is_type.Tie as tie
+
+returns : tie.Need-returns
+returns c = type-code (c .args .self .number)
+
+pub is-type-spec : {M : Type 1} → statement M
+is-type-spec = tie.close (tie.spec returns)

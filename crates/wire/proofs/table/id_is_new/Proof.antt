@@ -1,0 +1,77 @@
+-- `id_is_new` meets its contract. The loop's invariant: the walk stands at block i, and the templates passed have other IDs. Assumes nothing.
+use mathlib.Core.Path.{_≡_, refl, sym, ap, _∙_}
+use native.Mathlib.Omega.{arith}
+use Prim.Native.Nat.{ℕ, _-_, _≤_}
+use mathlib.Core.Bool.{true, not}
+use lib.Dec.{eqb}
+use borrow.Author.Tests.{eq-eqb, ne-eqb}
+use Rattle.octets.specs.Numbers.{uintAt}
+use Rattle.wire.specs.Each.{every}
+use Rattle.wire.proofs.Each.{every-false, every-step}
+use Rattle.wire.specs.Table.{blockEnd, blockAt, idAt}
+use Rattle.wire.proofs.Tables.{block-at-more, block-near}
+use borrow.Author.Needs.{needs}
+use Rattle.wire.proofs.table.id_is_new.Statement.{statement}
+use Rattle.wire.proofs.table.id_is_new.Tie as tie
+
+abbrev Inv-loop : tie.InvT-loop
+Inv-loop t n id at₀ i₀ at i = (i ≤ n) × ((at ≡ blockAt t i) × (every i (λ j. not (eqb (idAt t j) id)) ≡ true))
+
+abbrev μ-loop : tie.MeasureT-loop
+μ-loop t n id at₀ i₀ at i = n - i
+
+loop-holds : tie.Need-loop-holds Inv-loop μ-loop
+unfolding every blockAt
+loop-holds c = (search needs, (refl, refl))
+
+get-u16-requires : tie.Need-get-u16-requires Inv-loop μ-loop
+get-u16-requires c κs = search needs
+
+returns : tie.Need-returns Inv-loop μ-loop
+returns c =
+    let l = c .before .before .before .loop in
+    let t = c .before .before .before .before .before .args .t .now in
+    sym (every-false _ _ (l .i) (search needs) (ap not (eq-eqb _ _ (ap (λ (p : ℕ). uintAt t p 2) (sym (l .inv .1 .0)) ∙ sym (c .before .get-u16 .ensures) ∙ c .if1 .taken))))
+
+block-end-requires : tie.Need-block-end-requires Inv-loop μ-loop
+block-end-requires c κs =
+    let l = c .before .before .before .loop in
+    let s = c .before .before .before .before .before in
+    rw (l .inv .1 .0) (block-near (s .args .t .now) (s .args .n) (s .pre .0) (s .pre .1) (l .i) (l .inv .0))
+
+add-i : tie.Need-add-i Inv-loop μ-loop
+add-i c = search needs
+
+loop-less : tie.Need-loop-less Inv-loop μ-loop
+loop-less c = search needs
+
+loop-again : tie.Need-loop-again Inv-loop μ-loop
+loop-again c =
+    let l = c .before .before .before .before .loop in
+    let t = c .before .before .before .before .before .before .args .t .now in (
+      search needs,
+      (
+        c .block-end .ensures ∙ ap (blockEnd t) (l .inv .1 .0) ∙ sym (block-at-more t (l .i)),
+        every-step (l .i) _ (l .inv .1 .1) (ap not (ne-eqb _ _ (λ e. c .before .if1 .left (c .before .before .get-u16 .ensures ∙ ap (λ (p : ℕ). uintAt t p 2) (l .inv .1 .0) ∙ e)))),
+      ),
+    )
+
+returns-2 : tie.Need-returns-2 Inv-loop μ-loop
+returns-2 c =
+    let e : c .before .loop .i ≡ c .before .before .before .args .n = omega arith in
+    sym (rw e at (c .before .loop .inv .1 .1))
+
+pub id-is-new-spec : {M : Type 1} → statement M
+id-is-new-spec =
+    tie.close
+    (tie.spec
+    Inv-loop
+    μ-loop
+    loop-holds
+    get-u16-requires
+    returns
+    block-end-requires
+    add-i
+    loop-less
+    loop-again
+    returns-2)

@@ -1,0 +1,50 @@
+-- `key_id` meets its contract: four octets read one by one make the number at their place. Assumes nothing.
+use mathlib.Core.Path.{refl, _∙_}
+use Prim.Native.Nat.{_+_}
+use Rattle.octets.proofs.Numbers.{uint-four}
+use borrow.Author.Needs.{needs}
+use Rattle.wire.proofs.table.key_id.Statement.{statement}
+use Rattle.wire.proofs.table.key_id.Tie as tie
+
+shared-slice-read-u32-of : tie.Need-shared-slice-read-u32-of
+shared-slice-read-u32-of c = search needs
+
+add-u32-of : tie.Need-add-u32-of
+add-u32-of c = search needs
+
+shared-slice-read-u32-of-2 : tie.Need-shared-slice-read-u32-of-2
+shared-slice-read-u32-of-2 c = search needs
+
+add-u32-of-2 : tie.Need-add-u32-of-2
+add-u32-of-2 c = search needs
+
+shared-slice-read-u32-of-3 : tie.Need-shared-slice-read-u32-of-3
+shared-slice-read-u32-of-3 c = search needs
+
+add-u32-of-3 : tie.Need-add-u32-of-3
+add-u32-of-3 c = search needs
+
+shared-slice-read-u32-of-4 : tie.Need-shared-slice-read-u32-of-4
+shared-slice-read-u32-of-4 c = search needs
+
+u32-of-requires : tie.Need-u32-of-requires
+u32-of-requires c κs = search needs
+
+returns : tie.Need-returns
+returns c =
+    let a = c .before .before .before .before .before .before .args in
+    c .u32-of .ensures ∙ uint-four (a .t .now) (a .at) (a .at) (a .at + 1) (a .at + 2) (a .at + 3) refl refl refl refl
+
+pub key-id-spec : {M : Type 1} → statement M
+key-id-spec =
+    tie.close
+    (tie.spec
+    shared-slice-read-u32-of
+    add-u32-of
+    shared-slice-read-u32-of-2
+    add-u32-of-2
+    shared-slice-read-u32-of-3
+    add-u32-of-3
+    shared-slice-read-u32-of-4
+    u32-of-requires
+    returns)

@@ -1,0 +1,21 @@
+-- `open_walk` meets its contract: the whole record is judged first. Assumes nothing.
+use Prim.Native.Nat.{_-_}
+use borrow.Author.Tests.{eq-eqb, ne-eqb}
+use Rattle.wire.specs.Walk.{openOf}
+use borrow.Author.Needs.{needs}
+use Rattle.wire.proofs.walk.open_walk.Statement.{statement}
+use Rattle.wire.proofs.walk.open_walk.Tie as tie
+
+record-valid-requires : tie.Need-record-valid-requires
+record-valid-requires c κs = search needs
+
+returns : tie.Need-returns
+unfolding openOf
+returns c = rw (← c .before .record-valid .ensures, eq-eqb _ _ (c .if1 .taken))
+
+returns-2 : tie.Need-returns-2
+unfolding openOf
+returns-2 c = rw (← c .before .record-valid .ensures, ne-eqb _ _ (c .if1 .left))
+
+pub open-walk-spec : {M : Type 1} → statement M
+open-walk-spec = tie.close (tie.spec record-valid-requires returns returns-2)

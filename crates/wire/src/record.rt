@@ -1,0 +1,159 @@
+// Records: the length of a field, and whether octets are a valid record under a template.
+ghost use mathlib.Core.Path.{_≡_};
+ghost use mathlib.Core.Bool.{true};
+ghost use Prim.Native.Nat.{_+_, _*_, _≤_};
+ghost use lib.Dec.{ltb};
+ghost use lib.ListN.{length, getD};
+ghost use Rattle.wire.specs.Each.{every};
+ghost use Rattle.wire.specs.Table.{keyAt, isEnabled};
+ghost use Rattle.wire.specs.Record.{fixedLength, blobLength, stringLength, terminatedLength, fieldLength, lengthUnder, recordValid, recordAnswer};
+use crate::field_type::FieldType;
+use crate::table::Found;
+use crate::table::Template;
+use octets::Answer;
+
+// The length of the field of a fixed width at a place, 0 where none is valid there.
+fn fixed_length(kind: u16, r: &[u8], at: usize) -> usize
+    ensures { λ n. ⌜ n ≡ fixedLength kind (now (r .entry)) at ⌝ }
+{
+    let width = FieldType { number: kind }.width() as usize;
+    if octets::room(r.len(), at) < width {
+        return 0;
+    }
+    if (kind == FieldType::BOOLEAN) & (1 < octets::get_u8(r, at)) {
+        return 0;
+    }
+    width
+}
+
+// The length of the blob at a place, 0 where none is valid there.
+fn blob_length(r: &[u8], at: usize) -> usize
+    ensures { λ n. ⌜ n ≡ blobLength (now (r .entry)) at ⌝ }
+{
+    if octets::room(r.len(), at) < 4 {
+        return 0;
+    }
+    let n = octets::get_u32(r, at) as usize;
+    if octets::room(r.len(), at + 4) < n {
+        return 0;
+    }
+    4 + n
+}
+
+// Whether n octets from a place on are below 128.
+pub(crate) fn all_below_128(r: &[u8], at: usize, n: usize) -> bool
+    requires { ⌜ at + n ≤ length (now r) ⌝ }
+    ensures { λ b. ⌜ b ≡ every n (λ i. ltb (getD (now (r .entry)) (at + i) 0) 128) ⌝ }
+{
+    let mut ok = true;
+    let mut i: usize = 0;
+    while i < n {
+        ok = ok & (r[at + i] < 128);
+        i += 1;
+    }
+    ok
+}
+
+// The length of the string at a place, 0 where none is valid there.
+fn string_length(r: &[u8], at: usize) -> usize
+    ensures { λ n. ⌜ n ≡ stringLength (now (r .entry)) at ⌝ }
+{
+    let n = blob_length(r, at);
+    if n == 0 {
+        return 0;
+    }
+    if all_below_128(r, at + 4, n - 4) {
+        return n;
+    }
+    0
+}
+
+// The length of the zero-terminated string at a place, 0 where none is valid there.
+fn terminated_length(r: &[u8], at: usize) -> usize
+    ensures { λ n. ⌜ n ≡ terminatedLength (now (r .entry)) at ⌝ }
+{
+    let mut p = at;
+    while p < r.len() {
+        if r[p] == 0 {
+            return p + 1 - at;
+        }
+        p += 1;
+    }
+    0
+}
+
+// The length of the field of a type at a place of a record, 0 where none is valid there.
+pub(crate) fn field_length(kind: u16, r: &[u8], at: usize) -> usize
+    ensures { λ n. ⌜ n ≡ fieldLength kind (now (r .entry)) at ⌝ }
+{
+    let width = FieldType { number: kind }.width();
+    if 0 < width {
+        return fixed_length(kind, r, at);
+    }
+    if kind == FieldType::STRING {
+        return string_length(r, at);
+    }
+    if kind == FieldType::NULL_TERMINATED_STRING {
+        return terminated_length(r, at);
+    }
+    if kind == FieldType::BLOB {
+        return blob_length(r, at);
+    }
+    0
+}
+
+// Whether key k of a template is enabled.
+pub(crate) fn is_enabled(t: &[u8], m: Template, k: usize) -> bool
+    requires { ⌜ (m .keys ≤ 16384) × (k ≤ 65535) ⌝ }
+    ensures { λ b. ⌜ b ≡ isEnabled (now (t .entry)) (keyAt (m .keys) k) ⌝ }
+{
+    octets::get_u32(t, m.keys + 12 * k + 8) == 0
+}
+
+// The length of key k's field at a place of a record; 0 for a disabled key, and where none is valid there.
+fn length_under(t: &[u8], m: Template, r: &[u8], k: usize, at: usize) -> usize
+    requires { ⌜ (m .keys ≤ 16384) × (k ≤ 65535) ⌝ }
+    ensures { λ n. ⌜ n ≡ lengthUnder (now (t .entry)) m (now (r .entry)) k at ⌝ }
+{
+    if is_enabled(t, m, k) {
+        return field_length(octets::get_u16(t, m.keys + 12 * k + 4), r, at);
+    }
+    0
+}
+
+// Whether the fields of a template's enabled keys use up exactly a record's octets.
+fn fields_valid(t: &[u8], m: Template, r: &[u8]) -> bool
+    requires { ⌜ (m .keys ≤ 16384) × (m .count ≤ 65535) ⌝ }
+    ensures { λ b. ⌜ b ≡ recordValid (now (t .entry)) m (now (r .entry)) ⌝ }
+{
+    let count = m.count;
+    let mut at: usize = 0;
+    let mut k: usize = 0;
+    while k < count {
+        let n = length_under(t, m, r, k, at);
+        if is_enabled(t, m, k) & (n == 0) {
+            return false;
+        }
+        at += n;
+        k += 1;
+    }
+    at == r.len()
+}
+
+// 0 for a valid record under the template with an ID, 21 for an unsound table, 15 for an ID that it does not have, 16 for another record.
+pub fn record_valid(t: &[u8], id: u16, r: &[u8]) -> u8
+    ensures { λ n. ⌜ n ≡ recordAnswer (now (t .entry)) id (now (r .entry)) ⌝ }
+{
+    if !crate::table::table_sound(t) {
+        return Answer::UNSOUND_TABLE;
+    }
+    match crate::table::locate(t, id) {
+        Found::At(m) => {
+            if fields_valid(t, m, r) {
+                return Answer::DONE;
+            }
+            Answer::RECORD_INVALID
+        }
+        Found::Refused(answer) => answer,
+    }
+}
