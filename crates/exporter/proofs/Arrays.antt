@@ -1,0 +1,92 @@
+-- Laws of the queue's arrays: sums of lengths, sets of servers, entries moved to the front. Assumes nothing.
+use mathlib.Core.Path.{_≡_, refl, sym, ap, _∙_}
+use mathlib.Core.Bool.{false, not, _&&_, _||_}
+use mathlib.Core.List.{List, [], _∷_, _++_, map, append-nil}
+use Prim.Native.Nat.{ℕ, zero, suc, _+_, _-_, _*_, _%_, _^_, _≤_, _<_}
+use native.Mathlib.Nat.{one-mul, mod-eq-of-lt, pow-le-pow-right, div-eq-of-lt, zero-lt-suc, lt-of-lt-of-le, not-suc-le-zero, le-of-suc-le-suc}
+use native.Mathlib.Numerals.{add-one}
+use native.Mathlib.Omega.{arith}
+use lib.Dec.{eqb}
+use lib.Pow.{pow-lt}
+use lib.ListN.{length, getD, set, take, drop, replicate, length-drop, length-replicate, replicate-append-replicate, drop-of-length-le}
+use lib.Seq.{take-suc, take-all, drop-at, getD-drop}
+use Rattle.exporter.specs.Queue.{sumOf, has, hasOther, shifted}
+
+-- ---- sums
+
+pub sum-append : (a b : List ℕ) → sumOf (a ++ b) ≡ sumOf a + sumOf b
+unfolding sumOf
+sum-append [] b = omega arith
+sum-append (x ∷ a) b = omega (arith, sum-append a b)
+
+-- fewer numbers sum up to no more
+pub sum-fewer : (xs : List ℕ) (i n : ℕ) → i ≤ n → sumOf (take i xs) ≤ sumOf (take n xs)
+unfolding sumOf
+sum-fewer xs zero n h = omega arith
+sum-fewer xs (suc i) zero h = absurd (omega arith)
+sum-fewer [] (suc i) (suc n) h = omega arith
+sum-fewer (x ∷ xs) (suc i) (suc n) h = omega (arith, sum-fewer xs i n (omega arith))
+
+-- one more entry
+pub sum-more : (xs : List ℕ) (i : ℕ) → i < length xs → sumOf (take (i + 1) xs) ≡ sumOf (take i xs) + getD xs i 0
+unfolding sumOf
+sum-more xs i h = rw (add-one, take-suc xs i 0) (sum-append (take i xs) (getD xs i 0 ∷ []) ∙ omega arith)
+
+-- ---- sets of servers
+
+-- a set of 16 bits has no server from 16 on
+pub has-none : (m v : ℕ) → m < 65536 → 16 ≤ v → false ≡ has m v
+unfolding has
+has-none m v h l =
+    let b : m < 2 ^ v = lt-of-lt-of-le h (pow-le-pow-right {n = 2} (zero-lt-suc 1) l) in
+    rw (div-eq-of-lt b)
+
+-- a bit of 16 that is shifted from the first
+pub one-shifted : (v : ℕ) → v < 16 → 1 * 2 ^ v % 65536 ≡ 2 ^ v
+one-shifted v h = ap (λ (x : ℕ). x % 65536) (one-mul (2 ^ v)) ∙ mod-eq-of-lt {m = 65536} (pow-lt {j = 16} h)
+
+-- one more server
+pub other-more : (n v m : ℕ) → hasOther (n + 1) v m ≡ (not (eqb n v) && has m n) || hasOther n v m
+unfolding hasOther
+other-more n v m = rw add-one refl
+
+-- ---- entries moved to the front
+
+-- a loop that copies s over the front of d, one store a turn
+copy-suc : (d s : List ℕ) (i : ℕ) → i < length d → i < length s → set (take i s ++ drop i d) i (getD s i 0) ≡ take (suc i) s ++ drop (suc i) d
+copy-suc [] s i h g = absurd (not-suc-le-zero h)
+copy-suc (x ∷ d) [] i h g = absurd (not-suc-le-zero g)
+copy-suc (x ∷ d) (y ∷ s) zero h g = refl
+copy-suc (x ∷ d) (y ∷ s) (suc i) h g = ap (λ (t : List ℕ). y ∷ t) (copy-suc d s i (le-of-suc-le-suc h) (le-of-suc-le-suc g))
+
+-- b is m times 0 with the first i entries of a from n on moved to its front
+abbrev pub Moved : List ℕ → ℕ → ℕ → ℕ → List ℕ → Type 0
+Moved a m n i b = b ≡ take i (drop n a) ++ drop i (replicate m 0)
+
+-- one more entry
+pub moved-more : (a b : List ℕ) (m n i : ℕ) → length a ≡ m → n + i < m → Moved a m n i b → Moved a m n (i + 1) (set b i (getD a (n + i) 0))
+moved-more a b m n i l h e =
+    rw (e, ← getD-drop n a i 0, add-one)
+    (copy-suc (replicate m 0) (drop n a) i (simp length-replicate (omega arith)) (simp length-drop (omega arith)))
+
+-- all entries
+pub moved-all : (a : List ℕ) (m n : ℕ) → length a ≡ m → n ≤ m → take (m - n) (drop n a) ++ drop (m - n) (replicate m 0) ≡ shifted a n
+moved-all a m n e h =
+    let k : m ≡ (m - n) + n = omega arith in
+    let z : replicate {A = ℕ} m 0 ≡ replicate (m - n) 0 ++ replicate n 0 = ap (λ (j : ℕ). replicate {A = ℕ} j 0) k ∙ sym (replicate-append-replicate (m - n) n 0) in
+    let l : length (drop n a) ≤ m - n = simp length-drop (omega arith) in
+    rw (take-all (m - n) (drop n a) l, z, drop-at {A = ℕ} (replicate (m - n) 0) (replicate n 0) (m - n) (length-replicate {A = ℕ} (m - n) 0))
+
+-- a loop that puts f of each element in its place, one store a turn
+pub map-suc : {A : Type 0} (f : A → A) (z : A) (s : List A) (i : ℕ) → i < length s
+    → set (map f (take i s) ++ drop i s) i (f (getD s i z)) ≡ map f (take (i + 1) s) ++ drop (i + 1) s
+map-suc {A = A} f z s i h = rw add-one (go s i h)
+  where
+    go : (s : List A) (i : ℕ) → i < length s → set (map f (take i s) ++ drop i s) i (f (getD s i z)) ≡ map f (take (suc i) s) ++ drop (suc i) s
+    go [] i h = absurd (not-suc-le-zero h)
+    go (x ∷ s) zero h = refl
+    go (x ∷ s) (suc i) h = ap (λ (t : List A). f x ∷ t) (go s i (le-of-suc-le-suc h))
+
+-- all elements
+pub map-all : {A : Type 0} (f : A → A) (s : List A) (i : ℕ) → length s ≤ i → map f (take i s) ++ drop i s ≡ map f s
+map-all f s i h = rw (take-all i s h, drop-of-length-le s h, append-nil)

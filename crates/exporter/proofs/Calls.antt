@@ -1,0 +1,442 @@
+-- What is claimed of one call follows from what holds between the history and the exporter, which the call keeps. Assumes nothing.
+use mathlib.Core.Path.{_≡_, refl, sym, ap, _∙_, subst}
+use mathlib.Core.Bool.{Bool, true, false, not, _&&_, _||_, cond}
+use mathlib.Core.List.{List, [], _∷_, _++_}
+use Prim.Native.Nat.{ℕ, _+_, _-_, _≤_, _<_}
+use native.Mathlib.Nat.{zero-add}
+use native.Mathlib.Decide.{decLt}
+use native.Mathlib.Omega.{arith}
+use lib.Dec.{eqb, leb, ltb}
+use lib.ListN.{length, getD, take, drop, length-drop, take-append-drop}
+use lib.Seq.{getD-drop, ext-getD}
+use borrow.Author.Tests.{leb-false, eqb-true, eqb-false, not-true, not-false, eq-eqb, le-leb, lt-leb, lt-ltb, le-ltb}
+use Rattle.octets.specs.Answers.{Check, _when_, judge, done, unsoundState}
+use Rattle.octets.proofs.Judging.{passed}
+use Rattle.wire.proofs.Each.{and-left, and-right}
+use Rattle.wire.specs.Table.{isMissing, templateOf}
+use Rattle.wire.specs.Record.{recordValid}
+use Rattle.exporter.specs.Servers.{sameActive, changed, settle, Transition, start, stop, negotiate, offer, down, agree, malformed}
+use Rattle.exporter.specs.Queue.{Entry, sumOf, heldOctets, recordAt, held}
+use Rattle.exporter.specs.Sound.{maxHeld, maxRecordOctets, sound}
+use Rattle.exporter.specs.Steps.{modulus, ackCount, Call, put, nextData, tick, ack, move, isDuplicate, headOf, written, isSessions, checks, soundFor, answer, after, settled, storeAfter, Outcome, step}
+use Rattle.exporter.specs.History.{Writing, Ledger, History, dsnOf, ackPlace, deliveryAfter, ledgerAfter, afterAccepted, afterCall, writtenTo, writtenIn}
+use Rattle.exporter.specs.Claim.{Session, InRange, entryAt, nextPlace, isDuplicateFor, dueMessage, octetsIn, dueChecks, Named, ReleasedBy, CallClaim, Account}
+use Rattle.exporter.specs.declared.state.Active.{Active}
+use Rattle.exporter.specs.declared.state.Active.the-variants.{Nobody, Server}
+use Rattle.exporter.specs.declared.state.Delivery.{Delivery}
+use Rattle.exporter.specs.declared.state.State.{State}
+use Rattle.exporter.proofs.SoundFacts.{facts-sound, same-active}
+use Rattle.exporter.proofs.Places.{one-place, reached-test}
+use Rattle.exporter.proofs.QueueLaws.{or-elim, or-right, duplicate-same, noEntry, heldAt, held-length, held-at, held-octets}
+use Rattle.exporter.proofs.Agrees.{Core, Agrees}
+use Rattle.exporter.proofs.Choice.{settle-choice}
+use Rattle.exporter.proofs.Keeps.{begun, begun-released, written-released, settle-keeps, held-dsn, acked, ack-dsn, ack-below, ack-named, call-keeps, call-delivery}
+
+-- ---- the state is sound
+
+-- what was written in an activation was written
+written-in : (ws : List Writing) (q v k : ℕ) → writtenIn ws q v k ≡ true → writtenTo ws q v ≡ true
+unfolding writtenIn writtenTo
+written-in [] q v k e = e
+written-in (x ∷ ws) q v k e =
+    or-elim (eqb (x .place) q && eqb (x .server) v && eqb (x .activation) k) (writtenIn ws q v k) e
+    (λ z. rw (and-left (eqb (x .place) q && eqb (x .server) v) (eqb (x .activation) k) z) refl)
+    (λ z. or-right (eqb (x .place) q && eqb (x .server) v) (writtenTo ws q v) (written-in ws q v k z))
+
+pub sound-of : {w : ℕ} {h : History} {s : State} {store : List ℕ} → Agrees w h s store → sound s ≡ true
+sound-of {w} {h} {s} {store} a =
+    let c = a .core in
+    let k = c .stock in
+    facts-sound s
+    (record {
+      numbers =
+          record {
+            settings = c .limits;
+            few = k .few;
+            inside = k .inside;
+            sentReached = c .sent;
+            reachedHeld = c .reached;
+            running = c .timer;
+            fresh = c .due;
+          };
+      short = k .short;
+      known = k .known;
+      fits = k .fits;
+      choice = a .choice;
+      idle = λ e. let r : s .delivery .reached ≡ 0 = c .idle e in record { sent = omega (arith, c .sent); reached = r; timer = c .rest e };
+      received = λ v e i l.
+          k .marks i v (omega (arith, c .reached))
+          ∙ written-in (h .ledger .writings) (h .ledger .released + (i + 1)) v (h .ledger .activation) (c .since v (h .ledger .released + (i + 1)) e (omega arith) (omega arith));
+    })
+
+pub sound-for : {w : ℕ} {h : History} {s : State} {store : List ℕ} → Agrees w h s store → (k : Call) → soundFor k s store ≡ true
+sound-for {s} {store} a (put id r) = rw (sound-of a) (eq-eqb (length store) (s .capacity) (a .core .stock .stored))
+sound-for {s} {store} a nextData = rw (sound-of a) (eq-eqb (length store) (s .capacity) (a .core .stock .stored))
+sound-for a tick = sound-of a
+sound-for a (ack v d config) = sound-of a
+sound-for a (move v m) = sound-of a
+
+-- so that a call is judged by its own checks
+pub answer-checks : {w : ℕ} {h : History} {s : State} {store : List ℕ} → Agrees w h s store → (table : List ℕ) (room : ℕ) (k : Call)
+    → answer w table room k s store ≡ judge (checks w table room k s store)
+unfolding answer
+answer-checks a table room k = rw (sound-for a k)
+
+-- ---- the step
+
+abbrev accepted : ℕ → List ℕ → Call → State → List ℕ → Outcome
+accepted w table k s store =
+    record { answer = done; state = settled (after w k s); store = storeAfter k s store; written = written w table k s store }
+
+abbrev refused : ℕ → State → List ℕ → Outcome
+refused a s store = record { answer = a; state = s; store = store; written = [] }
+
+step-answer : (w : ℕ) (table : List ℕ) (room : ℕ) (k : Call) (s : State) (store : List ℕ)
+    → step w table room k s store .answer ≡ answer w table room k s store
+unfolding step
+step-answer w table room k s store = go (eqb (answer w table room k s store) done) refl
+  where
+    a : ℕ
+    a = answer w table room k s store
+
+    go : (b : Bool) → eqb a done ≡ b → cond b (accepted w table k s store) (refused a s store) .answer ≡ a
+    go true e = sym (eqb-true a done e)
+    go false e = refl
+
+-- the settings stay
+after-settings : (w : ℕ) (k : Call) (s : State) → after w k s .settings ≡ s .settings
+unfolding after
+after-settings w (put id r) s = refl
+after-settings w nextData s = refl
+after-settings w tick s = refl
+after-settings w (ack v d config) s = refl
+after-settings w (move v m) s = refl
+
+pub step-settings : (w : ℕ) (table : List ℕ) (room : ℕ) (k : Call) (s : State) (store : List ℕ)
+    → step w table room k s store .state .settings ≡ s .settings
+unfolding step settled
+step-settings w table room k s store = go (eqb (answer w table room k s store) done)
+  where
+    go : (b : Bool) → cond b (accepted w table k s store) (refused (answer w table room k s store) s store) .state .settings ≡ s .settings
+    go true = after-settings w k s
+    go false = refl
+
+-- ---- an answer that is none of the checks' numbers
+
+abbrev others : ℕ → List Check → Bool
+others n [] = not (eqb done n)
+others n ((a when b) ∷ cs) = not (eqb a n) && others n cs
+
+pub judge-other : (n : ℕ) (cs : List Check) → others n cs ≡ true → eqb (judge cs) n ≡ false
+judge-other n [] e = not-true (eqb done n) e
+judge-other n ((a when true) ∷ cs) e = not-true (eqb a n) (and-left (not (eqb a n)) (others n cs) e)
+judge-other n ((a when false) ∷ cs) e = judge-other n cs (and-right (not (eqb a n)) (others n cs) e)
+
+-- a message that its form refuses is not refused with 1
+abbrev pub FairTransition : Transition → Type 0
+FairTransition start = Unit {0}
+FairTransition stop = Unit {0}
+FairTransition negotiate = Unit {0}
+FairTransition offer = Unit {0}
+FairTransition down = Unit {0}
+FairTransition (agree config) = Unit {0}
+FairTransition (malformed a) = eqb a unsoundState ≡ false
+
+abbrev pub Fair : Call → Type 0
+Fair (put id r) = Unit {0}
+Fair nextData = Unit {0}
+Fair tick = Unit {0}
+Fair (ack v d config) = Unit {0}
+Fair (move v m) = FairTransition m
+
+never-unsound : (w : ℕ) (table : List ℕ) (room : ℕ) (k : Call) (s : State) (store : List ℕ) → Fair k
+    → eqb (judge (checks w table room k s store)) unsoundState ≡ false
+unfolding checks
+never-unsound w table room (put id r) s store f = judge-other unsoundState (checks w table room (put id r) s store) refl
+never-unsound w table room nextData s store f = judge-other unsoundState (checks w table room nextData s store) refl
+never-unsound w table room tick s store f = refl
+never-unsound w table room (ack v d config) s store f = judge-other unsoundState (checks w table room (ack v d config) s store) refl
+never-unsound w table room (move v start) s store f = judge-other unsoundState (checks w table room (move v start) s store) refl
+never-unsound w table room (move v stop) s store f = judge-other unsoundState (checks w table room (move v stop) s store) refl
+never-unsound w table room (move v negotiate) s store f = judge-other unsoundState (checks w table room (move v negotiate) s store) refl
+never-unsound w table room (move v offer) s store f = judge-other unsoundState (checks w table room (move v offer) s store) refl
+never-unsound w table room (move v down) s store f = judge-other unsoundState (checks w table room (move v down) s store) refl
+never-unsound w table room (move v (agree config)) s store f = judge-other unsoundState (checks w table room (move v (agree config)) s store) refl
+never-unsound w table room (move v (malformed a)) s store f = judge-other unsoundState (checks w table room (move v (malformed a)) s store) (rw f refl)
+
+-- ---- the held records
+
+-- the record at place i of the queue is that of its place in the history
+held-entry : {w : ℕ} {h : History} {s : State} {store : List ℕ} → Agrees w h s store → (i : ℕ) → i < s .queue .count
+    → getD (h .ledger .records) (h .ledger .released + i) noEntry ≡ heldAt s store i
+unfolding recordAt
+held-entry a i g = a .core .stock .same i g
+
+-- ---- a call
+
+-- the session that a state belongs to
+abbrev pub sessionAt : ℕ → List ℕ → State → Session
+sessionAt w table s = record { width = w; settings = s .settings; table = table }
+
+module _ (w : ℕ) (table : List ℕ) (room : ℕ) (h : History) (s : State) (store : List ℕ) (wide : 64 < modulus w) (a : Agrees w h s store) where
+  -- an accepted call
+  accept-keeps : (k : Call) → InRange w k → judge (checks w table room k s store) ≡ done
+      → Agrees w (afterAccepted w (s .settings) k h) (settled (after w k s)) (storeAfter k s store)
+  unfolding afterAccepted settled
+  accept-keeps k r e =
+      let same : after w k s .settings ≡ s .settings = after-settings w k s in
+      let z : after w k s .delivery ≡ deliveryAfter w (s .settings) k (h .ledger) (s .delivery) = call-delivery w (h .ledger) s store wide (a .core) table room k r e in
+      let l : Ledger = ledgerAfter w (s .settings) k (s .delivery) (h .ledger) in
+      let c = settle-keeps (call-keeps w (h .ledger) s store wide (a .core) table room k r e) in
+      let q : changed (after w k s .settings) (after w k s .delivery) ≡ changed (s .settings) (deliveryAfter w (s .settings) k (h .ledger) (s .delivery)) =
+      λ i. changed (same i) (z i) in
+      rw (a .delivery) (record {
+        delivery = λ i. settle (sym same i) (sym z i);
+        choice = settle-choice (after w k s .settings) (after w k s .delivery);
+        core = subst (λ (b : Bool). Core w (begun b l) (settled (after w k s)) (storeAfter k s store)) q c;
+      })
+
+  pub step-keeps : (k : Call) → InRange w k
+      → let o = step w table room k s store in Agrees w (afterCall w (s .settings) k (o .answer) h) (o .state) (o .store)
+  unfolding step afterCall
+  step-keeps k r = go (eqb (answer w table room k s store) done) refl
+    where
+      b₀ : ℕ
+      b₀ = answer w table room k s store
+
+      o : Bool → Outcome
+      o b = cond b (accepted w table k s store) (refused b₀ s store)
+
+      go : (b : Bool) → eqb b₀ done ≡ b → Agrees w (afterCall w (s .settings) k (o b .answer) h) (o b .state) (o b .store)
+      go true z = accept-keeps k r (sym (answer-checks a table room k) ∙ eqb-true b₀ done z)
+      go false z = rw z a
+
+  -- ---- what the next DATA is
+
+  sent-same : h .delivery .sent ≡ s .delivery .sent
+  sent-same = ap (λ (d : Delivery). d .sent) (a .delivery)
+
+  next-place : nextPlace h ≡ h .ledger .released + (s .delivery .sent + 1)
+  next-place = ap (λ (n : ℕ). h .ledger .released + (n + 1)) sent-same
+
+  -- the record at place "sent" of the queue is that of its place in the history
+  next-entry : s .delivery .sent < s .queue .count → entryAt (h .ledger) (h .ledger .released + (s .delivery .sent + 1)) ≡ heldAt s store (s .delivery .sent)
+  next-entry g =
+      let e : h .ledger .released + (s .delivery .sent + 1) - 1 ≡ h .ledger .released + s .delivery .sent = omega arith in
+      ap (λ (n : ℕ). getD (h .ledger .records) n noEntry) e ∙ held-entry a (s .delivery .sent) g
+
+  duplicate-at : (v : Active) → s .delivery .sent < s .queue .count
+      → isDuplicate (s .settings) v (getD (s .queue .receivers) (s .delivery .sent) 0) ≡ isDuplicateFor v (h .ledger .writings) (h .ledger .released + (s .delivery .sent + 1))
+  duplicate-at Nobody g = refl
+  duplicate-at (Server v) g =
+      duplicate-same (s .settings .servers) v (getD (s .queue .receivers) (s .delivery .sent) 0) (h .ledger .writings) (h .ledger .released + (s .delivery .sent + 1))
+      (λ u. a .core .stock .marks (s .delivery .sent) u g)
+      (a .core .stock .existing (h .ledger .released + (s .delivery .sent + 1)))
+
+  next-written : s .delivery .sent < s .queue .count → written w table nextData s store ≡ dueMessage (sessionAt w table s) h nextData
+  unfolding written headOf
+  next-written g =
+      let e = next-entry g in
+      let c = a .core in
+      rw (a .delivery, e, c .starts, held-dsn w (h .ledger) s store wide c (s .delivery .sent), duplicate-at (s .delivery .active) g) refl
+
+  -- ---- the refusals that are due
+
+  count-held : length (held s store) ≡ s .queue .count
+  count-held = held-length s store 0 (s .queue .count)
+
+  octets-held : octetsIn (held s store) ≡ heldOctets (s .queue)
+  unfolding sumOf
+  octets-held =
+      let n : ℕ = s .queue .count in
+      sym (zero-add (octetsIn (held s store))) ∙ held-octets s store 0 n (omega (arith, a .core .stock .lengths, a .core .stock .few)) ∙ ap (λ (i : ℕ). sumOf (take i (s .queue .lengths))) (zero-add n)
+
+  due-put : isSessions (s .settings) table ≡ true → (id : ℕ) (r : List ℕ)
+      → judge (checks w table room (put id r) s store) ≡ judge (dueChecks (sessionAt w table s) (length store) room h (held s store) (put id r))
+  unfolding checks
+  due-put t id r = rw (t, count-held, octets-held, a .core .stock .stored) refl
+
+  due-next : judge (checks w table room nextData s store) ≡ judge (dueChecks (sessionAt w table s) (length store) room h (held s store) nextData)
+  unfolding checks
+  due-next = go (decLt (s .delivery .sent) (s .queue .count))
+    where
+      c : Core w (h .ledger) s store
+      c = a .core
+
+      active : h .delivery .active ≡ s .delivery .active
+      active = ap (λ (d : Delivery). d .active) (a .delivery)
+
+      go : Dec (s .delivery .sent < s .queue .count)
+          → judge (checks w table room nextData s store) ≡ judge (dueChecks (sessionAt w table s) (length store) room h (held s store) nextData)
+      go (yes g) =
+          rw (
+            next-written g,
+            active,
+            lt-leb (s .queue .count) (s .delivery .sent) g,
+            le-ltb (length (h .ledger .records)) (nextPlace h) (omega (arith, next-place, c .stock .counted)),
+          ) refl
+      go (no g) =
+          rw (
+            active,
+            le-leb (s .queue .count) (s .delivery .sent) (omega arith),
+            lt-ltb (length (h .ledger .records)) (nextPlace h) (omega (arith, next-place, c .stock .counted)),
+          ) refl
+
+  due-ack : (v d config : ℕ) → d < modulus w
+      → judge (checks w table room (ack v d config) s store) ≡ judge (dueChecks (sessionAt w table s) (length store) room h (held s store) (ack v d config))
+  unfolding checks
+  due-ack v d config r =
+      let c = a .core in
+      let l = h .ledger in
+      rw (
+        a .delivery,
+        reached-test w (s .settings) wide (s .delivery .reached) (l .released) (ackCount w s d) d (omega (arith, c .reached, c .stock .few))
+            (ack-below w l s store wide c d) (ack-dsn w l s store wide c d r),
+      ) refl
+
+  due-answer : isSessions (s .settings) table ≡ true → (k : Call) → InRange w k
+      → judge (checks w table room k s store) ≡ judge (dueChecks (sessionAt w table s) (length store) room h (held s store) k)
+  unfolding checks
+  due-answer t (put id r) i = due-put t id r
+  due-answer t nextData i = due-next
+  due-answer t tick i = refl
+  due-answer t (ack v d config) i = due-ack v d config i
+  due-answer t (move v m) i = rw (a .delivery) refl
+
+  -- ---- what is claimed of an accepted call
+
+  sent-held : judge (checks w table room nextData s store) ≡ done → s .delivery .sent < s .queue .count
+  unfolding checks
+  sent-held e = leb-false _ _ (passed (checks w table room nextData s store) tt e .1 .0)
+
+  due-written : (k : Call) → judge (checks w table room k s store) ≡ done → written w table k s store ≡ dueMessage (sessionAt w table s) h k
+  unfolding written
+  due-written (put id r) e = refl
+  due-written nextData e = next-written (sent-held e)
+  due-written tick e = refl
+  due-written (ack v d config) e = refl
+  due-written (move v m) e = refl
+
+  stands-for : judge (checks w table room nextData s store) ≡ done → (q : ℕ) → h .ledger .released < q → q ≤ h .ledger .released + 64
+      → dsnOf w (s .settings) q ≡ dsnOf w (s .settings) (nextPlace h) → q ≡ nextPlace h
+  stands-for e q lo hi x =
+      one-place w (s .settings) wide q (nextPlace h) (omega (arith, next-place))
+      (omega (arith, next-place, sent-held e, a .core .stock .few)) x
+
+  next-accepted : judge (checks w table room nextData s store) ≡ done → nextPlace h ≤ length (h .ledger .records)
+  next-accepted e = omega (arith, next-place, sent-held e, a .core .stock .counted)
+
+  names-one : (v d config : ℕ) → d < modulus w → judge (checks w table room (ack v d config) s store) ≡ done → Named w (s .settings) (h .ledger) d
+  names-one v d config b e =
+      let l = h .ledger in
+      let c = a .core in
+      let n : ackCount w s d ≤ s .delivery .reached = acked w l s store wide c table room v d config e in
+      let y : ackPlace w (s .settings) l d ≡ l .released + ackCount w s d = ack-named w l s store wide c d b n in
+      let x : dsnOf w (s .settings) (ackPlace w (s .settings) l d) ≡ d = rw y (ack-dsn w l s store wide c d b) in
+      record {
+        from = omega arith;
+        upTo = omega (arith, c .reached, c .stock .few);
+        carries = x;
+        only = λ q lo hi k.
+            one-place w (s .settings) wide q (ackPlace w (s .settings) l d)
+            (omega (arith, c .reached, c .stock .few)) (omega (arith, c .reached, c .stock .few)) (k ∙ sym x);
+        accepted = omega (arith, c .reached, c .stock .counted);
+      }
+
+  ledger-releases : (k : Call) → InRange w k → judge (checks w table room k s store) ≡ done → (q : ℕ) → h .ledger .released < q
+      → q ≤ ledgerAfter w (s .settings) k (h .delivery) (h .ledger) .released → ReleasedBy h k q
+  unfolding ledgerAfter checks
+  ledger-releases (put id r) i e q lo hi = let y : ⊥ = omega arith in absurd y
+  ledger-releases nextData i e q lo hi = let y : ⊥ = omega (arith, written-released (h .delivery .active) (nextPlace h) (h .ledger)) in absurd y
+  ledger-releases tick i e q lo hi = let y : ⊥ = omega arith in absurd y
+  ledger-releases (move v m) i e q lo hi = let y : ⊥ = omega arith in absurd y
+  ledger-releases (ack v d config) i e q lo hi =
+      let t = passed (checks w table room (ack v d config) s store) tt e in
+      let active : s .delivery .active ≡ Server v = same-active (s .delivery .active) (Server v) (not-false (sameActive (s .delivery .active) (Server v)) (t .1 .0)) in
+      let n : ackCount w s d ≤ s .delivery .reached = acked w (h .ledger) s store wide (a .core) table room v d config e in
+      record {
+        server = v;
+        dsn = d;
+        config = config;
+        acknowledges = refl;
+        isActive = ap (λ (x : Delivery). x .active) (a .delivery) ∙ active;
+        wasWritten = a .core .since v q active lo (omega (arith, ack-named w (h .ledger) s store wide (a .core) d i n));
+      }
+
+  due-putting : isSessions (s .settings) table ≡ true → (id : ℕ) (r : List ℕ) → isMissing table id ≡ false
+      → recordValid table (templateOf table id) r ≡ true → length r ≤ maxRecordOctets
+      → not (eqb (judge (checks w table room (put id r) s store)) done) ≡ (leb maxHeld (length (held s store)) || ltb (length store) (octetsIn (held s store) + length r))
+  due-putting t id r m v b =
+      rw (due-put t id r, m, v, le-ltb maxRecordOctets (length r) b)
+      (go (leb maxHeld (length (held s store))) (ltb (length store) (octetsIn (held s store) + length r)))
+    where
+      go : (x y : Bool) → not (eqb (cond x 18 (cond y 19 0)) 0) ≡ x || y
+      go true y = refl
+      go false true = refl
+      go false false = refl
+
+  -- ---- what is claimed of any call
+
+  call-answer : (k : Call) → step w table room k s store .answer ≡ judge (checks w table room k s store)
+  call-answer k = step-answer w table room k s store ∙ answer-checks a table room k
+
+  step-writes : (k : Call)
+      → let o = step w table room k s store in o .written ≡ cond (eqb (o .answer) done) (dueMessage (sessionAt w table s) h k) []
+  unfolding step
+  step-writes k = go (eqb (answer w table room k s store) done) refl
+    where
+      b₀ : ℕ
+      b₀ = answer w table room k s store
+
+      go : (b : Bool) → eqb b₀ done ≡ b
+          → let o = cond b (accepted w table k s store) (refused b₀ s store) in o .written ≡ cond (eqb (o .answer) done) (dueMessage (sessionAt w table s) h k) []
+      go true e = due-written k (sym (answer-checks a table room k) ∙ eqb-true b₀ done e)
+      go false e = rw e refl
+
+  step-releases : (k : Call) → InRange w k → (n : ℕ) → judge (checks w table room k s store) ≡ n → (q : ℕ) → h .ledger .released < q
+      → q ≤ afterCall w (s .settings) k n h .ledger .released → ReleasedBy h k q
+  unfolding afterCall afterAccepted
+  step-releases k i n e q lo hi = go (eqb n done) refl hi
+    where
+      go : (b : Bool) → eqb n done ≡ b → q ≤ cond b (afterAccepted w (s .settings) k h) h .ledger .released → ReleasedBy h k q
+      go true x y =
+          ledger-releases k i (e ∙ eqb-true n done x) q lo
+          (rw (begun-released (changed (s .settings) (deliveryAfter w (s .settings) k (h .ledger) (h .delivery))) (ledgerAfter w (s .settings) k (h .delivery) (h .ledger))) at y)
+      go false x y = let f : ⊥ = omega arith in absurd f
+
+  pub call-claim : isSessions (s .settings) table ≡ true → (k : Call) → InRange w k → Fair k
+      → CallClaim (sessionAt w table s) (length store) room h (held s store) k (step w table room k s store)
+  call-claim t k i f =
+      let o = step w table room k s store in
+      let checked : (j : Call) → k ≡ j → o .answer ≡ done → judge (checks w table room j s store) ≡ done =
+      λ j e x. subst (λ (j : Call). judge (checks w table room j s store) ≡ done) e (sym (call-answer k) ∙ x) in
+      record {
+        answered = call-answer k ∙ due-answer t k i;
+        neverUnsound = λ x. eqb-false (judge (checks w table room k s store)) unsoundState (never-unsound w table room k s store f) (sym (call-answer k) ∙ x);
+        writes = step-writes k;
+        standsFor = λ e x. stands-for (checked nextData e x);
+        accepted = λ e x. next-accepted (checked nextData e x);
+        names = λ v d config e x. names-one v d config (subst (InRange w) e i) (checked (ack v d config) e x);
+        releases = step-releases k i (o .answer) (sym (call-answer k));
+        putting = λ id r e m v b.
+            ap (λ (n : ℕ). not (eqb n done)) (call-answer k)
+            ∙ ap (λ (j : Call). not (eqb (judge (checks w table room j s store)) done)) e
+            ∙ due-putting t id r m v b;
+      }
+
+-- the accepted records are the released ones and the held ones
+pub account-of : {w : ℕ} {h : History} {s : State} {store : List ℕ} → Agrees w h s store → Account (h .ledger) (held s store)
+account-of {w} {h} {s} {store} a =
+    let l = h .ledger in
+    let k = a .core .stock in
+    let n : length (held s store) ≡ s .queue .count = held-length s store 0 (s .queue .count) in
+    let ld : length (drop (l .released) (l .records)) ≡ length (l .records) - l .released = length-drop (l .released) (l .records) in
+    let e : drop (l .released) (l .records) ≡ held s store =
+    ext-getD noEntry (drop (l .released) (l .records)) (held s store) (omega (arith, n, ld, k .counted))
+    (λ i g.
+    let b : i < s .queue .count = omega (arith, ld, k .counted) in
+    getD-drop (l .released) (l .records) i noEntry ∙ held-entry a i b ∙ ap (heldAt s store) (sym (zero-add i)) ∙ sym (held-at s store 0 (s .queue .count) i b)) in
+    record {
+      accounted = sym (take-append-drop (l .released) (l .records)) ∙ ap (λ (t : List Entry). take (l .released) (l .records) ++ t) e;
+      counted = omega (arith, n, k .counted);
+    }

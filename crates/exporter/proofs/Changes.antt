@@ -1,0 +1,146 @@
+-- Calls that change only a state's delivery and S: what they do to a state is what they do to the parts that soundness looks at, applied
+-- to that state. Assumes nothing.
+use mathlib.Core.Path.{_≡_, refl, ap, _∙_}
+use mathlib.Core.Bool.{Bool, true, false, cond, not}
+use mathlib.Core.List.{List, []}
+use Prim.Native.Nat.{ℕ}
+use borrow.Author.Tests.{ne-eqb}
+use lib.Dec.{eqb, leb}
+use lib.ListN.{length}
+use lib.Seq.{sets}
+use Rattle.octets.specs.Answers.{judge, done, unsoundState, noSuchServer}
+use Rattle.exporter.specs.Servers.{chosen, settle, changed, ticked, phaseAt, withServers, Transition, transition}
+use Rattle.exporter.specs.Sound.{sound, partsOf}
+use Rattle.exporter.specs.Steps.{Outcome, Call, tick, step, answer, checks, after, settled, storeAfter, written, tickStep, steppedOf, move, replyTo, transitionChecks, outputAfter, wroteOf}
+use Rattle.exporter.specs.Changes.{changeOf, appliedTo, settledChange, refusedChange}
+use Rattle.exporter.specs.declared.change.Change.{Change}
+use Rattle.exporter.specs.declared.state.Stepped.{Stepped}
+use Rattle.exporter.specs.declared.state.State.{State}
+use Rattle.exporter.specs.declared.state.Wrote.{Wrote}
+use Rattle.exporter.proofs.SoundFacts.{active-same, parts-of}
+
+-- the parts of a state that soundness looks at
+abbrev pub partsIn : State → State
+partsIn s = partsOf (s .settings) (s .capacity) (s .delivery) (s .due) (s .queue .count) (s .queue .lengths) (s .queue .receivers) (s .start)
+
+-- a tick of a sound state, and of any other
+pub tick-sound : (w : ℕ) (s : State) → sound s ≡ true → changeOf (tickStep w s) ≡ settledChange (s .settings) (ticked (s .settings) (s .delivery)) (s .due) 0
+unfolding step answer checks after settled written
+tick-sound w s e = rw e
+
+pub tick-unsound : (w : ℕ) (s : State) → sound s ≡ false → changeOf (tickStep w s) ≡ refusedChange 1 (s .delivery) (s .due)
+unfolding step answer checks
+tick-unsound w s e = rw e
+
+-- a call's outcome, given what the checks answer
+abbrev pub outcomeBy : ℕ → List ℕ → Call → State → List ℕ → ℕ → Outcome
+outcomeBy w table c s store a =
+    cond (eqb a 0)
+    (record { answer = 0; state = settled (after w c s); store = storeAfter c s store; written = written w table c s store })
+    (record { answer = a; state = s; store = store; written = [] })
+
+-- where the active server is the one to be chosen, choosing changes nothing
+pub settled-same : (s : State) → s .delivery .active ≡ chosen (s .settings) (s .delivery) → settled s ≡ s
+unfolding settled settle changed
+settled-same s e = rw (← e, active-same (s .delivery .active))
+
+-- a tick by parts
+pub tick-parts : (w : ℕ) (s : State) → _≡_ {A = Stepped} (record { answer = changeOf (tickStep w (partsIn s)) .answer; state = appliedTo s (changeOf (tickStep w (partsIn s))) }) (steppedOf (tickStep w s))
+unfolding step answer checks after settled written
+tick-parts w s = rw (parts-of s) (go (sound s))
+  where
+    o : State → Bool → Outcome
+    o s b = outcomeBy w [] tick s [] (cond (not b) 1 0)
+
+    go : (b : Bool) → _≡_ {A = Stepped} (record { answer = changeOf (o (partsIn s) b) .answer; state = appliedTo s (changeOf (o (partsIn s) b)) }) (steppedOf (o s b))
+    go true = refl
+    go false = refl
+
+-- ---- calls that are refused, and those that are not
+
+module _ (w : ℕ) (table : List ℕ) (room : ℕ) (c : Call) (s : State) (store : List ℕ) where
+  pub step-refused : (a : ℕ) → (a ≡ done → ⊥) → answer w table room c s store ≡ a
+      → step w table room c s store ≡ record { answer = a; state = s; store = store; written = [] }
+  unfolding step
+  step-refused a h e = rw (e, ne-eqb a done h)
+
+  pub step-done : answer w table room c s store ≡ done
+      → step w table room c s store ≡ record { answer = done; state = settled (after w c s); store = storeAfter c s store; written = written w table c s store }
+  unfolding step
+  step-done e = rw e
+
+-- ---- transitions
+
+module _ (w : ℕ) (table : List ℕ) (room v : ℕ) (t : Transition) (s : State) where
+  -- what a transition is judged by
+  pub move-unsound : sound s ≡ false → answer w table room (move v t) s [] ≡ unsoundState
+  unfolding answer
+  move-unsound e = rw e
+
+  pub move-unknown : sound s ≡ true → leb (s .settings .servers) v ≡ true → answer w table room (move v t) s [] ≡ noSuchServer
+  unfolding answer checks
+  move-unknown e f = rw (e, f)
+
+  pub move-judged : sound s ≡ true → leb (s .settings .servers) v ≡ false
+      → answer w table room (move v t) s [] ≡ judge (transitionChecks (s .settings) table room t (phaseAt (s .delivery .servers) v))
+  unfolding answer checks
+  move-judged e f = rw (e, f)
+
+  move-same : answer w table room (move v t) (partsIn s) [] ≡ answer w table room (move v t) s []
+  unfolding answer checks
+  move-same = rw (parts-of s)
+
+  -- a transition by parts
+  outcome : State → ℕ → Bool → Outcome
+  outcome s a b =
+      cond b
+      (record { answer = done; state = settled (after w (move v t) s); store = []; written = replyTo (s .settings) table t })
+      (record { answer = a; state = s; store = []; written = [] })
+
+  pub move-parts : _≡_ {A = Wrote}
+      (record {
+        answer = changeOf (step w table room (move v t) (partsIn s) []) .answer;
+        written = changeOf (step w table room (move v t) (partsIn s) []) .written;
+        state = appliedTo s (changeOf (step w table room (move v t) (partsIn s) []));
+      })
+      (wroteOf (step w table room (move v t) s []))
+  unfolding step after settled written storeAfter outcome
+  move-parts = rw move-same (go (answer w table room (move v t) s []) (eqb (answer w table room (move v t) s []) done))
+    where
+      go : (a : ℕ) (b : Bool) → _≡_ {A = Wrote}
+          (record {
+            answer = changeOf (outcome (partsIn s) a b) .answer;
+            written = changeOf (outcome (partsIn s) a b) .written;
+            state = appliedTo s (changeOf (outcome (partsIn s) a b));
+          })
+          (wroteOf (outcome s a b))
+      go a true = refl
+      go a false = refl
+
+  pub move-output : (out : List ℕ) → outputAfter out (step w table room (move v t) (partsIn s) []) ≡ outputAfter out (step w table room (move v t) s [])
+  unfolding step written storeAfter outcome
+  move-output out = rw move-same (go (answer w table room (move v t) s []) (eqb (answer w table room (move v t) s []) done))
+    where
+      go : (a : ℕ) (b : Bool) → outputAfter out (outcome (partsIn s) a b) ≡ outputAfter out (outcome s a b)
+      go a true = refl
+      go a false = refl
+
+-- ---- changes, and what they leave of an output
+
+-- a refused call's
+pub refused-change : (w : ℕ) (table : List ℕ) (room : ℕ) (c : Call) (s : State) (out : List ℕ) (a : ℕ) (r : Change)
+    → (a ≡ done → ⊥) → answer w table room c s [] ≡ a → r ≡ refusedChange a (s .delivery) (s .due)
+    → (r ≡ changeOf (step w table room c s [])) × (out ≡ outputAfter out (step w table room c s []))
+refused-change w table room c s out a r h e q = rw (step-refused w table room c s [] a h e) (q, refl)
+
+-- an accepted transition's
+pub moved-change : (w : ℕ) (table : List ℕ) (room v : ℕ) (t : Transition) (s : State) (out left : List ℕ) (n : ℕ) (r : Change)
+    → answer w table room (move v t) s [] ≡ done
+    → n ≡ length (replyTo (s .settings) table t)
+    → left ≡ sets out 0 (replyTo (s .settings) table t)
+    → r ≡ settledChange (s .settings) (withServers (s .delivery) (transition v t (s .delivery .servers))) (s .due) n
+    → (r ≡ changeOf (step w table room (move v t) s [])) × (left ≡ outputAfter out (step w table room (move v t) s []))
+unfolding after settled written
+moved-change w table room v t s out left n r e k l q =
+    rw (step-done w table room (move v t) s [] e)
+    (q ∙ ap (settledChange (s .settings) (withServers (s .delivery) (transition v t (s .delivery .servers))) (s .due)) k, l)

@@ -1,0 +1,147 @@
+-- Laws of the choice of the active server. Assumes nothing.
+use mathlib.Core.Path.{_≡_, refl, sym, ap, _∙_, subst}
+use mathlib.Core.Bool.{Bool, true, false, not, _&&_, cond, false≢true}
+use mathlib.Core.List.{List, [], _∷_}
+use mathlib.Core.Logic.{_≢_}
+use Prim.Native.Nat.{ℕ, zero, suc, _≤_, _<_}
+use native.Mathlib.Decide.{ℕ-discrete}
+use native.Mathlib.Omega.{arith}
+use lib.ListN.{getD, set, replicate}
+use lib.Seq.{getD-set-other}
+use borrow.Author.Tests.{ltb-true, ltb-false}
+use Rattle.exporter.specs.Servers.{server, phaseAt, isAgreed, beats, choose, Best, IsChoice, isNobody, lateServers, anotherAgreed, sameActive, chosen, changed, settle}
+use Rattle.exporter.specs.Sound.{sound}
+use Rattle.exporter.specs.Changes.{Below}
+use Rattle.exporter.specs.declared.state.Phase.the-variants.{Closed, Late}
+use Rattle.exporter.specs.declared.state.Server as serverOf
+use Rattle.exporter.specs.declared.state.Active.{Active}
+use Rattle.exporter.specs.declared.state.Active.the-variants.{Nobody, Server}
+use Rattle.exporter.specs.declared.state.Settings.{Settings}
+use Rattle.exporter.specs.declared.state.Delivery.{Delivery}
+use Rattle.exporter.specs.declared.state.State.{State}
+use Rattle.exporter.proofs.QueueLaws.{last-cases}
+use Rattle.exporter.proofs.SoundFacts.{SoundFacts, same-active, sound-facts}
+
+-- the server to be active is as 01 says it
+pub choice : (priorities : List ℕ) (servers : List serverOf.Server) (n : ℕ) → IsChoice priorities servers n (choose priorities servers n)
+unfolding choose
+choice priorities servers zero = λ u l. absurd (omega arith)
+choice priorities servers (suc n) = go (choose priorities servers n) (choice priorities servers n) (isAgreed (phaseAt servers n)) refl _ refl
+  where
+    agreed : ℕ → Type 0
+    agreed u = isAgreed (phaseAt servers u) ≡ true
+
+    -- a law of the first n servers and of the next one
+    each : (P : ℕ → Type 0) → ((u : ℕ) → u < n → P u) → P n → (u : ℕ) → u < suc n → P u
+    each P h k u l = last-cases P n u (omega (arith, l)) (h u) k
+
+    more : (v : ℕ) → Best priorities servers n v → (agreed n → getD priorities n 0 ≤ getD priorities v 0) → Best priorities servers (suc n) v
+    more v b k =
+        record {
+          inside = omega (arith, b .inside);
+          agreed = b .agreed;
+          highest = each (λ u. agreed u → getD priorities u 0 ≤ getD priorities v 0) (b .highest) k;
+          lowest = b .lowest;
+        }
+
+    new : agreed n → ((u : ℕ) → u < n → agreed u → getD priorities u 0 < getD priorities n 0) → Best priorities servers (suc n) n
+    new a k =
+        record {
+          inside = omega arith;
+          agreed = a;
+          highest = each (λ u. agreed u → getD priorities u 0 ≤ getD priorities n 0) (λ u l x. omega (arith, k u l x)) (λ x. omega arith);
+          lowest = λ u l x e. absurd (omega (arith, k u l x));
+        }
+
+    go : (a : Active) → IsChoice priorities servers n a → (g : Bool) → isAgreed (phaseAt servers n) ≡ g → (t : Bool) → beats priorities n a ≡ t
+        → IsChoice priorities servers (suc n) (cond (g && t) (Server n) a)
+    go Nobody h false p t q = each (λ u. isAgreed (phaseAt servers u) ≡ false) h p
+    go Nobody h true p true q = new p (λ u l x. absurd (false≢true (sym (h u l) ∙ x)))
+    go Nobody h true p false q = absurd (false≢true (sym q))
+    go (Server v) h false p t q = more v h (λ x. absurd (false≢true (sym p ∙ x)))
+    go (Server v) h true p true q = new p (λ u l x. omega (arith, h .highest u l x, ltb-true (getD priorities v 0) (getD priorities n 0) q))
+    go (Server v) h true p false q = more v h (λ x. ltb-false (getD priorities v 0) (getD priorities n 0) q)
+
+-- where none is agreed nobody is chosen; that none is agreed where nobody is chosen is a case of `choice`
+pub nobody-none : (priorities : List ℕ) (servers : List serverOf.Server) (n : ℕ) → ((u : ℕ) → u < n → isAgreed (phaseAt servers u) ≡ false)
+    → choose priorities servers n ≡ Nobody
+nobody-none priorities servers n h = go (choose priorities servers n) refl (choice priorities servers n)
+  where
+    go : (a : Active) → choose priorities servers n ≡ a → IsChoice priorities servers n a → choose priorities servers n ≡ Nobody
+    go Nobody e k = e
+    go (Server v) e k = absurd (false≢true (sym (h v (k .inside)) ∙ k .agreed))
+
+-- who is chosen is one of the servers
+pub chosen-below : (priorities : List ℕ) (servers : List serverOf.Server) (n v : ℕ) → choose priorities servers n ≡ Server v → v < n
+chosen-below priorities servers n v e = subst (IsChoice priorities servers n) e (choice priorities servers n) .inside
+
+-- with v late, v is not agreed, and every other server is as it was
+late-agreed : (servers : List serverOf.Server) (v u : ℕ) → isAgreed (phaseAt (set servers v (server Late)) u) ≡ true
+    → (u ≢ v) × (isAgreed (phaseAt servers u) ≡ true)
+late-agreed servers v u e = go (ℕ-discrete u v)
+  where
+    gone : (xs : List serverOf.Server) (k : ℕ) → isAgreed (phaseAt (set xs k (server Late)) k) ≡ false
+    gone [] k = refl
+    gone (x ∷ xs) zero = refl
+    gone (x ∷ xs) (suc k) = gone xs k
+
+    go : Dec (u ≡ v) → (u ≢ v) × (isAgreed (phaseAt servers u) ≡ true)
+    go (yes q) = absurd (false≢true (sym (gone servers v) ∙ ap (λ (i : ℕ). isAgreed (phaseAt (set servers v (server Late)) i)) (sym q) ∙ e))
+    go (no n) =
+        (n, ap (λ (x : serverOf.Server). isAgreed (x .phase)) (sym (getD-set-other servers v u (server Late) (server Closed) n)) ∙ e)
+
+-- where a tick takes another server to be agreed, one is
+pub another : (p : Settings) (v : ℕ) (d : Delivery) → anotherAgreed p v d ≡ true
+    → (u : ℕ) × ((u < p .servers) × ((u ≢ v) × (isAgreed (phaseAt (d .servers) u) ≡ true)))
+another p v d e = go (choose (p .priorities) late (p .servers)) (choice (p .priorities) late (p .servers)) e
+  where
+    late : List serverOf.Server
+    late = lateServers d v
+
+    go : (a : Active) → IsChoice (p .priorities) late (p .servers) a → not (isNobody a) ≡ true
+        → (u : ℕ) × ((u < p .servers) × ((u ≢ v) × (isAgreed (phaseAt (d .servers) u) ≡ true)))
+    go Nobody k q = absurd (false≢true q)
+    go (Server u) k q = (u, (k .inside, late-agreed (d .servers) v u (k .agreed)))
+
+-- where it takes none to be, none is
+pub no-other : (p : Settings) (v : ℕ) (d : Delivery) → anotherAgreed p v d ≡ false
+    → (u : ℕ) → u < p .servers → u ≢ v → isAgreed (phaseAt (d .servers) u) ≡ false
+no-other p v d e u l n = go (choose (p .priorities) late (p .servers)) (choice (p .priorities) late (p .servers)) e
+  where
+    late : List serverOf.Server
+    late = lateServers d v
+
+    go : (a : Active) → IsChoice (p .priorities) late (p .servers) a → not (isNobody a) ≡ false → isAgreed (phaseAt (d .servers) u) ≡ false
+    go Nobody k q =
+        ap (λ (x : serverOf.Server). isAgreed (x .phase)) (sym (getD-set-other (d .servers) v u (server Late) (server Closed) n)) ∙ k u l
+    go (Server w) k q = absurd (false≢true (sym q))
+
+-- after the choice is made anew it is the servers'
+pub settle-choice : (p : Settings) (d : Delivery) → settle p d .active ≡ chosen p (settle p d)
+unfolding settle changed
+settle-choice p d = go (sameActive (chosen p d) (d .active)) refl
+  where
+    go : (b : Bool) → sameActive (chosen p d) (d .active) ≡ b
+        → let g = cond (not b) (record { servers = d .servers; active = chosen p d; sent = 0; reached = 0; timer = 0 }) d in g .active ≡ chosen p g
+    go true e = sym (same-active (chosen p d) (d .active) e)
+    go false e = refl
+
+-- where every server is closed nobody is chosen
+pub all-closed : (priorities : List ℕ) (m n : ℕ) → choose priorities (replicate m (server Closed)) n ≡ Nobody
+all-closed priorities m n = nobody-none priorities (replicate m (server Closed)) n (λ u l. ap (λ (x : serverOf.Server). isAgreed (x .phase)) (closed m u))
+  where
+    closed : (m n : ℕ) → getD (replicate m (server Closed)) n (server Closed) ≡ server Closed
+    closed zero n = refl
+    closed (suc m) zero = refl
+    closed (suc m) (suc n) = closed m n
+
+-- a sound state's active server is one of eight
+pub active-below : (s : State) → sound s ≡ true → Below 8 (s .delivery .active)
+active-below s e = go (s .delivery .active) refl
+  where
+    f : SoundFacts s
+    f = sound-facts s e
+
+    go : (a : Active) → s .delivery .active ≡ a → Below 8 a
+    go Nobody k = tt
+    go (Server v) k = omega (arith, chosen-below (s .settings .priorities) (s .delivery .servers) (s .settings .servers) v (sym (f .choice) ∙ k), f .numbers .settings .fewServers)

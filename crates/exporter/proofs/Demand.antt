@@ -1,0 +1,372 @@
+-- Demand 3: what is claimed of every list of calls holds, by what holds between the history and the exporter after each of them.
+-- Assumes nothing.
+use mathlib.Core.Path.{_≡_, refl, sym, ap, _∙_, subst}
+use mathlib.Core.Bool.{Bool, true, false, not, cond, false≢true}
+use mathlib.Core.List.{List, [], _∷_, _++_}
+use Prim.Native.Nat.{ℕ, _+_, _-_, _<_}
+use native.Mathlib.Omega.{arith}
+use lib.Dec.{eqb}
+use lib.ListN.{length}
+use Rattle.octets.specs.Answers.{_when_, done, unsoundState, settingsOutsideLimits, otherSession, messageNotAccepted, bodyLengthWrong}
+use Rattle.octets.specs.Numbers.{uintAt, Octets}
+use Rattle.octets.proofs.Numbers.{uint-below}
+use Rattle.wire.specs.Messages.{headerChecks, sessionOf, messageNumber, headerOctets, bodyFits, dataHeadOf, meaningOf}
+use Rattle.wire.specs.Messages as wire
+use Rattle.wire.specs.declared.message.Message.{Message}
+use Rattle.wire.specs.declared.message.Message.the-variants.{Start, StartAck, Stop, StopAck, TmplData, FinalTmplDataAck, StartNegotiate, StartNegotiateAck, Data, DataAck}
+use Rattle.exporter.specs.Servers.{start, stop, negotiate, offer, down, agree, malformed, changed, Transition}
+use Rattle.exporter.specs.Queue.{sumOf, held}
+use Rattle.exporter.specs.Sound.{settingsSound}
+use Rattle.exporter.specs.Steps.{modulus, Call, put, nextData, tick, ack, move, isReceived, formAnswer, callOfMessage, received, written, isSessions, checks, answer, after, settled, storeAfter, Outcome, step, fresh, refusedState, setUp}
+use Rattle.exporter.specs.History.{History, deliveryAfter, ledgerAfter, afterAccepted, afterCall, freshHistory, writtenTo, writtenDuring}
+use Rattle.exporter.specs.Claim.{Event, Put, NextData, Receive, OfferTemplates, LineDown, Tick, Session, Exporter, outcome, storeLeft, advance, run, begin, Heard, callOf, transcript, historyFrom, Premises, InRange, AllInRange, roomOf, nextPlace, CallClaim, namedBy, lastNamed, Calls, historyOf, Demand3, AllOctets, sessionOf32, Demand3Of32}
+use Rattle.exporter.specs.declared.state.Settings.{Settings}
+use Rattle.exporter.specs.declared.state.State.{State}
+use Rattle.exporter.specs.declared.state.Made.{Made}
+use Rattle.exporter.proofs.SoundFacts.{settings-facts}
+use Rattle.exporter.proofs.Places.{wide-modulus, dsn-first}
+use Rattle.exporter.proofs.Agrees.{Agrees}
+use Rattle.exporter.proofs.Choice.{all-closed}
+use Rattle.exporter.proofs.Keeps.{begun-released, written-released}
+use Rattle.exporter.proofs.Calls.{sound-of, step-settings, step-keeps, judge-other, Fair, call-claim, account-of}
+
+-- ---- what a call is lent
+
+-- a call that looks at less than it could be lent does the same with the session's table and with the store
+lent : (w : ℕ) (t t′ : List ℕ) (room : ℕ) (k : Call) (s : State) (st st′ : List ℕ)
+    → answer w t room k s st ≡ answer w t′ room k s st′ → written w t k s st ≡ written w t′ k s st′ → storeAfter k s st′ ≡ st′
+    → let o = step w t room k s st in
+    _≡_ {A = Outcome} (record { answer = o .answer; state = o .state; store = st′; written = o .written }) (step w t′ room k s st′)
+unfolding step
+lent w t t′ room k s st st′ e f g = rw (e, f, g) (go (eqb (answer w t′ room k s st′) done))
+  where
+    a : ℕ
+    a = answer w t′ room k s st′
+
+    x : Outcome
+    x = record { answer = done; state = settled (after w k s); store = storeAfter k s st; written = written w t′ k s st′ }
+
+    go : (b : Bool) → let o = cond b x (record { answer = a; state = s; store = st; written = [] }) in
+        _≡_ {A = Outcome} (record { answer = o .answer; state = o .state; store = st′; written = o .written })
+        (cond b (record { answer = done; state = settled (after w k s); store = st′; written = written w t′ k s st′ }) (record { answer = a; state = s; store = st′; written = [] }))
+    go true = refl
+    go false = refl
+
+-- the calls that a message makes: none of them is lent table or store, and a refusal of its form is not 1
+abbrev MovedBy : Transition → Type 0
+MovedBy start = Unit {0}
+MovedBy stop = Unit {0}
+MovedBy negotiate = Unit {0}
+MovedBy offer = ⊥
+MovedBy down = ⊥
+MovedBy (agree config) = Unit {0}
+MovedBy (malformed a) = eqb a unsoundState ≡ false
+
+abbrev Received : Call → Type 0
+Received (put id r) = ⊥
+Received nextData = ⊥
+Received tick = ⊥
+Received (ack v d config) = Unit {0}
+Received (move v m) = MovedBy m
+
+received-calls : (p : Settings) (v : ℕ) (m : List ℕ) → Received (received p v m)
+unfolding received callOfMessage formAnswer
+received-calls p v m = go (eqb (formAnswer p m) done) (meaningOf m)
+  where
+    go : (b : Bool) (x : Message) → Received (cond b (callOfMessage v x) (move v (malformed (formAnswer p m))))
+    go true (Start s) = tt
+    go true (StartAck s boot) = refl
+    go true (Stop s) = tt
+    go true (StopAck s) = refl
+    go true (TmplData s) = refl
+    go true (FinalTmplDataAck s config) = tt
+    go true (StartNegotiate s) = tt
+    go true (StartNegotiateAck s) = refl
+    go true (Data h) = refl
+    go true (DataAck s dsn config) = tt
+    go false x =
+        judge-other unsoundState
+        (headerChecks m
+        ++ ((otherSession when not (eqb (sessionOf m) (p .session)))
+        ∷ (messageNotAccepted when not (isReceived (messageNumber m)))
+        ∷ (bodyLengthWrong when not (bodyFits (messageNumber m) (length m - headerOctets)))
+        ∷ []))
+        refl
+
+received-fair : (k : Call) → Received k → Fair k
+received-fair (put id r) f = absurd f
+received-fair nextData f = absurd f
+received-fair tick f = absurd f
+received-fair (ack v d config) f = tt
+received-fair (move v start) f = tt
+received-fair (move v stop) f = tt
+received-fair (move v negotiate) f = tt
+received-fair (move v offer) f = absurd f
+received-fair (move v down) f = absurd f
+received-fair (move v (agree config)) f = tt
+received-fair (move v (malformed a)) f = f
+
+received-lent : (w : ℕ) (t : List ℕ) (room : ℕ) (k : Call) (s : State) (st : List ℕ) → Received k
+    → let o = step w [] room k s [] in
+    _≡_ {A = Outcome} (record { answer = o .answer; state = o .state; store = st; written = o .written }) (step w t room k s st)
+unfolding answer checks written storeAfter
+received-lent w t room (put id r) s st f = absurd f
+received-lent w t room nextData s st f = absurd f
+received-lent w t room tick s st f = absurd f
+received-lent w t room (ack v d config) s st f = lent w [] t room (ack v d config) s [] st refl refl refl
+received-lent w t room (move v start) s st f = lent w [] t room (move v start) s [] st refl refl refl
+received-lent w t room (move v stop) s st f = lent w [] t room (move v stop) s [] st refl refl refl
+received-lent w t room (move v negotiate) s st f = lent w [] t room (move v negotiate) s [] st refl refl refl
+received-lent w t room (move v offer) s st f = absurd f
+received-lent w t room (move v down) s st f = absurd f
+received-lent w t room (move v (agree config)) s st f = lent w [] t room (move v (agree config)) s [] st refl refl refl
+received-lent w t room (move v (malformed a)) s st f = lent w [] t room (move v (malformed a)) s [] st refl refl refl
+
+-- what an event leaves, with the store
+abbrev left : Session → Exporter → Event → Outcome
+left z x e =
+    let o = outcome z x e in
+    record { answer = o .answer; state = o .state; store = storeLeft x e o; written = o .written }
+
+-- an event is the step of its call with all that there is
+left-step : (z : Session) (x : Exporter) (e : Event)
+    → left z x e ≡ step (z .width) (z .table) (roomOf e) (callOf (x .state .settings) e) (x .state) (x .store)
+unfolding callOf answer checks written storeAfter
+left-step z x (Put id r) = refl
+left-step z x (NextData out) = lent (z .width) [] (z .table) (length out) nextData (x .state) (x .store) (x .store) refl refl refl
+left-step z x (Receive v m out) =
+    received-lent (z .width) (z .table) (length out) (received (x .state .settings) v m) (x .state) (x .store) (received-calls (x .state .settings) v m)
+left-step z x (OfferTemplates v out) = lent (z .width) (z .table) (z .table) (length out) (move v offer) (x .state) [] (x .store) refl refl refl
+left-step z x (LineDown v) = lent (z .width) [] (z .table) 0 (move v down) (x .state) [] (x .store) refl refl refl
+left-step z x Tick = lent (z .width) [] (z .table) 0 tick (x .state) [] (x .store) refl refl refl
+
+fair : (p : Settings) (e : Event) → Fair (callOf p e)
+unfolding callOf
+fair p (Put id r) = tt
+fair p (NextData out) = tt
+fair p (Receive v m out) = received-fair (received p v m) (received-calls p v m)
+fair p (OfferTemplates v out) = tt
+fair p (LineDown v) = tt
+fair p Tick = tt
+
+-- ---- a list of calls
+
+record Kept (z : Session) (h : History) (x : Exporter) : Type 0 where
+  settings : x .state .settings ≡ z .settings
+  agrees : Agrees (z .width) h (x .state) (x .store)
+
+module _ (z : Session) (wide : 64 < modulus (z .width)) (sessions : isSessions (z .settings) (z .table) ≡ true) where
+  event-step : (x : Exporter) (e : Event) → x .state .settings ≡ z .settings
+      → left z x e ≡ step (z .width) (z .table) (roomOf e) (callOf (z .settings) e) (x .state) (x .store)
+  event-step x e k = left-step z x e ∙ ap (λ (p : Settings). step (z .width) (z .table) (roomOf e) (callOf p e) (x .state) (x .store)) k
+
+  advance-keeps : (x : Exporter) (h : History) (e : Event) → InRange (z .width) (callOf (z .settings) e) → Kept z h x
+      → Kept z (afterCall (z .width) (z .settings) (callOf (z .settings) e) (outcome z x e .answer) h) (advance z x e)
+  unfolding advance
+  advance-keeps x h e i k =
+      let c = callOf (z .settings) e in
+      let q = event-step x e (k .settings) in
+      record {
+        settings = ap (λ (o : Outcome). o .state .settings) q ∙ step-settings (z .width) (z .table) (roomOf e) c (x .state) (x .store) ∙ k .settings;
+        agrees = subst (λ (o : Outcome). Agrees (z .width) (afterCall (z .width) (z .settings) c (o .answer) h) (o .state) (o .store)) (sym q)
+            (subst (λ (p : Settings). let o = step (z .width) (z .table) (roomOf e) c (x .state) (x .store) in Agrees (z .width) (afterCall (z .width) p c (o .answer) h) (o .state) (o .store)) (k .settings)
+            (step-keeps (z .width) (z .table) (roomOf e) h (x .state) (x .store) wide (k .agrees) c i));
+      }
+
+  claim-of : (x : Exporter) (h : History) (e : Event) → InRange (z .width) (callOf (z .settings) e) → Kept z h x
+      → CallClaim z (length (x .store)) (roomOf e) h (held (x .state) (x .store)) (callOf (z .settings) e) (outcome z x e)
+  claim-of x h e i k =
+      let c = callOf (z .settings) e in
+      let y : CallClaim z (length (x .store)) (roomOf e) h (held (x .state) (x .store)) c (left z x e) =
+      subst (CallClaim z (length (x .store)) (roomOf e) h (held (x .state) (x .store)) c) (sym (event-step x e (k .settings)))
+      (subst (λ (p : Settings). CallClaim (record { width = z .width; settings = p; table = z .table }) (length (x .store)) (roomOf e) h (held (x .state) (x .store)) c (step (z .width) (z .table) (roomOf e) c (x .state) (x .store))) (k .settings)
+      (call-claim (z .width) (z .table) (roomOf e) h (x .state) (x .store) wide (k .agrees)
+      (subst (λ (p : Settings). isSessions p (z .table) ≡ true) (sym (k .settings)) sessions) c i (fair (z .settings) e))) in
+      record {
+        answered = y .answered;
+        neverUnsound = y .neverUnsound;
+        writes = y .writes;
+        standsFor = y .standsFor;
+        accepted = y .accepted;
+        names = y .names;
+        releases = y .releases;
+        putting = y .putting;
+      }
+
+  run-keeps : (x : Exporter) (h : History) (es : List Event) → AllInRange z es → Kept z h x
+      → Kept z (historyFrom (z .width) (z .settings) h (transcript z x es)) (run z x es)
+  unfolding run transcript historyFrom
+  run-keeps x h [] i k = k
+  run-keeps x h (e ∷ es) i k =
+      run-keeps (advance z x e) (afterCall (z .width) (z .settings) (callOf (z .settings) e) (outcome z x e .answer) h) es (i .1) (advance-keeps x h e (i .0) k)
+
+  each-call : (x : Exporter) (h : History) (es : List Event) → AllInRange z es → Kept z h x → Calls z x h es
+  each-call x h [] i k = tt
+  each-call x h (e ∷ es) i k = (
+    claim-of x h e (i .0) k,
+    each-call (advance z x e) (afterCall (z .width) (z .settings) (callOf (z .settings) e) (outcome z x e .answer) h) es (i .1) (advance-keeps x h e (i .0) k),
+  )
+
+-- the number released is the place named last
+released-by : (w : ℕ) (p : Settings) (k : Call) (n : ℕ) (h : History)
+    → afterCall w p k n h .ledger .released ≡ namedBy w p (h .ledger) k n (h .ledger .released)
+unfolding afterCall afterAccepted ledgerAfter
+released-by w p k n h = go (eqb n done) refl k
+  where
+    after-choice : (k : Call) → afterAccepted w p k h .ledger .released ≡ ledgerAfter w p k (h .delivery) (h .ledger) .released
+    after-choice k = begun-released (changed p (deliveryAfter w p k (h .ledger) (h .delivery))) (ledgerAfter w p k (h .delivery) (h .ledger))
+
+    go : (b : Bool) → eqb n done ≡ b → (k : Call) → cond b (afterAccepted w p k h) h .ledger .released ≡ namedBy w p (h .ledger) k n (h .ledger .released)
+    go true e (put id r) = after-choice (put id r)
+    go true e nextData = after-choice nextData ∙ written-released (h .delivery .active) (nextPlace h) (h .ledger)
+    go true e tick = after-choice tick
+    go true e (ack v d config) = after-choice (ack v d config) ∙ rw e refl
+    go true e (move v m) = after-choice (move v m)
+    go false e (put id r) = refl
+    go false e nextData = refl
+    go false e tick = refl
+    go false e (ack v d config) = rw e refl
+    go false e (move v m) = refl
+
+last-named : (w : ℕ) (p : Settings) (h : History) (r : ℕ) (ks : List Heard) → h .ledger .released ≡ r
+    → historyFrom w p h ks .ledger .released ≡ lastNamed w p h r ks
+unfolding historyFrom lastNamed
+last-named w p h r [] e = e
+last-named w p h r (k ∷ ks) e =
+    last-named w p (afterCall w p (k .call) (k .answer) h) (namedBy w p (h .ledger) (k .call) (k .answer) r) ks
+    (released-by w p (k .call) (k .answer) h ∙ ap (namedBy w p (h .ledger) (k .call) (k .answer)) e)
+
+-- ---- set-up
+
+record Accepted (p : Settings) (room : ℕ) : Type 0 where
+  limits : settingsSound p room ≡ true
+  state : setUp p room .state ≡ fresh p room
+
+set-up : (p : Settings) (room : ℕ) → setUp p room .answer ≡ done → Accepted p room
+unfolding setUp
+set-up p room e = go (settingsSound p room) refl e
+  where
+    go : (b : Bool) → settingsSound p room ≡ b → cond {A = Made} b (record { answer = done; state = fresh p room }) (record { answer = settingsOutsideLimits; state = refusedState }) .answer ≡ done → Accepted p room
+    go true x y = record { limits = x; state = rw x refl }
+    go false x y = let z : ⊥ = omega arith in absurd z
+
+fresh-agrees : (w : ℕ) (p : Settings) (store : List ℕ) → 64 < modulus w → settingsSound p (length store) ≡ true → p .initial < modulus w
+    → Agrees w freshHistory (fresh p (length store)) store
+unfolding fresh freshHistory writtenTo writtenDuring sumOf
+fresh-agrees w p store wide e i =
+    let f = settings-facts p (length store) e in
+    record {
+      delivery = refl;
+      choice = sym (all-closed (p .priorities) 8 (p .servers));
+      core = record {
+        limits = f;
+        stock = record {
+          stored = refl;
+          lengths = refl;
+          templates = refl;
+          receivers = refl;
+          few = omega arith;
+          counted = refl;
+          same = λ j h. let y : ⊥ = omega arith in absurd y;
+          short = λ j h. let y : ⊥ = omega arith in absurd y;
+          fits = omega arith;
+          inside = omega (arith, f .someRoom);
+          following = dsn-first w p wide i;
+          marks = λ j v h. let y : ⊥ = omega arith in absurd y;
+          known = λ j h. let y : ⊥ = omega arith in absurd y;
+          places = λ k v h. refl;
+          existing = λ k v x. absurd (false≢true x);
+        };
+        reached = omega arith;
+        sent = omega arith;
+        timer = omega (arith, f .someDuration);
+        idle = λ x. refl;
+        rest = λ x. refl;
+        below = λ v x. let y : _≡_ {A = ℕ} 0 1 = cc in omega arith;
+        due = λ x. refl;
+        starts = refl;
+        later = λ k h. refl;
+        since = λ v k x lo hi. let y : ⊥ = omega arith in absurd y;
+      };
+    }
+
+begin-kept : (z : Session) (store : List ℕ) → Premises z store → Kept z freshHistory (begin z store)
+unfolding begin fresh
+begin-kept z store m =
+    let a = set-up (z .settings) (length store) (m .accepted) in
+    record {
+      settings = ap (λ (s : State). s .settings) (a .state);
+      agrees = subst (λ (s : State). Agrees (z .width) freshHistory s store) (sym (a .state))
+          (fresh-agrees (z .width) (z .settings) store (wide-modulus (z .width) (m .wide)) (a .limits) (m .initial));
+    }
+
+-- ---- the claim
+
+pub demand3 : Demand3
+unfolding freshHistory
+demand3 z store m es i =
+    let wide : 64 < modulus (z .width) = wide-modulus (z .width) (m .wide) in
+    let k : Kept z freshHistory (begin z store) = begin-kept z store m in
+    let c : Kept z (historyOf z store es) (run z (begin z store) es) = run-keeps z wide (m .table) (begin z store) freshHistory es i k in
+    record {
+      account = account-of (c .agrees);
+      last = last-named (z .width) (z .settings) freshHistory 0 (transcript z (begin z store) es) refl;
+      calls = each-call z wide (m .table) (begin z store) freshHistory es i k;
+      isSound = sound-of (c .agrees);
+      settings = c .settings;
+      stored = c .agrees .core .stock .stored;
+      agrees = c .agrees .delivery;
+    }
+
+-- ---- 32 bits
+
+-- a DATA ACK read from octets has a DSN of 32 bits
+meaning-range : (v : ℕ) (m : List ℕ) → Octets m → InRange 32 (callOfMessage v (meaningOf m))
+unfolding meaningOf callOfMessage
+meaning-range v m o =
+    let n = messageNumber m in
+    go (eqb n wire.start) (eqb n wire.startAck) (eqb n wire.stop) (eqb n wire.stopAck) (eqb n wire.tmplData) (eqb n wire.finalTmplDataAck) (eqb n wire.startNegotiate) (eqb n wire.startNegotiateAck) (eqb n wire.dataNumber)
+  where
+    go : (b₁ b₂ b₃ b₄ b₅ b₆ b₇ b₈ b₉ : Bool) → let s = sessionOf m in InRange 32 (callOfMessage v
+        (cond b₁ (Start s)
+        (cond b₂ (StartAck s (uintAt m 8 4))
+        (cond b₃ (Stop s)
+        (cond b₄ (StopAck s)
+        (cond b₅ (TmplData s)
+        (cond b₆ (FinalTmplDataAck s (uintAt m 8 1))
+        (cond b₇ (StartNegotiate s)
+        (cond b₈ (StartNegotiateAck s)
+        (cond b₉ (Data (dataHeadOf m))
+        (DataAck s (uintAt m 8 4) (uintAt m 12 1))))))))))))
+    go true b₂ b₃ b₄ b₅ b₆ b₇ b₈ b₉ = tt
+    go false true b₃ b₄ b₅ b₆ b₇ b₈ b₉ = tt
+    go false false true b₄ b₅ b₆ b₇ b₈ b₉ = tt
+    go false false false true b₅ b₆ b₇ b₈ b₉ = tt
+    go false false false false true b₆ b₇ b₈ b₉ = tt
+    go false false false false false true b₇ b₈ b₉ = tt
+    go false false false false false false true b₈ b₉ = tt
+    go false false false false false false false true b₉ = tt
+    go false false false false false false false false true = tt
+    go false false false false false false false false false = uint-below m o 8 4
+
+received-range : (p : Settings) (v : ℕ) (m : List ℕ) → Octets m → InRange 32 (received p v m)
+unfolding received
+received-range p v m o = go (eqb (formAnswer p m) done)
+  where
+    go : (b : Bool) → InRange 32 (cond b (callOfMessage v (meaningOf m)) (move v (malformed (formAnswer p m))))
+    go true = meaning-range v m o
+    go false = tt
+
+all-in-range : (p : Settings) (table : List ℕ) (es : List Event) → AllOctets es → AllInRange (sessionOf32 p table) es
+unfolding callOf
+all-in-range p table [] o = tt
+all-in-range p table (Put id r ∷ es) o = (tt, all-in-range p table es o)
+all-in-range p table (NextData out ∷ es) o = (tt, all-in-range p table es o)
+all-in-range p table (Receive v m out ∷ es) o = (received-range p v m (o .0), all-in-range p table es (o .1))
+all-in-range p table (OfferTemplates v out ∷ es) o = (tt, all-in-range p table es o)
+all-in-range p table (LineDown v ∷ es) o = (tt, all-in-range p table es o)
+all-in-range p table (Tick ∷ es) o = (tt, all-in-range p table es o)
+
+pub demand3of32 : Demand3Of32
+demand3of32 p table store a t i es o =
+    demand3 (sessionOf32 p table) store (record { wide = omega arith; accepted = a; table = t; initial = i }) es (all-in-range p table es o)

@@ -1,0 +1,208 @@
+-- Laws of the queue: sums and entries after a put and after a release, sets of servers, and the list of held records. Assumes nothing.
+use mathlib.Core.Path.{_≡_, refl, sym, ap, _∙_}
+use mathlib.Core.Logic.{_≢_}
+use mathlib.Core.Bool.{Bool, true, false, not, _&&_, _||_, false≢true}
+use mathlib.Core.List.{List, [], _∷_}
+use Prim.Native.Nat.{ℕ, zero, suc, _+_, _-_, _/_, _%_, _^_, _≤_, _<_}
+use native.Mathlib.Nat.{add-zero, div-self, div-eq-of-lt, zero-div, mul-div-cancel, mul-mod-left, pow-suc}
+use native.Mathlib.Decide.{decLt, ℕ-discrete}
+use native.Mathlib.Omega.{arith}
+use lib.Bits.{bitOr, or-shr, or-mod, or-zero-r}
+use lib.Dec.{eqb}
+use lib.ListN.{length, getD, set, take, drop, replicate, length-append, length-drop, length-replicate, List·getD-append}
+use lib.Pow.{pow-pos, pow-lt, pow-add}
+use lib.Seq.{getD-set-same, getD-set-other, getD-drop, take-append-le, take-add, take-set-le}
+use borrow.Author.Tests.{eqb-true, eqb-false, eq-eqb, ne-eqb, not-true}
+use Rattle.wire.proofs.Each.{and-left, and-right}
+use Rattle.exporter.specs.Queue.{Entry, sumOf, has, with, hasOther, shifted, recordAt, heldFrom}
+use Rattle.exporter.specs.History.{Writing, writtenTo}
+use Rattle.exporter.specs.Claim.{writtenToOther, octetsIn}
+use Rattle.exporter.specs.declared.state.State.{State}
+use Rattle.exporter.proofs.Arrays.{sum-append, sum-more}
+use Rattle.exporter.proofs.Rings.{read-length}
+
+-- ---- bools
+
+pub or-elim : {X : Type 0} (a b : Bool) → a || b ≡ true → (a ≡ true → X) → (b ≡ true → X) → X
+or-elim true b e f g = f refl
+or-elim false b e f g = g e
+
+pub or-right : (a b : Bool) → b ≡ true → a || b ≡ true
+or-right true b e = refl
+or-right false b e = e
+
+-- bools that hold together are equal
+pub iff-same : (a b : Bool) → (a ≡ true → b ≡ true) → (b ≡ true → a ≡ true) → a ≡ b
+iff-same true b f g = sym (f refl)
+iff-same false true f g = g refl
+iff-same false false f g = refl
+
+-- ---- entries
+
+-- below n + 1 is below n, or n
+pub last-cases : (P : ℕ → Type 0) (n i : ℕ) → i < n + 1 → (i < n → P i) → P n → P i
+last-cases P n i h f g = go (decLt i n)
+  where
+    go : Dec (i < n) → P i
+    go (yes l) = f l
+    go (no l) = let e : i ≡ n = omega arith in rw e g
+
+-- an entry of a list with entry k replaced
+pub set-cases : {A : Type 0} (xs : List A) (x d : A) (P : ℕ → A → Type 0) (k : ℕ) → k < length xs → (i : ℕ)
+    → (i ≢ k → P i (getD xs i d)) → P k x → P i (getD (set xs k x) i d)
+set-cases xs x d P k h i f g = go (ℕ-discrete i k)
+  where
+    go : Dec (i ≡ k) → P i (getD (set xs k x) i d)
+    go (yes e) = rw (e, getD-set-same xs k x d h) g
+    go (no n) = rw (getD-set-other xs k i x d n) (f n)
+
+-- after a release of n
+pub shifted-length : (xs : List ℕ) (n : ℕ) → n ≤ length xs → length (shifted xs n) ≡ length xs
+shifted-length xs n h = omega (arith, length-append (drop n xs) (replicate n 0), length-drop n xs, length-replicate {A = ℕ} n 0)
+
+pub shifted-at : (xs : List ℕ) (n i : ℕ) → n + i < length xs → getD (shifted xs n) i 0 ≡ getD xs (n + i) 0
+shifted-at xs n i h = List·getD-append (drop n xs) (replicate n 0) 0 i (omega (arith, length-drop n xs)) ∙ getD-drop n xs i 0
+
+-- ---- sums
+
+-- an entry fits into the sum
+pub sum-upto : (xs : List ℕ) (i n : ℕ) → i < n → n ≤ length xs → sumOf (take i xs) + getD xs i 0 ≤ sumOf (take n xs)
+unfolding sumOf
+sum-upto [] i n h l = let z : ⊥ = omega arith in absurd z
+sum-upto (x ∷ xs) i zero h l = let z : ⊥ = omega arith in absurd z
+sum-upto (x ∷ xs) zero (suc n) h l = omega arith
+sum-upto (x ∷ xs) (suc i) (suc n) h l = omega (arith, sum-upto xs i n (omega arith) (omega arith))
+
+-- after a put at place k
+pub sum-set : (xs : List ℕ) (k x i : ℕ) → i ≤ k → sumOf (take i (set xs k x)) ≡ sumOf (take i xs)
+sum-set xs k x i h = ap sumOf (take-set-le i xs k x h)
+
+-- after a release of n
+pub sum-shifted : (xs : List ℕ) (n i : ℕ) → n + i ≤ length xs → sumOf (take n xs) + sumOf (take i (shifted xs n)) ≡ sumOf (take (n + i) xs)
+sum-shifted xs n i h =
+    rw (take-append-le i (drop n xs) (replicate n 0) (simp length-drop (omega arith)), take-add n i xs)
+    (sym (sum-append (take n xs) (take i (drop n xs))))
+
+-- ---- sets of servers
+
+-- bit j of 2 to the v
+bit-same : (j : ℕ) → 2 ^ j / 2 ^ j % 2 ≡ 1
+bit-same j = ap (λ (x : ℕ). x % 2) (div-self (pow-pos j))
+
+bit-other : (v j : ℕ) → v ≢ j → 2 ^ v / 2 ^ j % 2 ≡ 0
+bit-other v j n = go (decLt v j)
+  where
+    go : Dec (v < j) → 2 ^ v / 2 ^ j % 2 ≡ 0
+    go (yes l) = ap (λ (x : ℕ). x % 2) (div-eq-of-lt (pow-lt l))
+    go (no l) =
+        let k : ℕ = v - suc j in
+        let e : v ≡ suc k + j = omega arith in
+        ap (λ (x : ℕ). 2 ^ x / 2 ^ j % 2) e
+        ∙ ap (λ (x : ℕ). x / 2 ^ j % 2) (pow-add 2 (suc k) j)
+        ∙ ap (λ (x : ℕ). x % 2) (mul-div-cancel (2 ^ suc k) (pow-pos j))
+        ∙ ap (λ (x : ℕ). x % 2) (pow-suc 2 k)
+        ∙ mul-mod-left (2 ^ k) 2
+
+or-one : (x : ℕ) → x < 2 → bitOr x 1 ≡ 1
+or-one zero h = refl
+or-one (suc zero) h = refl
+or-one (suc (suc x)) h = let z : ⊥ = omega arith in absurd z
+
+-- a set with one more server
+pub has-with : (m v j : ℕ) → has (with m v) j ≡ eqb v j || has m j
+unfolding has
+has-with m v j =
+    ap (λ (x : ℕ). eqb (x % 2) 1) (or-shr m (2 ^ v) j)
+    ∙ ap (λ (x : ℕ). eqb x 1) (or-mod (m / 2 ^ j) (2 ^ v / 2 ^ j) 1)
+    ∙ go (ℕ-discrete v j)
+  where
+    go : Dec (v ≡ j) → eqb (bitOr (m / 2 ^ j % 2) (2 ^ v / 2 ^ j % 2)) 1 ≡ eqb v j || eqb (m / 2 ^ j % 2) 1
+    go (yes e) = rw (e, bit-same j, or-one (m / 2 ^ j % 2) (omega arith), eq-eqb j j refl)
+    go (no n) = rw (bit-other v j n, or-zero-r (m / 2 ^ j % 2), ne-eqb v j n)
+
+-- nobody is in the set 0
+pub has-zero : (j : ℕ) → has 0 j ≡ false
+unfolding has
+has-zero j = rw (zero-div (2 ^ j))
+
+-- a server other than v that is in the set
+other-some : (n v m : ℕ) → hasOther n v m ≡ true → (u : ℕ) × (u ≢ v) × (has m u ≡ true)
+unfolding hasOther
+other-some zero v m e = absurd (false≢true e)
+other-some (suc n) v m e =
+    or-elim (not (eqb n v) && has m n) (hasOther n v m) e
+    (λ z. (n, eqb-false n v (not-true (eqb n v) (and-left (not (eqb n v)) (has m n) z)), and-right (not (eqb n v)) (has m n) z))
+    (other-some n v m)
+
+other-found : (n v m u : ℕ) → u < n → u ≢ v → has m u ≡ true → hasOther n v m ≡ true
+unfolding hasOther
+other-found zero v m u h k e = let z : ⊥ = omega arith in absurd z
+other-found (suc n) v m u h k e = go (ℕ-discrete u n) (λ b. other-found n v m u b k e)
+  where
+    go : Dec (u ≡ n) → (u < n → hasOther n v m ≡ true) → (not (eqb n v) && has m n) || hasOther n v m ≡ true
+    go (yes z) ih = rw (ne-eqb n v (λ y. k (z ∙ y)), ← z, e)
+    go (no z) ih = or-right (not (eqb n v) && has m n) (hasOther n v m) (ih (omega arith))
+
+-- a server other than v that place q was written to
+written-other-some : (ws : List Writing) (q v : ℕ) → writtenToOther ws q v ≡ true → (u : ℕ) × (u ≢ v) × (writtenTo ws q u ≡ true)
+unfolding writtenToOther writtenTo
+written-other-some [] q v e = absurd (false≢true e)
+written-other-some (x ∷ ws) q v e =
+    or-elim (eqb (x .place) q && not (eqb (x .server) v)) (writtenToOther ws q v) e
+    (λ z. (
+      x .server,
+      eqb-false (x .server) v (not-true (eqb (x .server) v) (and-right (eqb (x .place) q) (not (eqb (x .server) v)) z)),
+      rw (and-left (eqb (x .place) q) (not (eqb (x .server) v)) z, eq-eqb (x .server) (x .server) refl) refl,
+    ))
+    (λ z. let y = written-other-some ws q v z in (y .0, y .1, or-right (eqb (x .place) q && eqb (x .server) (y .0)) (writtenTo ws q (y .0)) (y .2)))
+
+written-other-found : (ws : List Writing) (q v u : ℕ) → u ≢ v → writtenTo ws q u ≡ true → writtenToOther ws q v ≡ true
+unfolding writtenToOther writtenTo
+written-other-found [] q v u n e = absurd (false≢true e)
+written-other-found (x ∷ ws) q v u n e =
+    or-elim (eqb (x .place) q && eqb (x .server) u) (writtenTo ws q u) e
+    (λ z.
+    let su : x .server ≡ u = eqb-true (x .server) u (and-right (eqb (x .place) q) (eqb (x .server) u) z) in
+    rw (and-left (eqb (x .place) q) (eqb (x .server) u) z, ne-eqb (x .server) v (λ y. n (sym su ∙ y))) refl)
+    (λ z. or-right (eqb (x .place) q && not (eqb (x .server) v)) (writtenToOther ws q v) (written-other-found ws q v u n z))
+
+-- where the set has the servers that place q was written to, D is the same by both
+pub duplicate-same : (n v m : ℕ) (ws : List Writing) (q : ℕ) → ((u : ℕ) → has m u ≡ writtenTo ws q u) → ((u : ℕ) → writtenTo ws q u ≡ true → u < n)
+    → hasOther n v m ≡ writtenToOther ws q v
+duplicate-same n v m ws q same below =
+    iff-same (hasOther n v m) (writtenToOther ws q v)
+    (λ e. let y = other-some n v m e in written-other-found ws q v (y .0) (y .1) (sym (same (y .0)) ∙ y .2))
+    (λ e. let y = written-other-some ws q v e in other-found n v m (y .0) (below (y .0) (y .2)) (y .1) (same (y .0) ∙ y .2))
+
+-- ---- the held records
+
+abbrev pub noEntry : Entry
+noEntry = record { template = 0; octets = [] }
+
+-- the record at place i of the queue
+abbrev pub heldAt : State → List ℕ → ℕ → Entry
+heldAt s store i = record { template = getD (s .queue .templates) i 0; octets = recordAt s store i }
+
+pub held-length : (s : State) (store : List ℕ) (i n : ℕ) → length (heldFrom s store i n) ≡ n
+unfolding heldFrom
+held-length s store i zero = refl
+held-length s store i (suc n) = ap suc (held-length s store (i + 1) n)
+
+pub held-at : (s : State) (store : List ℕ) (i n j : ℕ) → j < n → getD (heldFrom s store i n) j noEntry ≡ heldAt s store (i + j)
+unfolding heldFrom
+held-at s store i zero j h = let z : ⊥ = omega arith in absurd z
+held-at s store i (suc n) zero h = rw add-zero refl
+held-at s store i (suc n) (suc j) h =
+    let e : i + 1 + j ≡ i + suc j = omega arith in
+    rw (← e) (held-at s store (i + 1) n j (omega arith))
+
+pub held-octets : (s : State) (store : List ℕ) (i n : ℕ) → i + n ≤ length (s .queue .lengths)
+    → sumOf (take i (s .queue .lengths)) + octetsIn (heldFrom s store i n) ≡ sumOf (take (i + n) (s .queue .lengths))
+unfolding heldFrom octetsIn recordAt
+held-octets s store i zero h = rw (add-zero i) (omega arith)
+held-octets s store i (suc n) h =
+    let xs = s .queue .lengths in
+    let e : i + 1 + n ≡ i + suc n = omega arith in
+    let o : ℕ = octetsIn (heldFrom s store (i + 1) n) in
+    rw (read-length, ← e, ← held-octets s store (i + 1) n (omega arith))
+    (omega (arith, sum-more xs i (omega arith)))

@@ -1,0 +1,152 @@
+-- Laws of sending the next record. Assumes nothing.
+use mathlib.Core.Path.{_≡_, refl, sym, ap, _∙_}
+use mathlib.Core.Bool.{Bool, true, false, cond, not, _&&_}
+use mathlib.Core.List.{List, [], _∷_}
+use Prim.Native.Nat.{ℕ, _+_, _-_, _%_, _≤_, _<_}
+use native.Mathlib.Nat.{mod-eq-of-lt, add-mod-right, mod-mod}
+use native.Mathlib.Omega.{arith}
+use borrow.Author.Tests.{not-false, eq-eqb, eqb-true, leb-false, lt-leb, le-ltb, lt-ltb, ltb-true, ltb-false}
+use lib.Dec.{eqb, leb, ltb}
+use lib.ListN.{length, getD}
+use lib.Seq.{sets}
+use Rattle.octets.specs.Answers.{Check, _when_, judge, unsoundState, outputTooShort, noActiveServer, nothingToSend}
+use Rattle.octets.proofs.Judging.{passed, judged-first}
+use Rattle.octets.proofs.Stores.{put-fits, put-short}
+use Rattle.wire.proofs.Each.{and-left, and-right}
+use Rattle.wire.specs.Messages.{Placed, layoutOf, dataHeadOctets, headWriteAnswer, headWriteOf, headWriteOut}
+use Rattle.wire.specs.declared.message.Message.the-variants.{Data}
+use Rattle.wire.specs.declared.message.DataHead.{DataHead}
+use Rattle.wire.specs.declared.message.Written.{Written}
+use Rattle.wire.specs.declared.message.Written.the-variants.{Octets, Refused}
+use Rattle.exporter.specs.Servers.{isNobody}
+use Rattle.exporter.specs.Queue.{ringRead, recordAt, octetsTo}
+use Rattle.exporter.specs.Sound.{sound}
+use Rattle.exporter.specs.Steps.{headOf, nextData, answer, checks, after, settled, written, nextDataStep, wroteOf, outputAfter}
+use Rattle.exporter.specs.declared.state.State.{State}
+use Rattle.exporter.specs.declared.state.Wrote.{Wrote}
+use Rattle.exporter.proofs.Rings.{read-same}
+use Rattle.exporter.proofs.SoundFacts.{parts-of}
+use Rattle.exporter.proofs.Changes.{partsIn, step-done, step-refused}
+
+-- ---- writing a head for a record of at most 1,024 octets
+
+-- it was written: the whole message fits
+pub head-octets : (n room k : ℕ) → n ≤ 1024 → headWriteOf n room ≡ Octets k → (k ≡ 16 + n) × (16 + n ≤ room)
+unfolding headWriteOf headWriteAnswer
+head-octets n room k h e = go (ltb room (16 + n)) refl (rw (le-ltb 1024 n h) at e)
+  where
+    go : (b : Bool) → ltb room (16 + n) ≡ b → cond (eqb (cond b 12 0) 0) (Octets (16 + n)) (Refused (cond b 12 0)) ≡ Octets k → (k ≡ 16 + n) × (16 + n ≤ room)
+    go true t x = let z : _≡_ {A = ℕ} 0 1 = cc in absurd (omega arith)
+    go false t x = (cc, ltb-false room (16 + n) t)
+
+-- it was refused: the output is too short
+pub head-refused : (n room a : ℕ) → n ≤ 1024 → headWriteOf n room ≡ Refused a → (a ≡ 12) × (room < 16 + n)
+unfolding headWriteOf headWriteAnswer
+head-refused n room a h e = go (ltb room (16 + n)) refl (rw (le-ltb 1024 n h) at e)
+  where
+    go : (b : Bool) → ltb room (16 + n) ≡ b → cond (eqb (cond b 12 0) 0) (Octets (16 + n)) (Refused (cond b 12 0)) ≡ Refused a → (a ≡ 12) × (room < 16 + n)
+    go true t x = (cc, ltb-true room (16 + n) t)
+    go false t x = let z : _≡_ {A = ℕ} 0 1 = cc in absurd (omega arith)
+
+pub head-out : (h : DataHead) (n : ℕ) (out : List ℕ) → n ≤ 1024 → 16 + n ≤ length out → headWriteOut h n out ≡ sets out 0 (dataHeadOctets h n)
+unfolding headWriteOut headWriteAnswer
+head-out h n out l r = rw (le-ltb 1024 n l, le-ltb (length out) (16 + n) r)
+
+pub head-kept : (h : DataHead) (n : ℕ) (out : List ℕ) → n ≤ 1024 → length out < 16 + n → headWriteOut h n out ≡ out
+unfolding headWriteOut headWriteAnswer
+head-kept h n out l r = rw (le-ltb 1024 n l, lt-ltb (length out) (16 + n) r)
+
+-- ---- places in the store
+
+-- a place up to one store's length past the end, brought back into the store
+pub place-back : (at room : ℕ) → room ≤ at → at < room + room → at - room ≡ at % room
+place-back at room l h =
+    let e : at - room + room ≡ at = omega arith in
+    sym (mod-eq-of-lt {n = at - room} {m = room} (omega arith)) ∙ sym (add-mod-right (at - room) room) ∙ ap (λ (n : ℕ). n % room) e
+
+-- ---- the call
+
+-- where there is a record to send and a server to send it to, only the output's room is judged
+pub record SendFacts (s : State) (store : List ℕ) : Type 0 where
+  pub isSound : sound s ≡ true
+  pub stored : length store ≡ s .capacity
+  pub some : isNobody (s .delivery .active) ≡ false
+  pub more : s .delivery .sent < s .queue .count
+
+-- what is judged before the room
+abbrev sendChecks : State → List ℕ → List Check
+sendChecks s store =
+    (unsoundState when not (sound (partsIn s) && eqb (length store) (s .capacity)))
+    ∷ (noActiveServer when isNobody (s .delivery .active))
+    ∷ (nothingToSend when leb (s .queue .count) (s .delivery .sent))
+    ∷ []
+
+abbrev pub sendAnswer : State → List ℕ → ℕ
+sendAnswer s store =
+    judge (sendChecks s store)
+
+pub send-facts : (s : State) (store : List ℕ) → sendAnswer s store ≡ 0 → SendFacts s store
+send-facts s store e =
+    let p = passed (sendChecks s store) tt e in
+    let both = not-false (sound (partsIn s) && eqb (length store) (s .capacity)) (p .0) in
+    record {
+      isSound = sym (parts-of s) ∙ and-left (sound (partsIn s)) _ both;
+      stored = eqb-true (length store) (s .capacity) (and-right (sound (partsIn s)) _ both);
+      some = p .1 .0;
+      more = leb-false (s .queue .count) (s .delivery .sent) (p .1 .1 .0);
+    }
+
+-- a refusal before the room is judged is the call's
+pub send-refused : (s : State) (store out : List ℕ) → (sendAnswer s store ≡ 0 → ⊥) → sendAnswer s store ≡ answer 32 [] (length out) nextData s store
+unfolding answer checks
+send-refused s store out n = sym (judged-first (sendChecks s store) ((outputTooShort when ltb (length out) (length (written 32 [] nextData s store))) ∷ []) n) ∙ rw (parts-of s)
+
+answer-room : (s : State) (store out : List ℕ) → SendFacts s store
+    → answer 32 [] (length out) nextData s store ≡ cond (ltb (length out) (length (written 32 [] nextData s store))) 12 0
+unfolding answer checks
+answer-room s store out f =
+    rw (f .isSound, eq-eqb (length store) (s .capacity) (f .stored), f .some, lt-leb (s .queue .count) (s .delivery .sent) (f .more))
+
+-- the octets of the next DATA, where the record is read from a place inside the store
+pub next-octets : (s : State) (store : List ℕ) (h : DataHead) (room at : ℕ) → h ≡ headOf 32 s → room ≡ s .capacity
+    → at ≡ (s .start + octetsTo (s .queue) (s .delivery .sent)) % s .capacity → s .start < s .capacity
+    → layoutOf (Data h) (ringRead room store at (getD (s .queue .lengths) (s .delivery .sent) 0)) ≡ written 32 [] nextData s store
+unfolding written recordAt
+next-octets s store h room at e r a l =
+    rw (e, r)
+    (ap (layoutOf (Data (headOf 32 s)))
+    (read-same (s .capacity) store at _ (getD (s .queue .lengths) (s .delivery .sent) 0)
+    (ap (λ (n : ℕ). n % s .capacity) a ∙ mod-mod (s .start + octetsTo (s .queue) (s .delivery .sent)) (s .capacity))))
+
+-- the message was written
+pub sent-done : (s : State) (store out after' octets : List ℕ) (r : Written) (n : ℕ) → SendFacts s store → octets ≡ written 32 [] nextData s store → r ≡ Octets n
+    → Placed octets out r after'
+    → _≡_ {A = Wrote} (record { answer = 0; written = n; state = settled (after 32 nextData s) }) (wroteOf (nextDataStep 32 s store out))
+    × (after' ≡ outputAfter out (nextDataStep 32 s store out))
+sent-done s store out after' octets r n f o q p = go (ltb (length out) (length octets)) refl (sym q ∙ p .answered)
+  where
+    go : (b : Bool) → ltb (length out) (length octets) ≡ b → Octets n ≡ cond b (Refused 12) (Octets (length octets))
+        → _≡_ {A = Wrote} (record { answer = 0; written = n; state = settled (after 32 nextData s) }) (wroteOf (nextDataStep 32 s store out))
+        × (after' ≡ outputAfter out (nextDataStep 32 s store out))
+    go true t x = let z : _≡_ {A = ℕ} 0 1 = cc in absurd (omega arith)
+    go false t x =
+        let e = step-done 32 [] (length out) nextData s store (answer-room s store out f ∙ ap (λ (b : Bool). cond b 12 0) (ap (λ (l : List ℕ). ltb (length out) (length l)) (sym o) ∙ t)) in
+        let k : n ≡ length octets = cc in
+        (rw (e, k, o), rw (e, ← o) (p .left ∙ put-fits out 0 octets (omega (arith, ltb-false (length out) (length octets) t))))
+
+-- it was not: the output is too short
+pub sent-refused : (s : State) (store out after' octets : List ℕ) (r : Written) (a : ℕ) → SendFacts s store → octets ≡ written 32 [] nextData s store → r ≡ Refused a
+    → Placed octets out r after'
+    → _≡_ {A = Wrote} (record { answer = a; written = 0; state = s }) (wroteOf (nextDataStep 32 s store out))
+    × (after' ≡ outputAfter out (nextDataStep 32 s store out))
+sent-refused s store out after' octets r a f o q p = go (ltb (length out) (length octets)) refl (sym q ∙ p .answered)
+  where
+    go : (b : Bool) → ltb (length out) (length octets) ≡ b → Refused a ≡ cond b (Refused 12) (Octets (length octets))
+        → _≡_ {A = Wrote} (record { answer = a; written = 0; state = s }) (wroteOf (nextDataStep 32 s store out))
+        × (after' ≡ outputAfter out (nextDataStep 32 s store out))
+    go false t x = let z : _≡_ {A = ℕ} 0 1 = cc in absurd (omega arith)
+    go true t x =
+        let v = answer-room s store out f ∙ ap (λ (b : Bool). cond b 12 0) (ap (λ (l : List ℕ). ltb (length out) (length l)) (sym o) ∙ t) in
+        let e = step-refused 32 [] (length out) nextData s store 12 (λ z. absurd (omega (arith, z))) v in
+        let k : a ≡ 12 = cc in
+        (rw (e, k), rw e (p .left ∙ put-short out 0 octets (omega (arith, ltb-true (length out) (length octets) t))))

@@ -1,0 +1,17 @@
+-- `acknowledge` meets its contract: what the acknowledgement changes by parts is applied to the state. Assumes nothing.
+use Rattle.exporter.proofs.Acks.{released-few, ack-parts}
+use borrow.Author.Needs.{needs}
+use Rattle.exporter.proofs.acknowledge.acknowledge.Statement.{statement}
+use Rattle.exporter.proofs.acknowledge.acknowledge.Tie as tie
+
+ack-change-requires : tie.Need-ack-change-requires
+ack-change-requires c κs = search needs
+
+release-queue-requires : tie.Need-release-queue-requires
+release-queue-requires c κs = rw (c .before .before .before .before .ack-change .ensures) (released-few 32 _ _ _ (c .before .before .before .before .before .before .before .before .before .before .args .t1))
+
+returns : tie.Need-returns
+returns c = rw (c .before .release-queue .ensures, c .before .before .before .before .before .before .ack-change .ensures) (ack-parts 32 _ _ _ (c .before .before .before .before .before .before .before .before .before .before .before .before .args .t1))
+
+pub acknowledge-spec : {M : Type 1} → statement M
+acknowledge-spec = tie.close (tie.spec ack-change-requires release-queue-requires returns)

@@ -1,0 +1,39 @@
+-- `next_head` meets its contract: each field is that of the definition. Assumes nothing.
+use Rattle.exporter.specs.Steps.{headOf}
+use borrow.Author.Needs.{needs}
+use Rattle.exporter.proofs.next_data.next_head.Statement.{statement}
+use Rattle.exporter.proofs.next_data.next_head.Tie as tie
+
+mul-t7 : tie.Need-mul-t7
+mul-t7 c = search needs
+
+element-copy-out-t10 : tie.Need-element-copy-out-t10
+element-copy-out-t10 c = search needs
+
+mul-is-duplicate : tie.Need-mul-is-duplicate
+mul-is-duplicate c = search needs
+
+element-copy-out-is-duplicate : tie.Need-element-copy-out-is-duplicate
+element-copy-out-is-duplicate c = search needs
+
+is-duplicate-requires : tie.Need-is-duplicate-requires
+is-duplicate-requires c κs = search needs
+
+dsn-at-requires : tie.Need-dsn-at-requires
+dsn-at-requires c κs = search needs
+
+returns : tie.Need-returns
+unfolding headOf
+returns c = simp (c .dsn-at .ensures, c .before .is-duplicate .ensures)
+
+pub next-head-spec : {M : Type 1} → statement M
+next-head-spec =
+    tie.close
+    (tie.spec
+    mul-t7
+    element-copy-out-t10
+    mul-is-duplicate
+    element-copy-out-is-duplicate
+    is-duplicate-requires
+    dsn-at-requires
+    returns)

@@ -1,0 +1,21 @@
+-- `has_server` meets its contract: the shift is a division by a power of 2, and past the last bit there is none. Assumes nothing.
+use mathlib.Core.Path.{refl}
+use native.Mathlib.Omega.{arith}
+use Rattle.exporter.specs.Queue.{has}
+use Rattle.exporter.proofs.Arrays.{has-none}
+use borrow.Author.Needs.{needs}
+use Rattle.exporter.proofs.queue.has_server.Statement.{statement}
+use Rattle.exporter.proofs.queue.has_server.Tie as tie
+
+shr-result : tie.Need-shr-result
+shr-result c = search needs
+
+returns : tie.Need-returns
+unfolding has
+returns c = refl
+
+returns-2 : tie.Need-returns-2
+returns-2 c = has-none _ _ (omega arith) (c .if1 .left)
+
+pub has-server-spec : {M : Type 1} → statement M
+has-server-spec = tie.close (tie.spec shr-result returns returns-2)

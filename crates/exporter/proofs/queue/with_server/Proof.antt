@@ -1,0 +1,15 @@
+-- `with_server` meets its contract: the shift is the power of 2 that is the server's bit. Assumes nothing.
+use native.Mathlib.Omega.{arith}
+use Rattle.exporter.proofs.Arrays.{one-shifted}
+use borrow.Author.Needs.{needs}
+use Rattle.exporter.proofs.queue.with_server.Statement.{statement}
+use Rattle.exporter.proofs.queue.with_server.Tie as tie
+
+shl-result : tie.Need-shl-result
+shl-result c = search needs
+
+returns : tie.Need-returns
+returns c = rw (one-shifted (c .args .v) (omega arith))
+
+pub with-server-spec : {M : Type 1} → statement M
+with-server-spec = tie.close (tie.spec shl-result returns)

@@ -1,0 +1,20 @@
+-- `with_phase` meets its contract: a store past the end changes nothing. Assumes nothing.
+use mathlib.Core.Path.{sym}
+use native.Mathlib.Omega.{arith}
+use lib.Seq.{set-out}
+use Rattle.exporter.specs.Servers.{server}
+use borrow.Author.Needs.{needs}
+use Rattle.exporter.proofs.servers.with_phase.Statement.{statement}
+use Rattle.exporter.proofs.servers.with_phase.Tie as tie
+
+array-set-from-changed : tie.Need-array-set-from-changed
+array-set-from-changed c = search needs
+
+returns : tie.Need-returns
+returns c = search needs
+
+returns-2 : tie.Need-returns-2
+returns-2 c = let a = c .before .args in sym (set-out (a .servers) (a .v) (server (a .phase)) (omega arith))
+
+pub with-phase-spec : {M : Type 1} → statement M
+with-phase-spec = tie.close (tie.spec array-set-from-changed returns returns-2)

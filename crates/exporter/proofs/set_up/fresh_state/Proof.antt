@@ -1,0 +1,12 @@
+-- `fresh_state` meets its contract: it is the definition, written out. Assumes nothing.
+use mathlib.Core.Path.{refl}
+use Rattle.exporter.specs.Steps.{fresh}
+use Rattle.exporter.proofs.set_up.fresh_state.Statement.{statement}
+use Rattle.exporter.proofs.set_up.fresh_state.Tie as tie
+
+returns : tie.Need-returns
+unfolding fresh
+returns c = refl
+
+pub fresh-state-spec : {M : Type 1} → statement M
+fresh-state-spec = tie.close (tie.spec returns)

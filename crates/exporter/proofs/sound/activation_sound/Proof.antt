@@ -1,0 +1,23 @@
+-- `activation_sound` meets its contract, by whether somebody is active. Assumes nothing.
+use borrow.Author.Needs.{needs}
+use Rattle.exporter.proofs.sound.activation_sound.Statement.{statement}
+use Rattle.exporter.proofs.sound.activation_sound.Tie as tie
+
+enum-told : tie.Need-enum-told
+enum-told c = search needs
+
+enum-known-active : tie.Need-enum-known-active
+enum-known-active c = search needs
+
+all-received-requires : tie.Need-all-received-requires
+all-received-requires c κs = search needs
+
+returns : tie.Need-returns
+returns c = rw (c .before .before .before .enum-told .given .1)
+
+returns-2 : tie.Need-returns-2
+returns-2 c = rw (c .before .before .active .given .1) (c .all-received .ensures)
+
+pub activation-sound-spec : {M : Type 1} → statement M
+activation-sound-spec =
+    tie.close (tie.spec enum-told enum-known-active all-received-requires returns returns-2)

@@ -1,0 +1,15 @@
+-- `numbers_sound` meets its contract: its tests are those of the definition. Assumes nothing.
+use Rattle.exporter.specs.Sound.{numbersSound}
+use borrow.Author.Needs.{needs}
+use Rattle.exporter.proofs.sound.numbers_sound.Statement.{statement}
+use Rattle.exporter.proofs.sound.numbers_sound.Tie as tie
+
+settings-sound-requires : tie.Need-settings-sound-requires
+settings-sound-requires c κs = search needs
+
+returns : tie.Need-returns
+unfolding numbersSound
+returns c = rw (c .before .before .before .before .before .settings-sound .ensures)
+
+pub numbers-sound-spec : {M : Type 1} → statement M
+numbers-sound-spec = tie.close (tie.spec settings-sound-requires returns)

@@ -1,0 +1,12 @@
+-- `settings_sound` meets its contract: its tests are those of the definition. Assumes nothing.
+use mathlib.Core.Path.{refl}
+use Rattle.exporter.specs.Sound.{settingsSound}
+use Rattle.exporter.proofs.sound.settings_sound.Statement.{statement}
+use Rattle.exporter.proofs.sound.settings_sound.Tie as tie
+
+returns : tie.Need-returns
+unfolding settingsSound
+returns c = refl
+
+pub settings-sound-spec : {M : Type 1} → statement M
+settings-sound-spec = tie.close (tie.spec returns)

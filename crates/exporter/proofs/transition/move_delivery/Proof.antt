@@ -1,0 +1,13 @@
+-- `move_delivery` meets its contract: only the servers change. Assumes nothing.
+use borrow.Author.Needs.{needs}
+use Rattle.exporter.proofs.transition.move_delivery.Statement.{statement}
+use Rattle.exporter.proofs.transition.move_delivery.Tie as tie
+
+move-servers-requires : tie.Need-move-servers-requires
+move-servers-requires c κs = search needs
+
+returns : tie.Need-returns
+returns c = rw (c .move-servers .ensures)
+
+pub move-delivery-spec : {M : Type 1} → statement M
+move-delivery-spec = tie.close (tie.spec move-servers-requires returns)

@@ -1,0 +1,85 @@
+-- What the code takes a message, or a call that moves a server, to mean; how it judges a transition and an acknowledgement, and what
+-- an acknowledgement changes (01, "Answer numbers" and "Exporter"). Assumes nothing.
+use Prim.Native.Nat.{ℕ, _-_}
+use mathlib.Core.Bool.{Bool, true, cond}
+use mathlib.Core.List.{List, []}
+use lib.Dec.{eqb}
+use Rattle.octets.specs.Answers.{done}
+use Rattle.wire.specs.Table.{tableSound}
+use Rattle.wire.specs.declared.message.Reading.{Reading}
+use Rattle.wire.specs.declared.message.Reading.the-variants as reading
+use Rattle.exporter.specs.Servers.{Transition, start, stop, negotiate, offer, down, agree, malformed}
+use Rattle.exporter.specs.Steps.{Call, ack, move, callOfMessage, Outcome}
+use Rattle.exporter.specs.Queue.{dropFront}
+use Rattle.exporter.specs.declared.acknowledge.AckChange.{AckChange}
+use Rattle.exporter.specs.declared.state.Active.the-variants as active
+use Rattle.exporter.specs.declared.state.State.{State}
+use Rattle.exporter.specs.declared.hear.Heard.{Heard}
+use Rattle.exporter.specs.declared.hear.Heard.the-variants as heard
+use Rattle.exporter.specs.declared.transition.Move.{Move}
+use Rattle.exporter.specs.declared.transition.Move.the-variants as code
+
+-- ---- transitions
+
+-- The transition that the code's value stands for.
+abbrev pub transitionOf : Move → Transition
+transitionOf code.Start = start
+transitionOf code.Stop = stop
+transitionOf code.Negotiate = negotiate
+transitionOf code.Offer = offer
+transitionOf code.Down = down
+transitionOf (code.Agree config) = agree config
+transitionOf (code.Malformed a) = malformed a
+
+-- The table that an offer writes is sound; no other transition writes one.
+abbrev pub tableFits : Transition → List ℕ → Bool
+tableFits start table = true
+tableFits stop table = true
+tableFits negotiate table = true
+tableFits offer table = tableSound table
+tableFits down table = true
+tableFits (agree config) table = true
+tableFits (malformed a) table = true
+
+-- ---- received messages
+
+-- The call that the code's value stands for, from server v.
+abbrev pub callOfHeard : ℕ → Heard → Call
+callOfHeard v (heard.Ack dsn config) = ack v dsn config
+callOfHeard v (heard.Move m) = move v (transitionOf m)
+
+-- The call that reading a message alone stands for, from server v.
+abbrev pub callOfReading : ℕ → Reading → Call
+callOfReading v (reading.Message m) = callOfMessage v m
+callOfReading v (reading.Refused a) = move v (malformed a)
+
+-- ---- acknowledgements
+
+-- The state with another next DSN.
+abbrev pub withNext : State → ℕ → State
+withNext s next =
+    record { settings = s .settings; capacity = s .capacity; delivery = s .delivery; due = s .due; queue = s .queue; start = s .start; next = next }
+
+-- What a DATA ACK that names n records changes, of its outcome: where it is refused, no record is released.
+abbrev pub ackChangeOf : ℕ → Outcome → AckChange
+ackChangeOf n o =
+    record {
+      answer = o .answer;
+      released = cond (eqb (o .answer) done) n 0;
+      start = o .state .start;
+      delivery = o .state .delivery;
+      due = o .state .due;
+    }
+
+-- The state with such a change.
+abbrev pub releasedFrom : State → AckChange → State
+releasedFrom s c =
+    record {
+      settings = s .settings;
+      capacity = s .capacity;
+      delivery = c .delivery;
+      due = c .due;
+      queue = dropFront (s .queue) (c .released);
+      start = c .start;
+      next = s .next;
+    }

@@ -1,0 +1,362 @@
+-- The calls: what each is refused for and in which order, what it leaves, and what it writes (01, "Answer numbers" and "Exporter").
+-- Sequence numbers have w bits; the code's have 32. Assumes nothing.
+use Prim.Native.Nat.{ℕ, _+_, _-_, _%_, _^_}
+use mathlib.Core.Bool.{Bool, true, false, not, _&&_, _||_, cond}
+use mathlib.Core.List.{List, [], _∷_, _++_}
+use lib.Dec.{eqb, leb, ltb}
+use lib.ListN.{length, getD, take, replicate}
+use lib.Seq.{sets}
+use Rattle.octets.specs.Answers.{Check, _when_, judge, done, unsoundState, noSuchServer, otherSession, messageNotAccepted, bodyLengthWrong, outOfTurn, otherConfiguration, dsnNotAcknowledgeable, outputTooShort, noActiveServer, nothingToSend, templateNotFound, recordInvalid, recordTooLong, queueFull, storeFull, settingsOutsideLimits, unsoundTable}
+use Rattle.wire.specs.Table.{configurationId, tableSound, isMissing, templateOf}
+use Rattle.wire.specs.Record.{recordValid}
+use Rattle.wire.specs.Messages.{headerChecks, sessionOf, messageNumber, headerOctets, bodyFits, meaningOf, layoutOf}
+use Rattle.wire.specs.Messages as wire
+use Rattle.wire.specs.declared.message.Message.{Message}
+use Rattle.wire.specs.declared.message.Message.the-variants.{Start, StartAck, Stop, StopAck, TmplData, FinalTmplDataAck, StartNegotiate, StartNegotiateAck, Data, DataAck}
+use Rattle.wire.specs.declared.message.DataHead.{DataHead}
+use Rattle.exporter.specs.Servers.{server, phaseAt, isClosed, isOffered, canOffer, sameActive, isNobody, changed, settle, withServers, Transition, start, stop, negotiate, offer, down, agree, malformed, transition, sentOne, acknowledged, ticked}
+use Rattle.exporter.specs.Queue.{sumOf, octetsTo, heldOctets, recordAt, ringWrite, hasOther, pushed, dropFront, marked}
+use Rattle.exporter.specs.Sound.{maxHeld, maxRecordOctets, settingsSound, sound}
+use Rattle.exporter.specs.declared.state.Phase.{Phase}
+use Rattle.exporter.specs.declared.state.Phase.the-variants.{Closed}
+use Rattle.exporter.specs.declared.state.Active.{Active}
+use Rattle.exporter.specs.declared.state.Active.the-variants as active
+use Rattle.exporter.specs.declared.state.Settings.{Settings}
+use Rattle.exporter.specs.declared.state.Delivery.{Delivery}
+use Rattle.exporter.specs.declared.state.Queue.{Queue}
+use Rattle.exporter.specs.declared.state.State.{State}
+use Rattle.exporter.specs.declared.state.Made.{Made}
+use Rattle.exporter.specs.declared.state.Stepped.{Stepped}
+use Rattle.exporter.specs.declared.state.Wrote.{Wrote}
+
+-- ---- sequence numbers
+
+-- How many sequence numbers there are.
+abbrev pub modulus : ℕ → ℕ
+modulus w = 2 ^ w
+
+-- The DSN of the first held record; the next DSN stands for it where none is held.
+abbrev pub firstHeld : ℕ → State → ℕ
+firstHeld w s = (s .next + (modulus w - s .queue .count)) % modulus w
+
+-- The DSN of the record at place i of the queue.
+abbrev pub dsnAt : ℕ → State → ℕ → ℕ
+dsnAt w s i = (firstHeld w s + i) % modulus w
+
+-- How many records a DATA ACK of this DSN names from the front of `count` held ones, by the next DSN: the DSN minus the first held one,
+-- plus 1.
+abbrev pub ackCountBy : ℕ → ℕ → ℕ → ℕ → ℕ
+ackCountBy w next count dsn = (dsn + (modulus w - (next + (modulus w - count)) % modulus w) + 1) % modulus w
+
+-- The same of a state.
+unfoldable pub ackCount : ℕ → State → ℕ → ℕ
+ackCount w s dsn = ackCountBy w (s .next) (s .queue .count) dsn
+
+-- ---- calls, by what they mean
+
+-- Put of a record under a template ID; next data; tick; a DATA ACK from a server, of a DSN and a Configuration ID; a transition of a
+-- server.
+pub data Call : Type 0 where
+  put : ℕ → List ℕ → Call
+  nextData tick : Call
+  ack : ℕ → ℕ → ℕ → Call
+  move : ℕ → Transition → Call
+
+-- The messages that receive accepts.
+abbrev pub isReceived : ℕ → Bool
+isReceived n =
+    eqb n wire.start || eqb n wire.stop || eqb n wire.finalTmplDataAck || eqb n wire.startNegotiate || eqb n wire.dataAck
+
+-- A received message is judged by its form 3 to 8.
+unfoldable pub formAnswer : Settings → List ℕ → ℕ
+formAnswer p m =
+    judge
+    (headerChecks m
+    ++ ((otherSession when not (eqb (sessionOf m) (p .session)))
+    ∷ (messageNotAccepted when not (isReceived (messageNumber m)))
+    ∷ (bodyLengthWrong when not (bodyFits (messageNumber m) (length m - headerOctets)))
+    ∷ []))
+
+-- The call that a message from server v makes, by its meaning; `received` asks this only of messages
+-- that receive accepts.
+unfoldable pub callOfMessage : ℕ → Message → Call
+callOfMessage v (Start s) = move v start
+callOfMessage v (StartAck s boot) = move v (malformed messageNotAccepted)
+callOfMessage v (Stop s) = move v stop
+callOfMessage v (StopAck s) = move v (malformed messageNotAccepted)
+callOfMessage v (TmplData s) = move v (malformed messageNotAccepted)
+callOfMessage v (FinalTmplDataAck s config) = move v (agree config)
+callOfMessage v (StartNegotiate s) = move v negotiate
+callOfMessage v (StartNegotiateAck s) = move v (malformed messageNotAccepted)
+callOfMessage v (Data h) = move v (malformed messageNotAccepted)
+callOfMessage v (DataAck s dsn config) = ack v dsn config
+
+-- The call that receiving octets from server v makes.
+unfoldable pub received : Settings → ℕ → List ℕ → Call
+received p v m = cond (eqb (formAnswer p m) done) (callOfMessage v (meaningOf m)) (move v (malformed (formAnswer p m)))
+
+-- ---- what is written
+
+-- D: the record was sent to a server other than the active one.
+abbrev pub isDuplicate : Settings → Active → ℕ → Bool
+isDuplicate p active.Nobody m = false
+isDuplicate p (active.Server v) m = hasOther (p .servers) v m
+
+-- The head of the next DATA: the record at place "sent", S where it is due, D where the record was sent to another server.
+unfoldable pub headOf : ℕ → State → DataHead
+headOf w s =
+    let i = s .delivery .sent in
+    record {
+      session = s .settings .session;
+      template = getD (s .queue .templates) i 0;
+      config = s .settings .config;
+      first = s .due;
+      duplicate = isDuplicate (s .settings) (s .delivery .active) (getD (s .queue .receivers) i 0);
+      dsn = dsnAt w s i;
+    }
+
+-- START, STOP and START NEGOTIATE are acknowledged; an offer writes the table.
+abbrev pub replyTo : Settings → List ℕ → Transition → List ℕ
+replyTo p table start = layoutOf (StartAck (p .session) (p .boot)) []
+replyTo p table stop = layoutOf (StopAck (p .session)) []
+replyTo p table negotiate = layoutOf (StartNegotiateAck (p .session)) []
+replyTo p table offer = layoutOf (TmplData (p .session)) table
+replyTo p table down = []
+replyTo p table (agree config) = []
+replyTo p table (malformed a) = []
+
+-- The octets of the message that an accepted call writes.
+unfoldable pub written : ℕ → List ℕ → Call → State → List ℕ → List ℕ
+written w table (put id r) s store = []
+written w table nextData s store = layoutOf (Data (headOf w s)) (recordAt s store (s .delivery .sent))
+written w table tick s store = []
+written w table (ack v dsn config) s store = []
+written w table (move v m) s store = replyTo (s .settings) table m
+
+-- ---- refusals
+
+-- A lent table is the session's.
+abbrev pub isSessions : Settings → List ℕ → Bool
+isSessions p table = tableSound table && eqb (configurationId table) (p .config)
+
+-- The refusals of a transition of a server in this phase, after 1 and 2, that do not look at the output.
+abbrev pub turnChecks : Settings → List ℕ → Transition → Phase → List Check
+turnChecks p table start phase = []
+turnChecks p table stop phase = []
+turnChecks p table negotiate phase = (outOfTurn when isClosed phase) ∷ []
+turnChecks p table offer phase = (unsoundTable when not (isSessions p table)) ∷ (outOfTurn when not (canOffer phase)) ∷ []
+turnChecks p table down phase = []
+turnChecks p table (agree config) phase =
+    (outOfTurn when not (isOffered phase)) ∷ (otherConfiguration when not (eqb config (p .config))) ∷ []
+turnChecks p table (malformed a) phase = (a when true) ∷ []
+
+-- 12, of a transition that writes a message.
+abbrev pub replyChecks : Settings → List ℕ → ℕ → Transition → List Check
+replyChecks p table room start = (outputTooShort when ltb room (length (replyTo p table start))) ∷ []
+replyChecks p table room stop = (outputTooShort when ltb room (length (replyTo p table stop))) ∷ []
+replyChecks p table room negotiate = (outputTooShort when ltb room (length (replyTo p table negotiate))) ∷ []
+replyChecks p table room offer = (outputTooShort when ltb room (length (replyTo p table offer))) ∷ []
+replyChecks p table room down = []
+replyChecks p table room (agree config) = []
+replyChecks p table room (malformed a) = []
+
+-- All of them.
+abbrev pub transitionChecks : Settings → List ℕ → ℕ → Transition → Phase → List Check
+transitionChecks p table room t phase = turnChecks p table t phase ++ replyChecks p table room t
+
+-- The refusals of a record under a lent table: 21, 15, 17, 16.
+abbrev pub recordChecks : Settings → List ℕ → ℕ → List ℕ → List Check
+recordChecks p table id r =
+    (unsoundTable when not (isSessions p table))
+    ∷ (templateNotFound when isMissing table id)
+    ∷ (recordTooLong when ltb maxRecordOctets (length r))
+    ∷ (recordInvalid when not (recordValid table (templateOf table id) r))
+    ∷ []
+
+-- The refusals of a record beside n held ones whose lengths are given: 18, 19.
+abbrev pub roomChecks : ℕ → ℕ → List ℕ → List ℕ → List Check
+roomChecks capacity n lengths r =
+    (queueFull when leb maxHeld n) ∷ (storeFull when ltb capacity (sumOf (take n lengths) + length r)) ∷ []
+
+-- The refusals of a DATA ACK from server v that names n records, after 1.
+abbrev pub ackChecks : Settings → Delivery → ℕ → ℕ → ℕ → List Check
+ackChecks p d v config n =
+    (noSuchServer when leb (p .servers) v)
+    ∷ (outOfTurn when not (sameActive (d .active) (active.Server v)))
+    ∷ (otherConfiguration when not (eqb config (p .config)))
+    ∷ (dsnNotAcknowledgeable when ltb (d .reached) n)
+    ∷ []
+
+-- The refusals of each call in their order, after 1. `table` is the table that is lent to put and offer, `room` the output's length.
+unfoldable pub checks : ℕ → List ℕ → ℕ → Call → State → List ℕ → List Check
+checks w table room (put id r) s store =
+    recordChecks (s .settings) table id r ++ roomChecks (s .capacity) (s .queue .count) (s .queue .lengths) r
+checks w table room nextData s store =
+    (noActiveServer when isNobody (s .delivery .active))
+    ∷ (nothingToSend when leb (s .queue .count) (s .delivery .sent))
+    ∷ (outputTooShort when ltb room (length (written w table nextData s store)))
+    ∷ []
+checks w table room tick s store = []
+checks w table room (ack v dsn config) s store = ackChecks (s .settings) (s .delivery) v config (ackCount w s dsn)
+checks w table room (move v m) s store =
+    (noSuchServer when leb (s .settings .servers) v)
+    ∷ transitionChecks (s .settings) table room m (phaseAt (s .delivery .servers) v)
+
+-- Put and next data are lent the store, which must have the length set.
+abbrev pub soundFor : Call → State → List ℕ → Bool
+soundFor (put id r) s store = sound s && eqb (length store) (s .capacity)
+soundFor nextData s store = sound s && eqb (length store) (s .capacity)
+soundFor tick s store = sound s
+soundFor (ack v dsn config) s store = sound s
+soundFor (move v m) s store = sound s
+
+-- The first refusal that applies, 1 before all others; 0 where none does.
+unfoldable pub answer : ℕ → List ℕ → ℕ → Call → State → List ℕ → ℕ
+answer w table room c s store = judge ((unsoundState when not (soundFor c s store)) ∷ checks w table room c s store)
+
+-- ---- what an accepted call leaves
+
+-- A state with another delivery.
+abbrev pub withDelivery : State → Delivery → State
+withDelivery s d =
+    record { settings = s .settings; capacity = s .capacity; delivery = d; due = s .due; queue = s .queue; start = s .start; next = s .next }
+
+-- The queue after the record at place i was sent to the active server.
+abbrev pub markedFor : Active → Queue → ℕ → Queue
+markedFor active.Nobody q i = q
+markedFor (active.Server v) q i = marked q i v
+
+-- The state before the choice is made anew.
+unfoldable pub after : ℕ → Call → State → State
+after w (put id r) s =
+    record {
+      settings = s .settings;
+      capacity = s .capacity;
+      delivery = s .delivery;
+      due = s .due;
+      queue = pushed (s .queue) id (length r);
+      start = s .start;
+      next = (s .next + 1) % modulus w;
+    }
+after w nextData s =
+    record {
+      settings = s .settings;
+      capacity = s .capacity;
+      delivery = sentOne (s .delivery);
+      due = false;
+      queue = markedFor (s .delivery .active) (s .queue) (s .delivery .sent);
+      start = s .start;
+      next = s .next;
+    }
+after w tick s = withDelivery s (ticked (s .settings) (s .delivery))
+after w (ack v dsn config) s =
+    let n = ackCount w s dsn in
+    record {
+      settings = s .settings;
+      capacity = s .capacity;
+      delivery = acknowledged n (s .delivery);
+      due = s .due;
+      queue = dropFront (s .queue) n;
+      start = (s .start + octetsTo (s .queue) n) % s .capacity;
+      next = s .next;
+    }
+after w (move v m) s = withDelivery s (withServers (s .delivery) (transition v m (s .delivery .servers)))
+
+-- The choice made anew; a changed one makes S due.
+unfoldable pub settled : State → State
+settled s =
+    record {
+      settings = s .settings;
+      capacity = s .capacity;
+      delivery = settle (s .settings) (s .delivery);
+      due = changed (s .settings) (s .delivery) || s .due;
+      queue = s .queue;
+      start = s .start;
+      next = s .next;
+    }
+
+-- Only a put changes the store: its octets follow the held ones.
+unfoldable pub storeAfter : Call → State → List ℕ → List ℕ
+storeAfter (put id r) s store = ringWrite (s .capacity) store (s .start + heldOctets (s .queue)) r
+storeAfter nextData s store = store
+storeAfter tick s store = store
+storeAfter (ack v dsn config) s store = store
+storeAfter (move v m) s store = store
+
+-- ---- the step
+
+-- What a call answers and leaves, and the octets that it writes.
+pub record Outcome : Type 0 where
+  pub answer : ℕ
+  pub state : State
+  pub store : List ℕ
+  pub written : List ℕ
+
+-- An accepted call has its effect; any other leaves state and store as they were and writes nothing.
+unfoldable pub step : ℕ → List ℕ → ℕ → Call → State → List ℕ → Outcome
+step w table room c s store =
+    let a = answer w table room c s store in
+    cond (eqb a done)
+    (record { answer = done; state = settled (after w c s); store = storeAfter c s store; written = written w table c s store })
+    (record { answer = a; state = s; store = store; written = [] })
+
+-- The six calls, each given what it is lent.
+abbrev pub putStep : ℕ → State → List ℕ → List ℕ → ℕ → List ℕ → Outcome
+putStep w s store table id r = step w table 0 (put id r) s store
+
+abbrev pub nextDataStep : ℕ → State → List ℕ → List ℕ → Outcome
+nextDataStep w s store out = step w [] (length out) nextData s store
+
+abbrev pub receiveStep : ℕ → State → ℕ → List ℕ → List ℕ → Outcome
+receiveStep w s v m out = step w [] (length out) (received (s .settings) v m) s []
+
+abbrev pub offerStep : ℕ → State → ℕ → List ℕ → List ℕ → Outcome
+offerStep w s v table out = step w table (length out) (move v offer) s []
+
+abbrev pub lineDownStep : ℕ → State → ℕ → Outcome
+lineDownStep w s v = step w [] 0 (move v down) s []
+
+abbrev pub tickStep : ℕ → State → Outcome
+tickStep w s = step w [] 0 tick s []
+
+-- The output after a call: what it wrote stands from the first octet on, and every other octet is as it was.
+abbrev pub outputAfter : List ℕ → Outcome → List ℕ
+outputAfter out o = sets out 0 (o .written)
+
+-- What the code hands back of an outcome.
+abbrev pub steppedOf : Outcome → Stepped
+steppedOf o = record { answer = o .answer; state = o .state }
+
+abbrev pub wroteOf : Outcome → Wrote
+wroteOf o = record { answer = o .answer; written = length (o .written); state = o .state }
+
+-- ---- set-up
+
+-- A state that holds nothing: every server closed, all counters 0, S due, and the first record to take the initial DSN.
+unfoldable pub fresh : Settings → ℕ → State
+fresh p capacity =
+    record {
+      settings = p;
+      capacity = capacity;
+      delivery = record { servers = replicate 8 (server Closed); active = active.Nobody; sent = 0; reached = 0; timer = 0 };
+      due = true;
+      queue = record { count = 0; lengths = replicate 64 0; templates = replicate 64 0; receivers = replicate 64 0 };
+      start = 0;
+      next = p .initial;
+    }
+
+-- Settings of 0, which no set-up accepts.
+abbrev pub noSettings : Settings
+noSettings =
+    record { session = 0; config = 0; boot = 0; initial = 0; servers = 0; priorities = replicate 8 0; threshold = 0; duration = 0 }
+
+-- What set-up hands back with a refusal: a state without servers or store, which every call refuses.
+abbrev pub refusedState : State
+refusedState = fresh noSettings 0
+
+-- Set-up with a store of a length is judged 20.
+unfoldable pub setUp : Settings → ℕ → Made
+setUp p capacity =
+    cond (settingsSound p capacity)
+    (record { answer = done; state = fresh p capacity })
+    (record { answer = settingsOutsideLimits; state = refusedState })

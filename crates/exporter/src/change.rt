@@ -1,0 +1,51 @@
+// What a call changes of a state besides its queue: computed as a small value and applied once.
+ghost use mathlib.Core.Path.{_≡_};
+ghost use Rattle.exporter.specs.Changes.{settledChange, refusedChange, appliedTo};
+use crate::state::Delivery;
+use crate::state::Settings;
+use crate::state::State;
+use octets::Answer;
+
+// A call's answer, how many octets it wrote, and the delivery and S as it leaves them.
+pub(crate) struct Change {
+    pub answer: u8,
+    pub written: usize,
+    pub delivery: Delivery,
+    pub due: bool,
+}
+
+// The change of an accepted call that wrote some octets: the choice is made once more.
+pub(crate) fn settle_change(p: Settings, d: Delivery, due: bool, written: usize) -> Change
+    ensures { λ r. ⌜ r ≡ settledChange p d due written ⌝ }
+{
+    let delivery = crate::servers::settle_delivery(p, d);
+    Change {
+        answer: Answer::DONE,
+        written,
+        delivery,
+        due: crate::servers::is_changed(p, d) | due,
+    }
+}
+
+// The change of a refused call: none.
+pub(crate) fn refuse_change(answer: u8, d: Delivery, due: bool) -> Change
+    ensures { λ r. ⌜ r ≡ refusedChange answer d due ⌝ }
+{
+    Change {
+        answer,
+        written: 0,
+        delivery: d,
+        due,
+    }
+}
+
+// The state with a change.
+pub(crate) fn apply(s: State, change: Change) -> State
+    ensures { λ r. ⌜ r ≡ appliedTo s change ⌝ }
+{
+    let mut next = s;
+    let delivery = change.delivery;
+    next.delivery = delivery;
+    next.due = change.due;
+    next
+}

@@ -1,0 +1,18 @@
+// A server's line that is down.
+ghost use mathlib.Core.Path.{_≡_};
+ghost use Rattle.exporter.specs.Steps.{lineDownStep, steppedOf};
+use crate::state::State;
+use crate::state::Stepped;
+use crate::transition::Move;
+
+// The line to server v is down, which closes it: 1 or 2.
+pub fn line_down(s: State, v: u8) -> Stepped
+    ensures { λ r. ⌜ r ≡ steppedOf (lineDownStep 32 s v) ⌝ }
+{
+    let left = crate::transition::move_server(s, v, Move::Down, &[], &mut []);
+    let state = left.state;
+    Stepped {
+        answer: left.answer,
+        state,
+    }
+}

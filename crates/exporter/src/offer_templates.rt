@@ -1,0 +1,14 @@
+// An offer of the session's templates to a server.
+ghost use mathlib.Core.Path.{_≡_};
+ghost use Rattle.exporter.specs.Steps.{offerStep, outputAfter, wroteOf};
+use crate::state::State;
+use crate::state::Wrote;
+use crate::transition::Move;
+
+// Writes the TMPL DATA that offers a table to server v: 1, 2, 21, 9 or 12.
+pub fn offer_templates(s: State, v: u8, table: &[u8], out: &mut [u8]) -> Wrote
+    ensures { λ r. ⌜ (r ≡ wroteOf (offerStep 32 s v (now (table .entry)) (now (out .entry))))
+        × (now (out .exit) ≡ outputAfter (now (out .entry)) (offerStep 32 s v (now (table .entry)) (now (out .entry)))) ⌝ }
+{
+    crate::transition::move_server(s, v, Move::Offer, table, out)
+}

@@ -1,0 +1,110 @@
+// The queue's arrays: lengths, template IDs and the sets of servers that each record was sent to.
+ghost use mathlib.Core.Path.{_≡_};
+ghost use mathlib.Core.Bool.{_&&_};
+ghost use Prim.Native.Nat.{_+_, _^_, _≤_, _<_};
+ghost use lib.Dec.{leb, ltb};
+ghost use lib.ListN.{getD, take};
+ghost use Rattle.wire.specs.Each.{every};
+ghost use Rattle.exporter.specs.Queue.{sumOf, has, with, hasOther, shifted};
+
+// The most records that are held at a time.
+pub const MAX_HELD: usize = 64;
+
+// The most octets that a record has.
+pub const MAX_RECORD_OCTETS: usize = 1024;
+
+// How many octets the first n records have together.
+pub(crate) fn octets_to(lengths: &[u16; 64], n: usize) -> u32
+    requires { ⌜ n ≤ 64 ⌝ }
+    ensures { λ r. ⌜ r ≡ sumOf (take n (now (lengths .entry))) ⌝ }
+{
+    let part = &lengths[..];
+    let mut sum: u32 = 0;
+    let mut i: usize = 0;
+    while i < n {
+        sum += part[i] as u32;
+        i += 1;
+    }
+    sum
+}
+
+// Whether a server is in a set.
+pub(crate) fn has_server(set: u16, v: u8) -> bool
+    ensures { λ r. ⌜ r ≡ has set v ⌝ }
+{
+    if v < 16 {
+        return (set >> v) % 2 == 1;
+    }
+    false
+}
+
+// Whether one of the first n servers, other than v, is in a set.
+pub(crate) fn has_other(set: u16, v: u8, n: u8) -> bool
+    ensures { λ r. ⌜ r ≡ hasOther n v set ⌝ }
+{
+    let mut found = false;
+    let mut k: u8 = 0;
+    while k < n {
+        found = (!(k == v) & has_server(set, k)) | found;
+        k += 1;
+    }
+    found
+}
+
+// A set with a server.
+pub(crate) fn with_server(set: u16, v: u8) -> u16
+    requires { ⌜ v < 8 ⌝ }
+    ensures { λ r. ⌜ r ≡ with set v ⌝ }
+{
+    set | (1u16 << v)
+}
+
+// Whether each of n records has at most 1,024 octets and was sent to existing servers only.
+pub(crate) fn entries_sound<'a>(
+    lengths: &'a [u16; 64],
+    receivers: &'a [u16; 64],
+    n: usize,
+    servers: u8,
+) -> bool
+    requires { ⌜ (n ≤ 64) × (servers ≤ 8) ⌝ }
+    ensures { λ r. ⌜ r ≡ every n (λ i. leb (getD (now (lengths .entry)) i 0) 1024 && ltb (getD (now (receivers .entry)) i 0) (2 ^ servers)) ⌝ }
+{
+    let bound = 1u16 << servers;
+    let mut ok = true;
+    let mut i: usize = 0;
+    while i < n {
+        ok = ok & ((lengths[i] <= 1024) & (receivers[i] < bound));
+        i += 1;
+    }
+    ok
+}
+
+// Whether each of the first n records was sent to a server.
+pub(crate) fn all_received(receivers: &[u16; 64], n: usize, v: u8) -> bool
+    requires { ⌜ n ≤ 64 ⌝ }
+    ensures { λ r. ⌜ r ≡ every n (λ i. has (getD (now (receivers .entry)) i 0) v) ⌝ }
+{
+    let mut ok = true;
+    let mut i: usize = 0;
+    while i < n {
+        ok = ok & has_server(receivers[i], v);
+        i += 1;
+    }
+    ok
+}
+
+// The entries from n on, moved to the front, with 0 in those that this frees.
+pub(crate) fn shift(entries: &[u16; 64], n: usize) -> [u16; 64]
+    requires { ⌜ n ≤ 64 ⌝ }
+    ensures { λ r. ⌜ r ≡ shifted (now (entries .entry)) n ⌝ }
+{
+    let part = &entries[..];
+    let mut moved = [0u16; 64];
+    let end = 64 - n;
+    let mut i: usize = 0;
+    while i < end {
+        moved[i] = part[n + i];
+        i += 1;
+    }
+    moved
+}

@@ -1,0 +1,19 @@
+// A message from a server.
+ghost use mathlib.Core.Path.{_≡_};
+ghost use Rattle.exporter.specs.Steps.{receiveStep, outputAfter, wroteOf};
+use crate::hear::Heard;
+use crate::state::State;
+use crate::state::Wrote;
+
+// Takes a message from server v, and writes its acknowledgement if it has one: 1 to 12, the least that applies.
+pub fn receive(s: State, v: u8, message: &[u8], out: &mut [u8]) -> Wrote
+    ensures { λ r. ⌜ (r ≡ wroteOf (receiveStep 32 s v (now (message .entry)) (now (out .entry))))
+        × (now (out .exit) ≡ outputAfter (now (out .entry)) (receiveStep 32 s v (now (message .entry)) (now (out .entry)))) ⌝ }
+{
+    let p = s.settings;
+    let heard = crate::hear::hear(p, message);
+    match heard {
+        Heard::Ack(dsn, config) => crate::acknowledge::acknowledge(s, v, dsn, config),
+        Heard::Move(m) => crate::transition::move_server(s, v, m, &[], out),
+    }
+}

@@ -1,0 +1,292 @@
+// Servers: their phases, the choice of the active one, and the steps of a delivery.
+ghost use mathlib.Core.Path.{_≡_};
+ghost use mathlib.Core.Bool.{cond, _&&_};
+ghost use Prim.Native.Nat.{_<_, _≤_};
+ghost use mathlib.Core.List.{map};
+ghost use lib.ListN.{getD, set};
+ghost use Rattle.exporter.specs.Servers.{server, phaseAt, isClosed, isOffered, canOffer, isAgreed, restart, beats, choose, sameActive, isNobody, changed, settle, acknowledged, expired, tickedFor, ticked};
+ghost use Rattle.exporter.specs.declared.state.Phase.the-variants.{Closed};
+use crate::state::Active;
+use crate::state::Delivery;
+use crate::state::Phase;
+use crate::state::Server;
+use crate::state::Settings;
+
+// The most servers that an exporter has.
+pub const MAX_SERVERS: u8 = 8;
+
+// The priority of a server, 0 past the last.
+fn priority_at(priorities: [u8; 8], v: u8) -> u8
+    ensures { λ r. ⌜ r ≡ getD priorities v 0 ⌝ }
+{
+    let i = v as usize;
+    if i < 8 { priorities[i] } else { 0 }
+}
+
+// The phase of a server, closed past the last.
+pub(crate) fn phase_at(servers: [Server; 8], v: u8) -> Phase
+    ensures { λ r. ⌜ r ≡ phaseAt servers v ⌝ }
+{
+    let i = v as usize;
+    if i < 8 {
+        let server = servers[i];
+        return server.phase;
+    }
+    Phase::Closed
+}
+
+// The servers with one in another phase; as they were for a number past the last.
+pub(crate) fn with_phase(servers: [Server; 8], v: u8, phase: Phase) -> [Server; 8]
+    ensures { λ r. ⌜ r ≡ set servers v (server phase) ⌝ }
+{
+    let mut changed = servers;
+    let i = v as usize;
+    if i < 8 {
+        changed[i] = Server { phase };
+    }
+    changed
+}
+
+// Whether a server in this phase is a candidate for the choice.
+pub(crate) fn is_agreed(phase: Phase) -> bool
+    ensures { λ r. ⌜ r ≡ isAgreed phase ⌝ }
+{
+    match phase {
+        Phase::Closed => false,
+        Phase::Started => false,
+        Phase::Offered => false,
+        Phase::Agreed => true,
+        Phase::Late => false,
+    }
+}
+
+// Whether a server in this phase is closed.
+pub(crate) fn is_closed(phase: Phase) -> bool
+    ensures { λ r. ⌜ r ≡ isClosed phase ⌝ }
+{
+    match phase {
+        Phase::Closed => true,
+        Phase::Started => false,
+        Phase::Offered => false,
+        Phase::Agreed => false,
+        Phase::Late => false,
+    }
+}
+
+// Whether a server in this phase was offered the templates and has not agreed to them yet.
+pub(crate) fn is_offered(phase: Phase) -> bool
+    ensures { λ r. ⌜ r ≡ isOffered phase ⌝ }
+{
+    match phase {
+        Phase::Closed => false,
+        Phase::Started => false,
+        Phase::Offered => true,
+        Phase::Agreed => false,
+        Phase::Late => false,
+    }
+}
+
+// Whether templates can be offered to a server in this phase.
+pub(crate) fn can_offer(phase: Phase) -> bool
+    ensures { λ r. ⌜ r ≡ canOffer phase ⌝ }
+{
+    match phase {
+        Phase::Closed => false,
+        Phase::Started => true,
+        Phase::Offered => true,
+        Phase::Agreed => false,
+        Phase::Late => false,
+    }
+}
+
+// A server after START NEGOTIATE: closed stays, any other becomes started.
+fn restart_server(s: Server) -> Server
+    ensures { λ r. ⌜ r ≡ restart s ⌝ }
+{
+    let phase = s.phase;
+    match phase {
+        Phase::Closed => Server {
+            phase: Phase::Closed,
+        },
+        Phase::Started => Server {
+            phase: Phase::Started,
+        },
+        Phase::Offered => Server {
+            phase: Phase::Started,
+        },
+        Phase::Agreed => Server {
+            phase: Phase::Started,
+        },
+        Phase::Late => Server {
+            phase: Phase::Started,
+        },
+    }
+}
+
+// The servers after START NEGOTIATE.
+pub(crate) fn restart_servers(servers: [Server; 8]) -> [Server; 8]
+    ensures { λ r. ⌜ r ≡ map restart servers ⌝ }
+{
+    let mut changed = servers;
+    let mut i: usize = 0;
+    while i < 8 {
+        changed[i] = restart_server(servers[i]);
+        i += 1;
+    }
+    changed
+}
+
+// Whether a server has a higher priority than the choice so far, or there is none so far.
+fn beats_best(priorities: [u8; 8], v: u8, best: Active) -> bool
+    ensures { λ r. ⌜ r ≡ beats priorities v best ⌝ }
+{
+    match best {
+        Active::Nobody => true,
+        Active::Server(b) => priority_at(priorities, b) < priority_at(priorities, v),
+    }
+}
+
+// The choice so far, or a server if it is agreed and has a higher priority.
+fn better(priorities: [u8; 8], servers: [Server; 8], v: u8, best: Active) -> Active
+    ensures { λ r. ⌜ r ≡ cond (isAgreed (phaseAt servers v) && beats priorities v best) (Active.Server v) best ⌝ }
+{
+    if is_agreed(phase_at(servers, v)) & beats_best(priorities, v, best) {
+        return Active::Server(v);
+    }
+    best
+}
+
+// Of the first n servers, the agreed one of highest priority, the one with the lowest number on ties.
+pub(crate) fn choose_server(priorities: [u8; 8], servers: [Server; 8], n: u8) -> Active
+    ensures { λ r. ⌜ r ≡ choose priorities servers n ⌝ }
+{
+    let mut best = Active::Nobody;
+    let mut v: u8 = 0;
+    while v < n {
+        best = better(priorities, servers, v, best);
+        v += 1;
+    }
+    best
+}
+
+// Whether two choices are the same.
+pub(crate) fn same_active(a: Active, b: Active) -> bool
+    ensures { λ r. ⌜ r ≡ sameActive a b ⌝ }
+{
+    match a {
+        Active::Nobody => match b {
+            Active::Nobody => true,
+            Active::Server(_) => false,
+        },
+        Active::Server(i) => match b {
+            Active::Nobody => false,
+            Active::Server(j) => i == j,
+        },
+    }
+}
+
+// Whether nobody is active.
+pub(crate) fn is_nobody(a: Active) -> bool
+    ensures { λ r. ⌜ r ≡ isNobody a ⌝ }
+{
+    match a {
+        Active::Nobody => true,
+        Active::Server(_) => false,
+    }
+}
+
+// Whether the servers choose another than the active one.
+pub(crate) fn is_changed(p: Settings, d: Delivery) -> bool
+    ensures { λ r. ⌜ r ≡ changed p d ⌝ }
+{
+    let priorities = p.priorities;
+    let servers = d.servers;
+    let active = d.active;
+    !same_active(choose_server(priorities, servers, p.servers), active)
+}
+
+// The delivery after the choice is made anew: a changed one begins an activation.
+pub(crate) fn settle_delivery(p: Settings, d: Delivery) -> Delivery
+    ensures { λ r. ⌜ r ≡ settle p d ⌝ }
+{
+    if is_changed(p, d) {
+        let priorities = p.priorities;
+        let servers = d.servers;
+        let active = choose_server(priorities, servers, p.servers);
+        return Delivery {
+            servers,
+            active,
+            sent: 0,
+            reached: 0,
+            timer: 0,
+        };
+    }
+    d
+}
+
+// The timer of the active server has run out: it turns late if another server is agreed, else what was sent is sent again.
+fn expire(p: Settings, v: u8, d: Delivery) -> Delivery
+    ensures { λ r. ⌜ r ≡ expired p v d ⌝ }
+{
+    let priorities = p.priorities;
+    let servers = d.servers;
+    let late = with_phase(servers, v, Phase::Late);
+    let mut next = d;
+    next.timer = 0;
+    if is_nobody(choose_server(priorities, late, p.servers)) {
+        next.sent = 0;
+        return next;
+    }
+    next.servers = late;
+    next
+}
+
+// The delivery after a tick of the active server's timer.
+fn tick_active(p: Settings, v: u8, d: Delivery) -> Delivery
+    requires { ⌜ d .timer < p .duration ⌝ }
+    ensures { λ r. ⌜ r ≡ tickedFor p d (Active.Server v) ⌝ }
+{
+    let mut next = d;
+    if d.reached < p.threshold as usize {
+        next.timer = 0;
+        return next;
+    }
+    let timer = d.timer + 1;
+    if timer == p.duration {
+        return expire(p, v, d);
+    }
+    next.timer = timer;
+    next
+}
+
+// The delivery after a tick.
+pub(crate) fn tick_delivery(p: Settings, d: Delivery) -> Delivery
+    requires { ⌜ d .timer < p .duration ⌝ }
+    ensures { λ r. ⌜ r ≡ ticked p d ⌝ }
+{
+    let active = d.active;
+    match active {
+        Active::Nobody => {
+            let mut next = d;
+            next.timer = 0;
+            next
+        }
+        Active::Server(v) => tick_active(p, v, d),
+    }
+}
+
+// The delivery after a DATA ACK that releases n records.
+pub(crate) fn acknowledge_delivery(d: Delivery, n: usize) -> Delivery
+    requires { ⌜ n ≤ d .reached ⌝ }
+    ensures { λ r. ⌜ r ≡ acknowledged n d ⌝ }
+{
+    let mut next = d;
+    if n == 0 {
+        next.sent = 0;
+        return next;
+    }
+    next.sent = octets::room(d.sent, n);
+    next.reached = d.reached - n;
+    next.timer = 0;
+    next
+}

@@ -1,0 +1,84 @@
+// Set-up: a fresh exporter.
+ghost use mathlib.Core.Path.{_≡_};
+ghost use lib.ListN.{length};
+ghost use Rattle.exporter.specs.Steps.{fresh, noSettings, setUp};
+use crate::state::Active;
+use crate::state::Delivery;
+use crate::state::Made;
+use crate::state::Phase;
+use crate::state::Queue;
+use crate::state::Server;
+use crate::state::Settings;
+use crate::state::State;
+use octets::Answer;
+
+// A state that holds nothing.
+fn fresh_state(p: Settings, capacity: usize) -> State
+    ensures { λ r. ⌜ r ≡ fresh p capacity ⌝ }
+{
+    let closed = Server {
+        phase: Phase::Closed,
+    };
+    let servers = [closed; 8];
+    let empty = [0u16; 64];
+    let active = Active::Nobody;
+    let delivery = Delivery {
+        servers,
+        active,
+        sent: 0,
+        reached: 0,
+        timer: 0,
+    };
+    let queue = Queue {
+        count: 0,
+        lengths: empty,
+        templates: empty,
+        receivers: empty,
+    };
+    State {
+        settings: p,
+        capacity,
+        delivery,
+        due: true,
+        queue,
+        start: 0,
+        next: p.initial,
+    }
+}
+
+// Settings that no exporter has.
+fn no_settings() -> Settings
+    ensures { λ r. ⌜ r ≡ noSettings ⌝ }
+{
+    let priorities = [0u8; 8];
+    Settings {
+        session: 0,
+        config: 0,
+        boot: 0,
+        initial: 0,
+        servers: 0,
+        priorities,
+        threshold: 0,
+        duration: 0,
+    }
+}
+
+// Makes an exporter over a store, whose length it keeps: 20 for a store or a setting outside the limits, with a state that every call
+// refuses.
+pub fn set_up(p: Settings, store: &[u8]) -> Made
+    ensures { λ r. ⌜ r ≡ setUp p (length (now (store .entry))) ⌝ }
+{
+    let capacity = store.len();
+    if crate::sound::settings_sound(p, capacity) {
+        let state = fresh_state(p, capacity);
+        return Made {
+            answer: Answer::DONE,
+            state,
+        };
+    }
+    let state = fresh_state(no_settings(), 0);
+    Made {
+        answer: Answer::SETTINGS_OUTSIDE_LIMITS,
+        state,
+    }
+}
