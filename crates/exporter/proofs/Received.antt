@@ -81,9 +81,9 @@ module _ (p : Settings) (v : ℕ) (m : List ℕ) where
       ∷ (bodyLengthWrong when not (bodyFits (messageNumber m) (length m - headerOctets)))
       ∷ []
 
-  pub heard-refused : (a : ℕ) → headerOf m ≡ header.Refused a → move v (malformed a) ≡ received p v m
+  pub request-refused : (a : ℕ) → headerOf m ≡ header.Refused a → move v (malformed a) ≡ received p v m
   unfolding headerOf headerAnswer formAnswer
-  heard-refused a e =
+  request-refused a e =
       let q = refusal-told (eqb (headerAnswer m) done) (record { session = sessionOf m; number = messageNumber m }) (headerAnswer m) a e in
       let h : a ≡ done → ⊥ = λ z. eqb-false (headerAnswer m) done (q .0) (q .1 ∙ z) in
       by-refusal a h (judged-first (headerChecks m) rest (λ z. h (sym (q .1) ∙ z)) ∙ q .1)
@@ -99,16 +99,16 @@ module _ (p : Settings) (v : ℕ) (m : List ℕ) where
     unfolding headerAnswer formAnswer
     behind = judged-next (headerChecks m) rest tt (facts .0)
 
-    pub heard-session : (h .session ≡ p .session → ⊥) → move v (malformed otherSession) ≡ received p v m
-    heard-session n =
+    pub request-session : (h .session ≡ p .session → ⊥) → move v (malformed otherSession) ≡ received p v m
+    request-session n =
         by-refusal otherSession (λ z. omega arith) (behind ∙ rw (facts .1 .0, ne-eqb (h .session) (p .session) n))
 
-    pub heard-number : h .session ≡ p .session → isReceived (h .number) ≡ false → move v (malformed messageNotAccepted) ≡ received p v m
-    heard-number s n =
+    pub request-number : h .session ≡ p .session → isReceived (h .number) ≡ false → move v (malformed messageNotAccepted) ≡ received p v m
+    request-number s n =
         by-refusal messageNotAccepted (λ z. omega arith) (behind ∙ rw (facts .1 .0, facts .1 .1, eq-eqb (h .session) (p .session) s, n))
 
-    pub heard-body : h .session ≡ p .session → isReceived (h .number) ≡ true → callOfReading v (readOf m) ≡ received p v m
-    heard-body s n =
+    pub request-body : h .session ≡ p .session → isReceived (h .number) ≡ true → callOfReading v (readOf m) ≡ received p v m
+    request-body s n =
         let a = accepted (h .number) n in
         by-reading
         (behind

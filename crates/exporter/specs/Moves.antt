@@ -14,8 +14,8 @@ use Rattle.exporter.specs.Queue.{dropFront}
 use Rattle.exporter.specs.declared.acknowledge.AckChange.{AckChange}
 use Rattle.exporter.specs.declared.state.Active.the-variants as active
 use Rattle.exporter.specs.declared.state.State.{State}
-use Rattle.exporter.specs.declared.hear.Heard.{Heard}
-use Rattle.exporter.specs.declared.hear.Heard.the-variants as heard
+use Rattle.exporter.specs.declared.decode.Request.{Request}
+use Rattle.exporter.specs.declared.decode.Request.the-variants as request
 use Rattle.exporter.specs.declared.transition.Move.{Move}
 use Rattle.exporter.specs.declared.transition.Move.the-variants as code
 
@@ -44,9 +44,9 @@ tableFits (malformed a) table = true
 -- ---- received messages
 
 -- The call that the code's value stands for, from server v.
-abbrev pub callOfHeard : ℕ → Heard → Call
-callOfHeard v (heard.Ack dsn config) = ack v dsn config
-callOfHeard v (heard.Move m) = move v (transitionOf m)
+abbrev pub callOfRequest : ℕ → Request → Call
+callOfRequest v (request.Ack dsn config) = ack v dsn config
+callOfRequest v (request.Move m) = move v (transitionOf m)
 
 -- The call that reading a message alone stands for, from server v.
 abbrev pub callOfReading : ℕ → Reading → Call

@@ -1,7 +1,7 @@
 // The exporting side of a CRANE session: set-up and six calls over a state that is passed by value and a store that is lent.
 mod acknowledge;
 mod change;
-mod hear;
+mod decode;
 pub mod line_down;
 pub mod next_data;
 pub mod offer_templates;

@@ -1,7 +1,7 @@
 // A message from a server.
 ghost use mathlib.Core.Path.{_≡_};
 ghost use Rattle.exporter.specs.Steps.{receiveStep, outputAfter, wroteOf};
-use crate::hear::Heard;
+use crate::decode::Request;
 use crate::state::State;
 use crate::state::Wrote;
 
@@ -11,9 +11,9 @@ pub fn receive(s: State, v: u8, message: &[u8], out: &mut [u8]) -> Wrote
         × (now (out .exit) ≡ outputAfter (now (out .entry)) (receiveStep 32 s v (now (message .entry)) (now (out .entry)))) ⌝ }
 {
     let p = s.settings;
-    let heard = crate::hear::hear(p, message);
-    match heard {
-        Heard::Ack(dsn, config) => crate::acknowledge::acknowledge(s, v, dsn, config),
-        Heard::Move(m) => crate::transition::move_server(s, v, m, &[], out),
+    let request = crate::decode::decode(p, message);
+    match request {
+        Request::Ack(dsn, config) => crate::acknowledge::acknowledge(s, v, dsn, config),
+        Request::Move(m) => crate::transition::move_server(s, v, m, &[], out),
     }
 }

@@ -3,7 +3,7 @@ ghost use mathlib.Core.Path.{_≡_};
 ghost use Prim.Native.Nat.{ℕ};
 ghost use Rattle.wire.specs.Messages.{readOf};
 ghost use Rattle.exporter.specs.Steps.{isReceived, callOfMessage, received};
-ghost use Rattle.exporter.specs.Moves.{callOfHeard, callOfReading};
+ghost use Rattle.exporter.specs.Moves.{callOfRequest, callOfReading};
 use crate::state::Settings;
 use crate::transition::Move;
 use octets::Answer;
@@ -12,17 +12,17 @@ use wire::message::Message;
 use wire::message::Reading;
 
 // A DATA ACK with its DSN and Configuration ID, or a transition.
-pub(crate) enum Heard {
+pub(crate) enum Request {
     Ack(u32, u8),
     Move(Move),
 }
 
 // A message that moves nothing, by the number of its refusal.
-fn refuse_message(answer: u8) -> Heard
-    ensures { λ r. ⌜ r ≡ Heard.Move (Move.Malformed answer) ⌝ }
+fn refuse_message(answer: u8) -> Request
+    ensures { λ r. ⌜ r ≡ Request.Move (Move.Malformed answer) ⌝ }
 {
     let m = Move::Malformed(answer);
-    Heard::Move(m)
+    Request::Move(m)
 }
 
 // Whether an exporter accepts the messages with this number.
@@ -37,44 +37,44 @@ fn is_received(number: u8) -> bool
 }
 
 // What a message asks for, by its meaning; those that an exporter does not accept are refused before.
-fn hear_message(message: Message) -> Heard
-    ensures { λ r. ⌜ ((v : ℕ) → callOfHeard v r ≡ callOfMessage v message) ⌝ }
+fn decode_message(message: Message) -> Request
+    ensures { λ r. ⌜ ((v : ℕ) → callOfRequest v r ≡ callOfMessage v message) ⌝ }
 {
     match message {
-        Message::Start { session: _ } => Heard::Move(Move::Start),
+        Message::Start { session: _ } => Request::Move(Move::Start),
         Message::StartAck {
             session: _,
             boot_time: _,
         } => refuse_message(Answer::MESSAGE_NOT_ACCEPTED),
-        Message::Stop { session: _ } => Heard::Move(Move::Stop),
+        Message::Stop { session: _ } => Request::Move(Move::Stop),
         Message::StopAck { session: _ } => refuse_message(Answer::MESSAGE_NOT_ACCEPTED),
         Message::TmplData { session: _ } => refuse_message(Answer::MESSAGE_NOT_ACCEPTED),
-        Message::FinalTmplDataAck { session: _, config } => Heard::Move(Move::Agree(config)),
-        Message::StartNegotiate { session: _ } => Heard::Move(Move::Negotiate),
+        Message::FinalTmplDataAck { session: _, config } => Request::Move(Move::Agree(config)),
+        Message::StartNegotiate { session: _ } => Request::Move(Move::Negotiate),
         Message::StartNegotiateAck { session: _ } => refuse_message(Answer::MESSAGE_NOT_ACCEPTED),
         Message::Data(_) => refuse_message(Answer::MESSAGE_NOT_ACCEPTED),
         Message::DataAck {
             session: _,
             dsn,
             config,
-        } => Heard::Ack(dsn, config),
+        } => Request::Ack(dsn, config),
     }
 }
 
 // What the octets of a message ask for, by what reading them alone answers.
-fn hear_body(message: &[u8]) -> Heard
-    ensures { λ r. ⌜ ((v : ℕ) → callOfHeard v r ≡ callOfReading v (readOf (now (message .entry)))) ⌝ }
+fn decode_body(message: &[u8]) -> Request
+    ensures { λ r. ⌜ ((v : ℕ) → callOfRequest v r ≡ callOfReading v (readOf (now (message .entry)))) ⌝ }
 {
     let reading = wire::message::read_message(message);
     match reading {
-        Reading::Message(m) => hear_message(m),
+        Reading::Message(m) => decode_message(m),
         Reading::Refused(a) => refuse_message(a),
     }
 }
 
 // What the octets of a message ask for: judged 3, 4, 5 by the header, 6, 7, then by the body.
-pub(crate) fn hear(p: Settings, message: &[u8]) -> Heard
-    ensures { λ r. ⌜ ((v : ℕ) → callOfHeard v r ≡ received p v (now (message .entry))) ⌝ }
+pub(crate) fn decode(p: Settings, message: &[u8]) -> Request
+    ensures { λ r. ⌜ ((v : ℕ) → callOfRequest v r ≡ received p v (now (message .entry))) ⌝ }
 {
     let header = wire::message::read_header(message);
     match header {
@@ -85,7 +85,7 @@ pub(crate) fn hear(p: Settings, message: &[u8]) -> Heard
             if !is_received(h.number) {
                 return refuse_message(Answer::MESSAGE_NOT_ACCEPTED);
             }
-            hear_body(message)
+            decode_body(message)
         }
         HeaderReading::Refused(a) => refuse_message(a),
     }

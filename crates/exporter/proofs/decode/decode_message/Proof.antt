@@ -1,8 +1,8 @@
--- `hear_message` meets its contract, message by message. Assumes nothing.
+-- `decode_message` meets its contract, message by message. Assumes nothing.
 use Rattle.exporter.specs.Steps.{callOfMessage}
 use borrow.Author.Needs.{needs}
-use Rattle.exporter.proofs.hear.hear_message.Statement.{statement}
-use Rattle.exporter.proofs.hear.hear_message.Tie as tie
+use Rattle.exporter.proofs.decode.decode_message.Statement.{statement}
+use Rattle.exporter.proofs.decode.decode_message.Tie as tie
 
 enum-told : tie.Need-enum-told
 enum-told c = search needs
@@ -89,8 +89,8 @@ returns-10 : tie.Need-returns-10
 unfolding callOfMessage
 returns-10 c = λ v. rw (c .before .message2 .given .1)
 
-pub hear-message-spec : {M : Type 1} → statement M
-hear-message-spec =
+pub decode-message-spec : {M : Type 1} → statement M
+decode-message-spec =
     tie.close
     (tie.spec
     enum-told
