@@ -1,0 +1,44 @@
+// The replay program: a tape from standard input, its lines to standard output.
+ghost use Prim.Native.Nat.{_≤_};
+ghost use lib.ListN.{length};
+use libc::STDIN_FILENO;
+use libc::STDOUT_FILENO;
+
+// Writes the first len octets of a text.
+fn print(text: &[u8; 32793], len: usize) {
+    let whole = &text[..];
+    if len <= whole.len() {
+        io::write_all(STDOUT_FILENO, &whole[..len]);
+    }
+}
+
+// Replays a tape over a lent store, line by line. A refusal leaves no events, and a turn with none left has no line.
+fn replay(tape: &[u8], store: &mut [u8]) {
+    let mut out = [0u8; 16392];
+    let mut text = [0u8; 32793];
+    let mut turn = tape::replay::open_tape(tape, store, &mut text);
+    print(&text, turn.len);
+    let mut turns = turn.progress.left;
+    while 0 < turns {
+        let progress = turn.progress;
+        turn = tape::replay::take_event(progress, tape, store, &mut out, &mut text);
+        print(&text, turn.len);
+        turns -= 1;
+    }
+}
+
+// Lends a replay the part of the store that the tape's settings name.
+fn lend(tape: &[u8], store: &mut [u8])
+    requires { ⌜ 65536 ≤ length (now store) ⌝ }
+{
+    let len = tape::event::store_length(tape);
+    replay(tape, &mut store[..len]);
+}
+
+// Reads to the end of the input, or one octet more than a tape has.
+fn main() {
+    let mut input = [0u8; 32769];
+    let n = io::read_full(STDIN_FILENO, &mut input);
+    let mut store = [0u8; 65536];
+    lend(&input[..n], &mut store);
+}

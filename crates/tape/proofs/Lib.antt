@@ -1,0 +1,5 @@
+pub mod Parts
+pub mod Events
+pub mod Lines
+pub mod Turns
+pub mod Replays

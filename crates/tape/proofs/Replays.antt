@@ -1,0 +1,237 @@
+-- Turn by turn the lines are those of the whole replay, and its calls are a list of calls of demand 3. Assumes nothing.
+use mathlib.Core.Path.{_≡_, refl, sym, ap, _∙_}
+use mathlib.Core.Bool.{Bool, true, false, not, cond, false≢true}
+use mathlib.Core.List.{List, [], _∷_}
+use Prim.Native.Nat.{ℕ, zero, suc, _+_, _-_, _≤_, _<_}
+use native.Mathlib.Nat.{add-zero, add-suc, le-refl}
+use native.Mathlib.Numerals.{add-one}
+use native.Mathlib.Omega.{arith}
+use borrow.Author.Tests.{eq-eqb, ne-eqb, eqb-true, leb-true}
+use lib.Dec.{eqb, leb}
+use lib.ListN.{length, drop, length-take, length-drop}
+use lib.Seq.{sets, length-sets}
+use Rattle.octets.specs.Answers.{done, unsoundTable}
+use Rattle.octets.specs.Numbers.{uintAt, Octets}
+use Rattle.octets.proofs.Numbers.{uint-below}
+use Rattle.wire.specs.Each.{every}
+use Rattle.exporter.specs.Servers.{offer}
+use Rattle.exporter.specs.Steps.{nextData, move, received, step, setUp, isSessions}
+use Rattle.exporter.specs.Claim.{Event, Put, NextData, Receive, OfferTemplates, LineDown, Tick, Session, sessionOf32, Exporter, outcome, storeLeft, advance, begin, AllOctets}
+use Rattle.exporter.proofs.Demand.{demand3of32}
+use Rattle.exporter.specs.declared.state.Settings.{Settings}
+use Rattle.exporter.specs.declared.state.State.{State}
+use Rattle.tape.specs.Tape.{eventCount, kindAt, serverAt, bodyLength, bodyAt, octetsAt, bodyOf, eventSound, maxTapeOctets, minEvents, maxEvents, tapeSound}
+use Rattle.tape.specs.Lines.{lineOf, tapeRefused}
+use Rattle.tape.specs.Replay.{tableAnswer, outputBufferOctets, outputBuffer, eventCall, callsFrom, linesOf, ifDone, tapeSettings, tapeSession, tapeStore, tapeCalls, replay, settingsOf}
+use Rattle.tape.specs.Turns.{effect, effectStore, Played, opened, indexOf, nextBody, tableTurn, nextCall, callTurn, played, turnsFrom, turns, TurnByTurn, CallsClaimed}
+use Rattle.tape.specs.declared.replay.Progress.{Progress}
+use Rattle.tape.proofs.Parts.{octets-part}
+
+-- ---- a call looks at the output's length and at the session's table only
+
+-- the same outcome, and the same store after it
+abbrev Same : List ℕ → State → List ℕ → Event → Event → Type 0
+Same table s store e f = (effect table s store e ≡ effect table s store f) × (effectStore table s store e ≡ effectStore table s store f)
+
+pub same-call : (table : List ℕ) (s : State) (store : List ℕ) (kind server : ℕ) (b out more : List ℕ) → length out ≡ length more
+    → Same table s store (eventCall kind server b out) (eventCall kind server b more)
+unfolding eventCall
+same-call table s store kind server b out more e = go (eqb kind 2) (eqb kind 3) (eqb kind 4) (eqb kind 5) (eqb kind 6)
+  where
+    go : (c₁ c₂ c₃ c₄ c₅ : Bool) → Same table s store
+        (cond c₁ (Put (uintAt b 0 2) (drop 2 b)) (cond c₂ (Receive server b out) (cond c₃ (LineDown server) (cond c₄ Tick (cond c₅ (NextData out) (OfferTemplates server out))))))
+        (cond c₁ (Put (uintAt b 0 2) (drop 2 b)) (cond c₂ (Receive server b more) (cond c₃ (LineDown server) (cond c₄ Tick (cond c₅ (NextData more) (OfferTemplates server more))))))
+    go true c₂ c₃ c₄ c₅ = (refl, refl)
+    go false true c₃ c₄ c₅ = (ap (λ (n : ℕ). step 32 [] n (received (s .settings) server b) s []) e, refl)
+    go false false true c₄ c₅ = (refl, refl)
+    go false false false true c₅ = (refl, refl)
+    go false false false false true = (ap (λ (n : ℕ). step 32 [] n nextData s store) e, refl)
+    go false false false false false = (ap (λ (n : ℕ). step 32 table n (move server offer) s []) e, refl)
+
+pub outcome-settings : (p q : Settings) (table : List ℕ) (x : Exporter) (e : Event)
+    → outcome (sessionOf32 p table) x e ≡ outcome (sessionOf32 q table) x e
+outcome-settings p q table x (Put id r) = refl
+outcome-settings p q table x (NextData out) = refl
+outcome-settings p q table x (Receive v m out) = refl
+outcome-settings p q table x (OfferTemplates v out) = refl
+outcome-settings p q table x (LineDown v) = refl
+outcome-settings p q table x Tick = refl
+
+-- ---- the bodies of a sound tape lie within it
+
+pub body-sum : (t : List ℕ) (i : ℕ) → bodyAt t (i + 1) ≡ bodyAt t i + bodyLength t i
+unfolding bodyAt
+body-sum t i = rw add-one refl
+
+pub bodies-rise : (t : List ℕ) (i n : ℕ) → bodyAt t i ≤ bodyAt t (i + n)
+bodies-rise t i zero = rw add-zero (le-refl _)
+bodies-rise t i (suc n) =
+    let h = bodies-rise t i n in
+    let e : bodyAt t (i + suc n) ≡ bodyAt t (i + n) + bodyLength t (i + n) = rw (add-suc, ← add-one) (body-sum t (i + n)) in
+    omega (arith, h, e)
+
+-- What soundness says of the number of events and of the last body's end.
+pub record Bounded (t : List ℕ) : Type 0 where
+  pub some : 2 ≤ eventCount t
+  pub whole : bodyAt t (eventCount t) ≡ length t
+
+pub bounded : (t : List ℕ) → tapeSound t ≡ true → Bounded t
+unfolding tapeSound
+bounded t e =
+    let f = go (leb (length t) maxTapeOctets) (leb minEvents (eventCount t)) (leb (eventCount t) maxEvents) (every (eventCount t) (eventSound t)) (eqb (bodyAt t (eventCount t)) (length t)) e in
+    record { some = leb-true _ _ (f .0); whole = eqb-true _ _ (f .1) }
+  where
+    go : (a b c d f : Bool) → cond a (cond b (cond c (cond d (cond f true false) false) false) false) false ≡ true → (b ≡ true) × (f ≡ true)
+    go true true true true true h = (refl, refl)
+    go true true true true false h = absurd (false≢true h)
+    go true true true false f h = absurd (false≢true h)
+    go true true false d f h = absurd (false≢true h)
+    go true false c d f h = absurd (false≢true h)
+    go false b c d f h = absurd (false≢true h)
+
+pub body-whole : (t : List ℕ) (i : ℕ) → Bounded t → i < eventCount t → length (bodyOf t i) ≡ bodyLength t i
+unfolding octetsAt
+body-whole t i f h =
+    let r = bodies-rise t (i + 1) (eventCount t - (i + 1)) in
+    let e : i + 1 + (eventCount t - (i + 1)) ≡ eventCount t = omega arith in
+    let r' : bodyAt t (i + 1) ≤ bodyAt t (eventCount t) = rw e at r in
+    omega (arith, r', body-sum t i, f .whole, length-take (bodyLength t i) (drop (bodyAt t i) t), length-drop (bodyAt t i) t)
+
+-- ---- the calls
+
+-- The turn of event i of a sound tape, with the state and the store of an exporter: its outcome is that of the call in the whole replay.
+pub played-at : (t out : List ℕ) → Bounded t → length out ≡ outputBufferOctets → (n i : ℕ) → i + suc n ≡ eventCount t → 2 ≤ i → (x : Exporter)
+    → let e = eventCall (kindAt t i) (serverAt t i) (bodyOf t i) outputBuffer in
+    let o = outcome (tapeSession t) x e in
+    played t (record { state = x .state; left = suc n; at = bodyAt t i }) (x .store) out
+    ≡ record {
+      line = lineOf i (o .answer) (o .written);
+      written = o .written;
+      progress = record { state = o .state; left = n; at = bodyAt t (i + 1) };
+      store = storeLeft x e o;
+    }
+unfolding played
+played-at t out f l n i c h x =
+    let z : eventCount t - suc n ≡ i = omega arith in
+    let e = eventCall (kindAt t i) (serverAt t i) (bodyOf t i) outputBuffer in
+    let s = same-call (bodyOf t 1) (x .state) (x .store) (kindAt t i) (serverAt t i) (bodyOf t i) out outputBuffer (l ∙ refl) in
+    let k = s .0 ∙ outcome-settings (x .state .settings) (tapeSettings t) (bodyOf t 1) x e in
+    let m = s .1 ∙ ap (storeLeft x e) (outcome-settings (x .state .settings) (tapeSettings t) (bodyOf t 1) x e) in
+    let w : bodyAt t i + length (bodyOf t i) ≡ bodyAt t (i + 1) = ap (λ (j : ℕ). bodyAt t i + j) (body-whole t i f (omega arith)) ∙ sym (body-sum t i) in
+    let less : suc n - 1 ≡ n = omega arith in
+    rw (ne-eqb (suc n) 0 (λ y. absurd (omega (arith, y))), z, ne-eqb i 1 (λ y. absurd (omega (arith, y)))) (rw (m, k, w, less) refl)
+
+-- no turn is taken where no event is left
+none-left : (t out : List ℕ) (n : ℕ) (p : Played) → p .progress .left ≡ 0 → turnsFrom t out n p ≡ []
+unfolding turnsFrom
+none-left t out zero p e = refl
+none-left t out (suc n) p e = rw (eq-eqb (p .progress .left) 0 e) refl
+
+pub calls-turns : (t out : List ℕ) → Bounded t → length out ≡ outputBufferOctets → (n i fuel : ℕ) → i + n ≡ eventCount t → 2 ≤ i → n ≤ fuel
+    → (x : Exporter) (p : Played) → p .progress ≡ record { state = x .state; left = n; at = bodyAt t i } → p .store ≡ x .store
+    → turnsFrom t out fuel p ≡ linesOf (tapeSession t) x i (callsFrom t i n)
+unfolding turnsFrom linesOf callsFrom advance
+calls-turns t out f l zero i fuel c h k x p r s = none-left t out fuel p (ap (λ (q : Progress). q .left) r)
+calls-turns t out f l (suc n) i zero c h k x p r s = absurd (omega arith)
+calls-turns t out f l (suc n) i (suc fuel) c h k x p r s =
+    let e = eventCall (kindAt t i) (serverAt t i) (bodyOf t i) outputBuffer in
+    let o = outcome (tapeSession t) x e in
+    rw (r, s, played-at t out f l n i c h x)
+    (rw (ne-eqb (suc n) 0 (λ y. absurd (omega (arith, y))))
+    (ap (λ (ls : List (List ℕ)). lineOf i (o .answer) (o .written) ∷ ls)
+    (calls-turns t (sets out 0 (o .written)) f (length-sets out 0 (o .written) ∙ l) n (i + 1) fuel (omega arith) (omega arith) (omega arith) (advance (tapeSession t) x e) _ refl refl)))
+
+-- ---- the table
+
+-- The turn of the table of a sound tape.
+pub table-at : (t store out : List ℕ) → Bounded t → (m : ℕ) → m + 2 ≡ eventCount t → (s : State)
+    → let a = tableAnswer (tapeSettings t) (bodyOf t 1) in
+    played t (record { state = s; left = suc m; at = bodyAt t 1 }) store out
+    ≡ record { line = lineOf 1 a []; written = []; progress = record { state = s; left = cond (eqb a done) m 0; at = bodyAt t 2 }; store = store }
+unfolding played
+table-at t store out f m c s =
+    let z : eventCount t - suc m ≡ 1 = omega arith in
+    let w : bodyAt t 1 + length (bodyOf t 1) ≡ bodyAt t 2 = ap (λ (j : ℕ). bodyAt t 1 + j) (body-whole t 1 f (omega arith)) ∙ sym (body-sum t 1) in
+    let less : suc m - 1 ≡ m = omega arith in
+    rw (ne-eqb (suc m) 0 (λ y. absurd (omega (arith, y))), z) (rw (w, less) refl)
+
+-- The lines from the table on.
+pub table-turns : (t out : List ℕ) → Bounded t → length out ≡ outputBufferOctets → (m fuel : ℕ) → m + 2 ≡ eventCount t → m ≤ fuel → (p : Played) (x : Exporter)
+    → p .progress ≡ record { state = x .state; left = suc m; at = bodyAt t 1 } → p .store ≡ x .store
+    → let a = tableAnswer (tapeSettings t) (bodyOf t 1) in
+    turnsFrom t out (suc fuel) p ≡ lineOf 1 a [] ∷ ifDone a (linesOf (tapeSession t) x 2 (callsFrom t 2 m))
+unfolding turnsFrom
+table-turns t out f l m fuel c k p x r s =
+    let a = tableAnswer (tapeSettings t) (bodyOf t 1) in
+    rw (r, s, table-at t (x .store) out f m c (x .state))
+    (rw (ne-eqb (suc m) 0 (λ y. absurd (omega (arith, y))))
+    (ap (λ (ls : List (List ℕ)). lineOf 1 a [] ∷ ls) (go (eqb a done))))
+  where
+    go : (b : Bool)
+        → turnsFrom t (sets out 0 []) fuel (record { line = lineOf 1 (tableAnswer (tapeSettings t) (bodyOf t 1)) []; written = []; progress = record { state = x .state; left = cond b m 0; at = bodyAt t 2 }; store = x .store })
+        ≡ cond b (linesOf (tapeSession t) x 2 (callsFrom t 2 m)) []
+    go true = calls-turns t out f l m 2 fuel (omega arith) (omega arith) k x _ refl refl
+    go false = none-left t out fuel _ refl
+
+-- ---- the whole replay
+
+pub turn-by-turn : TurnByTurn
+unfolding opened replay begin
+turn-by-turn t out l = sound? (tapeSound t) refl
+  where
+    made : ℕ
+    made = setUp (tapeSettings t) (length (tapeStore t)) .answer
+
+    accepted? : tapeSound t ≡ true → (b : Bool) → eqb made done ≡ b → turns t (tapeStore t) out ≡ replay t
+    accepted? e false g = rw (none-left t out (eventCount t) (opened t (tapeStore t)) (rw (e, g) refl), e, g) refl
+    accepted? e true g =
+        let f = bounded t e in
+        let m = eventCount t - 2 in
+        let all : suc (eventCount t - 1) ≡ eventCount t = omega (arith, f .some) in
+        let more : eventCount t - 1 ≡ suc m = omega (arith, f .some) in
+        let q =
+        table-turns t out f l m (eventCount t - 1) (omega (arith, f .some)) (omega arith) (opened t (tapeStore t)) (begin (tapeSession t) (tapeStore t))
+        (rw (e, g, more) refl) refl in
+        rw (rw all at q, e, g) refl
+
+    sound? : (b : Bool) → tapeSound t ≡ b → turns t (tapeStore t) out ≡ replay t
+    sound? false e = rw (none-left t out (eventCount t) (opened t (tapeStore t)) (rw e refl), e) refl
+    sound? true e = accepted? e (eqb made done) refl
+
+-- ---- demand 3
+
+-- one call more, whose message, if it is one, is octets
+one-octets : (kind v : ℕ) (b : List ℕ) (es : List Event) → Octets b → AllOctets es → AllOctets (eventCall kind v b outputBuffer ∷ es)
+unfolding eventCall
+one-octets kind v b es h rest = go (eqb kind 2) (eqb kind 3) (eqb kind 4) (eqb kind 5) (eqb kind 6)
+  where
+    go : (c₁ c₂ c₃ c₄ c₅ : Bool)
+        → AllOctets (cond c₁ (Put (uintAt b 0 2) (drop 2 b)) (cond c₂ (Receive v b outputBuffer) (cond c₃ (LineDown v) (cond c₄ Tick (cond c₅ (NextData outputBuffer) (OfferTemplates v outputBuffer))))) ∷ es)
+    go true c₂ c₃ c₄ c₅ = rest
+    go false true c₃ c₄ c₅ = (h, rest)
+    go false false true c₄ c₅ = rest
+    go false false false true c₅ = rest
+    go false false false false true = rest
+    go false false false false false = rest
+
+-- every message of a tape's calls is octets
+calls-octets : (t : List ℕ) → Octets t → (i n : ℕ) → AllOctets (callsFrom t i n)
+unfolding callsFrom
+calls-octets t h i zero = tt
+calls-octets t h i (suc n) =
+    one-octets (kindAt t i) (serverAt t i) (bodyOf t i) (callsFrom t (i + 1) n) (octets-part t h (bodyAt t i) (bodyLength t i)) (calls-octets t h (i + 1) n)
+
+-- a table that is answered 0 is the session's
+table-done : (p : Settings) (table : List ℕ) → tableAnswer p table ≡ done → isSessions p table ≡ true
+table-done p table e = go (isSessions p table) e
+  where
+    go : (b : Bool) → cond (not b) unsoundTable done ≡ done → b ≡ true
+    go true h = refl
+    go false h = absurd (omega arith)
+
+pub calls-claimed : CallsClaimed
+unfolding settingsOf
+calls-claimed t h e f =
+    demand3of32 (tapeSettings t) (bodyOf t 1) (tapeStore t) e (table-done (tapeSettings t) (bodyOf t 1) f)
+    (uint-below (bodyOf t 0) (octets-part t h (bodyAt t 0) (bodyLength t 0)) 8 4)
+    (tapeCalls t) (calls-octets t h 2 (eventCount t - 2))

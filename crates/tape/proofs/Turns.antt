@@ -1,0 +1,150 @@
+-- Laws of turns: what a call writes fits the output, and what opening, a table and a call give is what the definitions say. Assumes nothing.
+use mathlib.Core.Path.{_≡_, refl, sym, ap, _∙_}
+use mathlib.Core.Bool.{Bool, true, false, not, cond, _&&_}
+use mathlib.Core.List.{List, [], _∷_}
+use Prim.Native.Nat.{ℕ, _+_, _*_, _-_, _≤_}
+use native.Mathlib.Nat.{le-trans}
+use native.Mathlib.Omega.{arith}
+use borrow.Author.Tests.{ltb-false, eqb-true, eq-eqb, ne-eqb}
+use lib.Dec.{eqb, ltb}
+use lib.ListN.{length, take, length-take}
+use lib.Seq.{sets, sets-eq, take-append-seam}
+use Rattle.octets.specs.Answers.{Check, _when_, done, unsoundState}
+use Rattle.octets.proofs.Judging.{passed}
+use Rattle.octets.proofs.Stores.{cond-cases}
+use Rattle.exporter.specs.Servers.{Transition, start, stop, negotiate, offer, down, agree, malformed}
+use Rattle.exporter.specs.Steps.{Call, put, nextData, tick, ack, move, answer, checks, soundFor, after, settled, storeAfter, written, Outcome, step, wroteOf, outputAfter, setUp}
+use Rattle.exporter.specs.Claim.{Event, Put, NextData, Receive, OfferTemplates, LineDown, Tick, roomOf}
+use Rattle.exporter.specs.declared.state.State.{State}
+use Rattle.exporter.specs.declared.state.Made.{Made}
+use Rattle.exporter.specs.declared.state.Wrote.{Wrote}
+use Rattle.tape.specs.Tape.{eventCount, kindAt, serverAt, bodyAt, bodyOf, tapeSound}
+use Rattle.tape.specs.Lines.{lineOf, tapeRefused}
+use Rattle.tape.specs.Replay.{tableAnswer, eventCall, tapeSettings}
+use Rattle.tape.specs.Turns.{effect, Called, opened, indexOf, nextBody, tableTurn, nextCall, callTurn, played, turnOf, Turned}
+use Rattle.tape.specs.declared.replay.Progress.{Progress}
+use Rattle.tape.specs.declared.replay.Turn.{Turn}
+
+-- ---- what a call writes fits
+
+-- The checks of a call, 1 first.
+abbrev allChecks : ℕ → List ℕ → ℕ → Call → State → List ℕ → List Check
+allChecks w table room c s store = (unsoundState when not (soundFor c s store)) ∷ checks w table room c s store
+
+-- an accepted call writes no more than the output has room for
+pub accepted-fits : (w : ℕ) (table : List ℕ) (room : ℕ) (c : Call) (s : State) (store : List ℕ) → answer w table room c s store ≡ done
+    → length (written w table c s store) ≤ room
+unfolding answer checks written
+accepted-fits w table room (put id r) s store e = omega arith
+accepted-fits w table room nextData s store e = let p = passed (allChecks w table room nextData s store) tt e in ltb-false _ _ (p .1 .1 .1 .0)
+accepted-fits w table room tick s store e = omega arith
+accepted-fits w table room (ack v d config) s store e = omega arith
+accepted-fits w table room (move v start) s store e = let p = passed (allChecks w table room (move v start) s store) tt e in ltb-false _ _ (p .1 .1 .0)
+accepted-fits w table room (move v stop) s store e = let p = passed (allChecks w table room (move v stop) s store) tt e in ltb-false _ _ (p .1 .1 .0)
+accepted-fits w table room (move v negotiate) s store e = let p = passed (allChecks w table room (move v negotiate) s store) tt e in ltb-false _ _ (p .1 .1 .1 .0)
+accepted-fits w table room (move v offer) s store e = let p = passed (allChecks w table room (move v offer) s store) tt e in ltb-false _ _ (p .1 .1 .1 .1 .0)
+accepted-fits w table room (move v down) s store e = omega arith
+accepted-fits w table room (move v (agree config)) s store e = omega arith
+accepted-fits w table room (move v (malformed a)) s store e = omega arith
+
+pub step-fits : (w : ℕ) (table : List ℕ) (room : ℕ) (c : Call) (s : State) (store : List ℕ) → length (step w table room c s store .written) ≤ room
+unfolding step
+step-fits w table room c s store =
+    let a = answer w table room c s store in
+    cond-cases (λ (o : Outcome). length (o .written) ≤ room) (eqb a done)
+    (record { answer = done; state = settled (after w c s); store = storeAfter c s store; written = written w table c s store })
+    (record { answer = a; state = s; store = store; written = [] })
+    (λ h. accepted-fits w table room c s store (eqb-true a done h))
+    (λ h. omega arith)
+
+pub effect-fits : (table : List ℕ) (s : State) (store : List ℕ) (e : Event) → length (effect table s store e .written) ≤ roomOf e
+effect-fits table s store (Put id r) = step-fits _ _ _ _ _ _
+effect-fits table s store (NextData out) = step-fits _ _ _ _ _ _
+effect-fits table s store (Receive v m out) = step-fits _ _ _ _ _ _
+effect-fits table s store (OfferTemplates v out) = step-fits _ _ _ _ _ _
+effect-fits table s store (LineDown v) = step-fits _ _ _ _ _ _
+effect-fits table s store Tick = step-fits _ _ _ _ _ _
+
+-- the call of an event is lent no more than the output
+pub call-room : (kind server : ℕ) (b out : List ℕ) → roomOf (eventCall kind server b out) ≤ length out
+unfolding eventCall
+call-room kind server b out =
+    let P : Event → Type 0 = λ e. roomOf e ≤ length out in
+    cond-cases P (eqb kind 2) _ _ (λ e. omega arith)
+    (λ e. cond-cases P (eqb kind 3) _ _ (λ e. omega arith)
+    (λ e. cond-cases P (eqb kind 4) _ _ (λ e. omega arith)
+    (λ e. cond-cases P (eqb kind 5) _ _ (λ e. omega arith)
+    (λ e. cond-cases P (eqb kind 6) _ _ (λ e. omega arith) (λ e. omega arith)))))
+
+-- what a call says that it wrote fits the output
+pub called-fits : (table : List ℕ) (s : State) (store out : List ℕ) (kind server : ℕ) (b : List ℕ) (w : Wrote) (storeAfter outAfter : List ℕ)
+    → Called table s store out (eventCall kind server b out) w storeAfter outAfter → w .written ≤ length out
+called-fits table s store out kind server b w storeAfter outAfter called =
+    rw (called .0) (le-trans (effect-fits table s store (eventCall kind server b out)) (call-room kind server b out))
+
+-- a line of it fits the text
+pub line-fits : (n : ℕ) (o out text : List ℕ) → n ≤ length out → 9 + 2 * length out ≤ length text → 9 + 2 * length (take n o) ≤ length text
+line-fits n o out text h k = omega (arith, length-take n o)
+
+-- what was stored from the first octet on is what is taken there
+pub take-sets : (out vs : List ℕ) → length vs ≤ length out → take (length vs) (sets out 0 vs) ≡ vs
+take-sets out vs h = ap (take (length vs)) (sets-eq vs out 0 (omega arith)) ∙ take-append-seam vs _
+
+-- what a call wrote is what stands in the output
+pub call-wrote : (o : Outcome) (w : Wrote) (out outAfter : List ℕ) → length (o .written) ≤ length out → w ≡ wroteOf o → outAfter ≡ outputAfter out o
+    → take (w .written) outAfter ≡ o .written
+call-wrote o w out outAfter h e f = rw (e, f) (take-sets out (o .written) h)
+
+-- ---- turns
+
+pub open-turn : (t store : List ℕ) (made : Made) (at left : ℕ) (line text : List ℕ) (len : ℕ) (textAfter : List ℕ)
+    → made ≡ setUp (tapeSettings t) (length store) → at ≡ bodyAt t 1
+    → line ≡ cond (tapeSound t) (lineOf 0 (made .answer) []) tapeRefused
+    → left ≡ cond (tapeSound t && eqb (made .answer) done) (eventCount t - 1) 0
+    → len ≡ length line → textAfter ≡ sets text 0 line
+    → (record { len = len; progress = record { state = made .state; left = left; at = at } } ≡ turnOf (opened t store))
+    × (textAfter ≡ sets text 0 (opened t store .line))
+unfolding opened
+open-turn t store made at left line text len textAfter e f g h k l = rw (l, k, h, g, f, e) (refl, refl)
+
+pub table-turn : (t : List ℕ) (r : Progress) (answer at left : ℕ) (text : List ℕ) (len : ℕ) (textAfter : List ℕ)
+    → at ≡ r .at + length (nextBody t r) → answer ≡ tableAnswer (tapeSettings t) (bodyOf t 1) → left ≡ cond (eqb answer done) (r .left - 1) 0
+    → len ≡ length (lineOf 1 answer []) → textAfter ≡ sets text 0 (lineOf 1 answer [])
+    → (record { len = len; progress = record { state = r .state; left = left; at = at } } ≡ turnOf (tableTurn t r []))
+    × (textAfter ≡ sets text 0 (tableTurn t r [] .line))
+table-turn t r answer at left text len textAfter f g h k l = rw (l, k, h, g, f) (refl, refl)
+
+pub call-turn : (t : List ℕ) (r : Progress) (store out text : List ℕ) (i kind server : ℕ) (b table : List ℕ) (w : Wrote)
+    (storeAfter outAfter textAfter : List ℕ) (len at : ℕ)
+    → i ≡ indexOf t r → b ≡ nextBody t r → at ≡ r .at + length b → table ≡ bodyOf t 1 → kind ≡ kindAt t i → server ≡ serverAt t i
+    → Called table (r .state) store out (eventCall kind server b out) w storeAfter outAfter
+    → len ≡ length (lineOf i (w .answer) (take (w .written) outAfter)) → textAfter ≡ sets text 0 (lineOf i (w .answer) (take (w .written) outAfter))
+    → Turned (callTurn t r store out) out text (record { len = len; progress = record { state = w .state; left = r .left - 1; at = at } }) storeAfter outAfter textAfter
+call-turn t r store out text i kind server b table w storeAfter outAfter textAfter len at ei eb ea et ek es called el ex =
+    let e = nextCall t r out in
+    let o = effect (bodyOf t 1) (r .state) store e in
+    let k : Called (bodyOf t 1) (r .state) store out e w storeAfter outAfter = rw (ek, es, eb, et, ei) at called in
+    let n = le-trans (effect-fits (bodyOf t 1) (r .state) store e) (call-room (kindAt t (indexOf t r)) (serverAt t (indexOf t r)) (nextBody t r) out) in
+    let q = call-wrote o w out outAfter n (k .0) (k .1 .1) in
+    (rw (el, q, ea, eb, ei, k .0) refl, (k .1 .0, (k .1 .1, rw (ex, q, ei, k .0) refl)))
+
+-- ---- one event more
+
+pub played-none : (t : List ℕ) (r : Progress) (store out text : List ℕ) → r .left ≡ 0
+    → Turned (played t r store out) out text (record { len = 0; progress = r }) store out text
+unfolding played
+played-none t r store out text e = rw (eq-eqb (r .left) 0 e) (refl, (refl, (refl, refl)))
+
+pub played-table : (t : List ℕ) (r : Progress) (store out text : List ℕ) (i : ℕ) (turn : Turn) (textAfter : List ℕ)
+    → (r .left ≡ 0 → ⊥) → i ≡ indexOf t r → i ≡ 1 → turn ≡ turnOf (tableTurn t r []) → textAfter ≡ sets text 0 (tableTurn t r [] .line)
+    → Turned (played t r store out) out text turn store out textAfter
+unfolding played
+played-table t r store out text i turn textAfter h e f g k =
+    rw (ne-eqb (r .left) 0 h, eq-eqb (indexOf t r) 1 (sym e ∙ f)) (g, (refl, (refl, k)))
+
+pub played-call : (t : List ℕ) (r : Progress) (store out text : List ℕ) (i : ℕ) (turn : Turn) (storeAfter outAfter textAfter : List ℕ)
+    → (r .left ≡ 0 → ⊥) → i ≡ indexOf t r → (i ≡ 1 → ⊥) → Turned (callTurn t r store out) out text turn storeAfter outAfter textAfter
+    → Turned (played t r store out) out text turn storeAfter outAfter textAfter
+unfolding played
+played-call t r store out text i turn storeAfter outAfter textAfter h e f g =
+    rw (ne-eqb (r .left) 0 h, ne-eqb (indexOf t r) 1 (λ k. f (e ∙ k))) g

@@ -1,0 +1,20 @@
+-- `digit_of` meets its contract: the test is the definition's. Assumes nothing.
+use Rattle.octets.proofs.Judging.{tests}
+use borrow.Author.Needs.{needs}
+use Rattle.tape.proofs.line.digit_of.Statement.{statement}
+use Rattle.tape.proofs.line.digit_of.Tie as tie
+
+add-result : tie.Need-add-result
+add-result c = search needs
+
+add-result-2 : tie.Need-add-result-2
+add-result-2 c = search needs
+
+returns : tie.Need-returns
+returns c = search tests
+
+returns-2 : tie.Need-returns-2
+returns-2 c = search tests
+
+pub digit-of-spec : {M : Type 1} → statement M
+digit-of-spec = tie.close (tie.spec add-result add-result-2 returns returns-2)

@@ -1,0 +1,62 @@
+-- `take_table` meets its contract: the run goes on where the table is the session's. Assumes nothing.
+use mathlib.Core.Path.{refl, _∙_}
+use borrow.Author.Tests.{eq-eqb, ne-eqb}
+use Rattle.tape.proofs.Turns.{table-turn}
+use borrow.Author.Needs.{needs}
+use Rattle.tape.proofs.replay.take_table.Statement.{statement}
+use Rattle.tape.proofs.replay.take_table.Tie as tie
+
+body-requires : tie.Need-body-requires
+body-requires c κs = search needs
+
+settings-of-requires : tie.Need-settings-of-requires
+settings-of-requires c κs = search needs
+
+body-requires-2 : tie.Need-body-requires-2
+body-requires-2 c κs = search needs
+
+table-answer-requires : tie.Need-table-answer-requires
+table-answer-requires c κs = search needs
+
+slice-aggregate-write-line : tie.Need-slice-aggregate-write-line
+slice-aggregate-write-line c = search needs
+
+write-line-requires : tie.Need-write-line-requires
+write-line-requires c κs = search needs
+
+sub-left : tie.Need-sub-left
+sub-left c = search needs
+
+same-length : tie.Need-same-length
+same-length c = search needs
+
+returns : tie.Need-returns
+returns c =
+    let z = c .before .before .before .before .before .before .before .before .before .before .before .before .before .before in
+    let a = z .args in
+    table-turn (a .tape .now) (a .r) _ _ _ _ _ _ (z .pre .1 .0) (c .before .before .before .before .before .before .before .before .table-answer .ensures ∙ rw (c .before .before .before .before .before .before .before .before .before .body2 .ensures, c .before .before .before .before .before .before .before .before .before .before .settings-of .ensures, c .before .before .before .before .before .before .before .before .before .before .before .body .ensures) refl) (rw (eq-eqb _ _ (c .before .if1 .taken)) refl) (c .before .before .before .before .before .write-line .ensures .0) (c .before .before .before .before .before .write-line .ensures .1)
+
+same-length-2 : tie.Need-same-length-2
+same-length-2 c = search needs
+
+returns-2 : tie.Need-returns-2
+returns-2 c =
+    let z = c .before .before .before .before .before .before .before .before .before .before .before .before .before in
+    let a = z .args in
+    table-turn (a .tape .now) (a .r) _ _ _ _ _ _ (z .pre .1 .0) (c .before .before .before .before .before .before .before .table-answer .ensures ∙ rw (c .before .before .before .before .before .before .before .before .body2 .ensures, c .before .before .before .before .before .before .before .before .before .settings-of .ensures, c .before .before .before .before .before .before .before .before .before .before .body .ensures) refl) (rw (ne-eqb _ _ (c .if1 .left)) refl) (c .before .before .before .before .write-line .ensures .0) (c .before .before .before .before .write-line .ensures .1)
+
+pub take-table-spec : {M : Type 1} → statement M
+take-table-spec =
+    tie.close
+    (tie.spec
+    body-requires
+    settings-of-requires
+    body-requires-2
+    table-answer-requires
+    slice-aggregate-write-line
+    write-line-requires
+    sub-left
+    same-length
+    returns
+    same-length-2
+    returns-2)

@@ -1,0 +1,4 @@
+pub mod Tape
+pub mod Lines
+pub mod Replay
+pub mod Turns

@@ -1,0 +1,41 @@
+-- A line of the replay program's output (01, "Replay tape"), as the codes of its characters. Assumes nothing.
+use Prim.Native.Nat.{ℕ, _+_, _/_, _%_}
+use mathlib.Core.Bool.{cond}
+use mathlib.Core.List.{List, [], _∷_, _++_}
+use lib.Dec.{ltb}
+
+-- A space, and the end of a line.
+abbrev pub space : ℕ
+space = 32
+
+abbrev pub newline : ℕ
+newline = 10
+
+-- The character of a digit below 16: 0 to 9, then a to f.
+abbrev pub digit : ℕ → ℕ
+digit d = cond (ltb d 10) (48 + d) (87 + d)
+
+-- A number below 1,000 in decimal, without zeros in front: a place is at most 511, an answer at most 22.
+unfoldable pub decimal : ℕ → List ℕ
+decimal n =
+    cond (ltb n 10) (digit n ∷ [])
+    (cond (ltb n 100) (digit (n / 10) ∷ digit (n % 10) ∷ [])
+    (digit (n / 100 % 10) ∷ digit (n / 10 % 10) ∷ digit (n % 10) ∷ []))
+
+-- Octets in lower-case hex, two digits each.
+unfoldable pub hex : List ℕ → List ℕ
+hex [] = []
+hex (x ∷ octets) = digit (x / 16 % 16) ∷ digit (x % 16) ∷ hex octets
+
+-- What follows the answer: if octets were written, a space and their hex.
+abbrev pub writtenText : List ℕ → List ℕ
+writtenText [] = []
+writtenText (x ∷ octets) = space ∷ hex (x ∷ octets)
+
+-- The line of an event: its place, a space, its answer and what it wrote.
+unfoldable pub lineOf : ℕ → ℕ → List ℕ → List ℕ
+lineOf place answer octets = decimal place ++ (space ∷ decimal answer) ++ writtenText octets ++ (newline ∷ [])
+
+-- The only line of a tape that is not sound: `tape refused`.
+abbrev pub tapeRefused : List ℕ
+tapeRefused = 116 ∷ 97 ∷ 112 ∷ 101 ∷ space ∷ 114 ∷ 101 ∷ 102 ∷ 117 ∷ 115 ∷ 101 ∷ 100 ∷ newline ∷ []

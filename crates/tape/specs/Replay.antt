@@ -1,0 +1,103 @@
+-- The whole replay of a tape: from its octets to the lines of the output (01, "Replay tape"). Assumes nothing.
+use Prim.Native.Nat.{ℕ, zero, suc, _+_, _-_}
+use mathlib.Core.Bool.{cond, not}
+use mathlib.Core.List.{List, [], _∷_, map}
+use lib.Dec.{eqb}
+use lib.ListN.{length, drop, replicate}
+use Rattle.octets.specs.Answers.{_when_, judge, done, unsoundTable}
+use Rattle.octets.specs.Numbers.{uintAt}
+use Rattle.exporter.specs.Steps.{isSessions, setUp}
+use Rattle.exporter.specs.Claim.{Event, Put, NextData, Receive, OfferTemplates, LineDown, Tick, Session, sessionOf32, Exporter, outcome, advance, begin}
+use Rattle.exporter.specs.declared.state.Settings.{Settings}
+use Rattle.tape.specs.Tape.{eventCount, kindAt, serverAt, bodyOf, tapeSound, putKind, messageKind, downKind, tickKind, nextKind}
+use Rattle.tape.specs.Lines.{lineOf, tapeRefused}
+
+-- ---- the first two events
+
+-- The settings in the body of event 0: session, configuration, servers, threshold, duration, the length of the store (`storeLength`), the
+-- first DSN, boot time and 8 priorities.
+unfoldable pub settingsOf : List ℕ → Settings
+settingsOf b =
+    record {
+      session = uintAt b 0 1;
+      config = uintAt b 1 1;
+      servers = uintAt b 2 1;
+      threshold = uintAt b 3 1;
+      duration = uintAt b 4 2;
+      initial = uintAt b 8 4;
+      boot = uintAt b 12 4;
+      priorities = map (λ k. uintAt b (16 + k) 1) (0 ∷ 1 ∷ 2 ∷ 3 ∷ 4 ∷ 5 ∷ 6 ∷ 7 ∷ []);
+    }
+
+-- The length of the store; the body holds it minus 1.
+abbrev pub storeLength : List ℕ → ℕ
+storeLength b = uintAt b 6 2 + 1
+
+-- Event 1 is judged as a put judges the table that it is lent.
+abbrev pub tableAnswer : Settings → List ℕ → ℕ
+tableAnswer p table = judge ((unsoundTable when not (isSessions p table)) ∷ [])
+
+-- The settings of a tape, and its session: those settings and the table.
+abbrev pub tapeSettings : List ℕ → Settings
+tapeSettings t = settingsOf (bodyOf t 0)
+
+abbrev pub tapeSession : List ℕ → Session
+tapeSession t = sessionOf32 (tapeSettings t) (bodyOf t 1)
+
+-- The store that a tape's settings name: all octets 0 at first.
+abbrev pub tapeStore : List ℕ → List ℕ
+tapeStore t = replicate (storeLength (bodyOf t 0)) 0
+
+-- ---- the calls
+
+-- How many octets the program's output buffer has.
+abbrev pub outputBufferOctets : ℕ
+outputBufferOctets = 16392
+
+-- The output buffer: a call looks at its length only.
+abbrev pub outputBuffer : List ℕ
+outputBuffer = replicate outputBufferOctets 0
+
+-- The call of an event of a kind, with the server that it names, its body and the output that is lent; `Event` is the exporter's name for a
+-- call with its arguments. A put's body is the template ID and the record. Asked only of the kinds 2 to 7, so that the last case is an offer.
+unfoldable pub eventCall : ℕ → ℕ → List ℕ → List ℕ → Event
+eventCall kind server b out =
+    cond (eqb kind putKind) (Put (uintAt b 0 2) (drop 2 b))
+    (cond (eqb kind messageKind) (Receive server b out)
+    (cond (eqb kind downKind) (LineDown server)
+    (cond (eqb kind tickKind) Tick
+    (cond (eqb kind nextKind) (NextData out)
+    (OfferTemplates server out)))))
+
+-- The calls of the n events from event i on.
+unfoldable pub callsFrom : List ℕ → ℕ → ℕ → List Event
+callsFrom t i zero = []
+callsFrom t i (suc n) = eventCall (kindAt t i) (serverAt t i) (bodyOf t i) outputBuffer ∷ callsFrom t (i + 1) n
+
+-- The calls of a tape: its events from the third on.
+abbrev pub tapeCalls : List ℕ → List Event
+tapeCalls t = callsFrom t 2 (eventCount t - 2)
+
+-- ---- lines
+
+-- The lines of calls that an exporter takes, the first of them at place i.
+unfoldable pub linesOf : Session → Exporter → ℕ → List Event → List (List ℕ)
+linesOf z x i [] = []
+linesOf z x i (e ∷ es) = lineOf i (outcome z x e .answer) (outcome z x e .written) ∷ linesOf z (advance z x e) (i + 1) es
+
+-- The run goes on only after an answer of 0.
+abbrev pub ifDone : ℕ → List (List ℕ) → List (List ℕ)
+ifDone answer lines = cond (eqb answer done) lines []
+
+-- The lines of a sound tape: the settings', the table's, then those of the calls, made of a fresh exporter.
+abbrev pub eventLines : List ℕ → List (List ℕ)
+eventLines t =
+    let first = setUp (tapeSettings t) (length (tapeStore t)) .answer in
+    let second = tableAnswer (tapeSettings t) (bodyOf t 1) in
+    lineOf 0 first [] ∷ ifDone first
+    (lineOf 1 second [] ∷ ifDone second
+    (linesOf (tapeSession t) (begin (tapeSession t) (tapeStore t)) 2 (tapeCalls t)))
+
+-- The lines of any tape. One that is not sound is judged 22 (`tapeAnswer`), which the output says as `tape refused`.
+unfoldable pub replay : List ℕ → List (List ℕ)
+replay t = cond (tapeSound t) (eventLines t) (tapeRefused ∷ [])

@@ -1,0 +1,136 @@
+-- A replay in turns, one line each, as the code takes it: opening a tape, then one event more. `TurnByTurn` below says that the lines are
+-- those of `replay`; the law `turn-by-turn` shows it. Assumes nothing.
+use Prim.Native.Nat.{ℕ, zero, suc, _+_, _-_}
+use mathlib.Core.Path.{_≡_}
+use mathlib.Core.Bool.{cond, _&&_}
+use mathlib.Core.List.{List, [], _∷_}
+use lib.Dec.{eqb}
+use lib.ListN.{length}
+use lib.Seq.{sets}
+use Rattle.octets.specs.Answers.{done}
+use Rattle.octets.specs.Numbers.{Octets}
+use Rattle.exporter.specs.Steps.{Outcome, setUp, wroteOf, outputAfter}
+use Rattle.exporter.specs.Claim.{Event, sessionOf32, outcome, storeLeft, Claim}
+use Rattle.exporter.specs.declared.state.State.{State}
+use Rattle.exporter.specs.declared.state.Wrote.{Wrote}
+use Rattle.tape.specs.Tape.{eventCount, kindAt, serverAt, bodyLength, bodyAt, bodyOf, octetsAt, tapeSound}
+use Rattle.tape.specs.Lines.{lineOf, tapeRefused}
+use Rattle.tape.specs.Replay.{tableAnswer, outputBufferOctets, eventCall, tapeSettings, tapeSession, tapeStore, tapeCalls, replay}
+use Rattle.tape.specs.declared.replay.Progress.{Progress}
+use Rattle.tape.specs.declared.replay.Turn.{Turn}
+
+-- The outcome of a call of an exporter with a state, a store and a table.
+abbrev pub effect : List ℕ → State → List ℕ → Event → Outcome
+effect table s store e = outcome (sessionOf32 (s .settings) table) (record { state = s; store = store }) e
+
+-- The store after that call.
+abbrev pub effectStore : List ℕ → State → List ℕ → Event → List ℕ
+effectStore table s store e = storeLeft (record { state = s; store = store }) e (effect table s store e)
+
+-- A call's answer, and the store and the output that it leaves, are those of an event's call.
+abbrev pub Called : List ℕ → State → List ℕ → List ℕ → Event → Wrote → List ℕ → List ℕ → Type 0
+Called table s store out e r storeAfter outAfter =
+    (r ≡ wroteOf (effect table s store e)) × ((storeAfter ≡ effectStore table s store e) × (outAfter ≡ outputAfter out (effect table s store e)))
+
+-- What a turn gives: its line, the octets that its call wrote, how far the replay is and the store afterwards.
+pub record Played : Type 0 where
+  pub line : List ℕ
+  pub written : List ℕ
+  pub progress : Progress
+  pub store : List ℕ
+
+-- Opening a tape over a store, which is to have the length that the settings name (`storeLength`): the tape is judged 22, then its settings
+-- 20 by the store's own length. After a refusal no event is left, and the state counts for nothing.
+unfoldable pub opened : List ℕ → List ℕ → Played
+opened t store =
+    let made = setUp (tapeSettings t) (length store) in
+    record {
+      line = cond (tapeSound t) (lineOf 0 (made .answer) []) tapeRefused;
+      written = [];
+      progress =
+          record {
+            state = made .state;
+            left = cond (tapeSound t && eqb (made .answer) done) (eventCount t - 1) 0;
+            at = bodyAt t 1;
+          };
+      store = store;
+    }
+
+-- The place of the next event.
+abbrev pub indexOf : List ℕ → Progress → ℕ
+indexOf t r = eventCount t - r .left
+
+-- Its body.
+abbrev pub nextBody : List ℕ → Progress → List ℕ
+nextBody t r = octetsAt t (r .at) (bodyLength t (indexOf t r))
+
+-- The progress after an event, with a state and a number of events left.
+abbrev pub progressed : List ℕ → Progress → State → ℕ → Progress
+progressed t r s left = record { state = s; left = left; at = r .at + length (nextBody t r) }
+
+-- The table's turn: no event is left after a refusal.
+abbrev pub tableTurn : List ℕ → Progress → List ℕ → Played
+tableTurn t r store =
+    let answer = tableAnswer (tapeSettings t) (bodyOf t 1) in
+    record {
+      line = lineOf 1 answer [];
+      written = [];
+      progress = progressed t r (r .state) (cond (eqb answer done) (r .left - 1) 0);
+      store = store;
+    }
+
+-- The call of the next event.
+abbrev pub nextCall : List ℕ → Progress → List ℕ → Event
+nextCall t r out = eventCall (kindAt t (indexOf t r)) (serverAt t (indexOf t r)) (nextBody t r) out
+
+-- A call's turn.
+abbrev pub callTurn : List ℕ → Progress → List ℕ → List ℕ → Played
+callTurn t r store out =
+    let e = nextCall t r out in
+    let o = effect (bodyOf t 1) (r .state) store e in
+    record {
+      line = lineOf (indexOf t r) (o .answer) (o .written);
+      written = o .written;
+      progress = progressed t r (o .state) (r .left - 1);
+      store = effectStore (bodyOf t 1) (r .state) store e;
+    }
+
+-- One event more, from the progress that opening or the turn before gave: no line where none is left.
+unfoldable pub played : List ℕ → Progress → List ℕ → List ℕ → Played
+played t r store out =
+    cond (eqb (r .left) 0) (record { line = []; written = []; progress = r; store = store })
+    (cond (eqb (indexOf t r) 1) (tableTurn t r store) (callTurn t r store out))
+
+-- What the code answers of a turn.
+abbrev pub turnOf : Played → Turn
+turnOf p = record { len = length (p .line); progress = p .progress }
+
+-- The same with the store, the output and the text that it leaves.
+abbrev pub Turned : Played → List ℕ → List ℕ → Turn → List ℕ → List ℕ → List ℕ → Type 0
+Turned p out text turn storeAfter outAfter textAfter =
+    (turn ≡ turnOf p)
+    × ((storeAfter ≡ p .store) × ((outAfter ≡ sets out 0 (p .written)) × (textAfter ≡ sets text 0 (p .line))))
+
+-- The lines of the next turns, at most n, until no event is left. Each is lent the output as the one before left it.
+unfoldable pub turnsFrom : List ℕ → List ℕ → ℕ → Played → List (List ℕ)
+turnsFrom t out zero p = []
+turnsFrom t out (suc n) p =
+    let q = played t (p .progress) (p .store) out in
+    cond (eqb (p .progress .left) 0) [] (q .line ∷ turnsFrom t (sets out 0 (q .written)) n q)
+
+-- The lines of all turns: that of opening, then one for each event as long as one is left; fewer are left than the tape has.
+abbrev pub turns : List ℕ → List ℕ → List ℕ → List (List ℕ)
+turns t store out = opened t store .line ∷ turnsFrom t out (eventCount t) (opened t store)
+
+-- ---- what is claimed of replays
+
+-- Turn by turn, over the store that the settings name and an output of the program's length, the lines are those of the whole replay.
+abbrev pub TurnByTurn : Type 0
+TurnByTurn = (t out : List ℕ) → length out ≡ outputBufferOctets → turns t (tapeStore t) out ≡ replay t
+
+-- Of any octets whose settings and table would be answered 0, the calls are a list of calls from a fresh exporter, and the exporter's claim
+-- (demand 3) holds of it.
+abbrev pub CallsClaimed : Type 0
+CallsClaimed =
+    (t : List ℕ) → Octets t → setUp (tapeSettings t) (length (tapeStore t)) .answer ≡ done
+    → tableAnswer (tapeSettings t) (bodyOf t 1) ≡ done → Claim (tapeSession t) (tapeStore t) (tapeCalls t)

@@ -1,0 +1,188 @@
+// The contents of a tape: how many events there are, and of each its kind, server and body; whether a tape is sound.
+ghost use mathlib.Core.Path.{_≡_};
+ghost use Prim.Native.Nat.{_≤_};
+ghost use Rattle.wire.specs.Each.{every};
+ghost use Rattle.tape.specs.Tape.{eventCount, kindAt, serverAt, bodyLength, bodyAt, octetsAt, bodyOf, kindFits, serverFits, bodyLengthFits, eventSound, tapeAnswer};
+use octets::Answer;
+
+// The most octets that a tape has.
+pub const MAX_TAPE_OCTETS: usize = 32768;
+
+// The least and the most events that a tape has.
+pub const MIN_EVENTS: usize = 2;
+
+pub const MAX_EVENTS: usize = 512;
+
+// The octets of the settings.
+const SETTINGS_OCTETS: u16 = 24;
+
+// The kinds of events, by name.
+pub struct Kind {
+    pub number: u8,
+}
+
+impl Kind {
+    pub const SETTINGS: u8 = 0;
+
+    pub const TABLE: u8 = 1;
+
+    pub const PUT: u8 = 2;
+
+    pub const MESSAGE: u8 = 3;
+
+    pub const DOWN: u8 = 4;
+
+    pub const TICK: u8 = 5;
+
+    pub const NEXT: u8 = 6;
+
+    pub const OFFER: u8 = 7;
+}
+
+// How many events the contents name.
+pub fn event_count(tape: &[u8]) -> u16
+    ensures { λ r. ⌜ r ≡ eventCount (now (tape .entry)) ⌝ }
+{
+    octets::get_u16(tape, 0)
+}
+
+// The kind of an event.
+pub(crate) fn kind_at(tape: &[u8], i: usize) -> u8
+    requires { ⌜ i ≤ 65535 ⌝ }
+    ensures { λ r. ⌜ r ≡ kindAt (now (tape .entry)) i ⌝ }
+{
+    octets::get_u8(tape, 2 + 4 * i)
+}
+
+// The server that an event names.
+pub(crate) fn server_at(tape: &[u8], i: usize) -> u8
+    requires { ⌜ i ≤ 65535 ⌝ }
+    ensures { λ r. ⌜ r ≡ serverAt (now (tape .entry)) i ⌝ }
+{
+    octets::get_u8(tape, 2 + 4 * i + 1)
+}
+
+// How many octets the body of an event has.
+pub(crate) fn body_length(tape: &[u8], i: usize) -> u16
+    requires { ⌜ i ≤ 65535 ⌝ }
+    ensures { λ r. ⌜ r ≡ bodyLength (now (tape .entry)) i ⌝ }
+{
+    octets::get_u16(tape, 2 + 4 * i + 2)
+}
+
+// Where the body of an event begins.
+pub(crate) fn body_at(tape: &[u8], i: usize) -> usize
+    requires { ⌜ i ≤ 512 ⌝ }
+    ensures { λ r. ⌜ r ≡ bodyAt (now (tape .entry)) i ⌝ }
+{
+    let mut at = 2 + 4 * (event_count(tape) as usize);
+    let mut k: usize = 0;
+    while k < i {
+        at += body_length(tape, k) as usize;
+        k += 1;
+    }
+    at
+}
+
+// The n octets from a place on, or as many as there are.
+pub(crate) fn part(tape: &[u8], at: usize, n: usize) -> &[u8]
+    ensures { λ r. ⌜ now r ≡ octetsAt (now (tape .entry)) at n ⌝ }
+{
+    let len = tape.len();
+    if len <= at {
+        return &tape[len..];
+    }
+    if len - at <= n {
+        return &tape[at..];
+    }
+    &tape[at..at + n]
+}
+
+// The body of one of the first two events.
+pub(crate) fn body(tape: &[u8], i: usize) -> &[u8]
+    requires { ⌜ i ≤ 512 ⌝ }
+    ensures { λ r. ⌜ now r ≡ bodyOf (now (tape .entry)) i ⌝ }
+{
+    part(tape, body_at(tape, i), body_length(tape, i) as usize)
+}
+
+// Whether an event of this kind can stand at a place.
+fn kind_fits(i: usize, kind: u8) -> bool
+    ensures { λ r. ⌜ r ≡ kindFits i kind ⌝ }
+{
+    if i == 0 {
+        return kind == Kind::SETTINGS;
+    }
+    if i == 1 {
+        return kind == Kind::TABLE;
+    }
+    (Kind::PUT <= kind) & (kind <= Kind::OFFER)
+}
+
+// Whether an event of this kind can name a server.
+fn server_fits(kind: u8, server: u8) -> bool
+    ensures { λ r. ⌜ r ≡ serverFits kind server ⌝ }
+{
+    (server == 0) | ((kind == Kind::MESSAGE) | (kind == Kind::DOWN) | (kind == Kind::OFFER))
+}
+
+// Whether an event of this kind can have a body of n octets.
+fn body_length_fits(kind: u8, n: u16) -> bool
+    ensures { λ r. ⌜ r ≡ bodyLengthFits kind n ⌝ }
+{
+    if kind == Kind::SETTINGS {
+        return n == SETTINGS_OCTETS;
+    }
+    if kind == Kind::PUT {
+        return 2 <= n;
+    }
+    (kind == Kind::TABLE) | (kind == Kind::MESSAGE) | (n == 0)
+}
+
+// Whether an event is sound.
+fn event_sound(tape: &[u8], i: usize) -> bool
+    requires { ⌜ i ≤ 512 ⌝ }
+    ensures { λ r. ⌜ r ≡ eventSound (now (tape .entry)) i ⌝ }
+{
+    let kind = kind_at(tape, i);
+    kind_fits(i, kind)
+        & server_fits(kind, server_at(tape, i))
+        & body_length_fits(kind, body_length(tape, i))
+}
+
+// Whether each of the first n events is sound.
+fn events_sound(tape: &[u8], n: usize) -> bool
+    requires { ⌜ n ≤ 512 ⌝ }
+    ensures { λ r. ⌜ r ≡ every n (eventSound (now (tape .entry))) ⌝ }
+{
+    let mut ok = true;
+    let mut i: usize = 0;
+    while i < n {
+        ok = ok & event_sound(tape, i);
+        i += 1;
+    }
+    ok
+}
+
+// 0 for a sound tape, else 22.
+pub fn tape_answer(tape: &[u8]) -> u8
+    ensures { λ r. ⌜ r ≡ tapeAnswer (now (tape .entry)) ⌝ }
+{
+    if MAX_TAPE_OCTETS < tape.len() {
+        return Answer::UNSOUND_TAPE;
+    }
+    let count = event_count(tape) as usize;
+    if count < MIN_EVENTS {
+        return Answer::UNSOUND_TAPE;
+    }
+    if MAX_EVENTS < count {
+        return Answer::UNSOUND_TAPE;
+    }
+    if !events_sound(tape, count) {
+        return Answer::UNSOUND_TAPE;
+    }
+    if body_at(tape, count) != tape.len() {
+        return Answer::UNSOUND_TAPE;
+    }
+    Answer::DONE
+}

@@ -1,0 +1,8 @@
+// The replay tape: a recorded list of an exporter's calls, and the lines that its replay prints.
+//
+// A tape is borrowed octets. `replay::open` judges it and takes its settings, and `replay::next` takes one event more; each writes one line
+// of output. Every function answers any octets.
+pub mod contents;
+pub mod event;
+mod line;
+pub mod replay;

@@ -1,0 +1,87 @@
+// A line of output: the place of an event, its answer, and the octets that it wrote in hex.
+ghost use mathlib.Core.Path.{_≡_};
+ghost use mathlib.Core.List.{[], _∷_};
+ghost use Prim.Native.Nat.{_+_, _*_, _≤_, _<_};
+ghost use lib.ListN.{length};
+ghost use lib.Seq.{sets};
+ghost use Rattle.tape.specs.Lines.{digit, decimal, hex, writtenText, lineOf, tapeRefused};
+
+// The character of a digit below 16.
+fn digit_of(d: u8) -> u8
+    requires { ⌜ d < 16 ⌝ }
+    ensures { λ r. ⌜ r ≡ digit d ⌝ }
+{
+    if d < 10 { 48 + d } else { 87 + d }
+}
+
+// A number below 1,000 in decimal to a place; answers the place behind it.
+fn write_decimal(text: &mut [u8], at: usize, n: usize) -> usize
+    requires { ⌜ at + 3 ≤ length (now text) ⌝ }
+    ensures { λ r. ⌜ (r ≡ at + length (decimal n)) × (now (text .exit) ≡ sets (now (text .entry)) at (decimal n)) ⌝ }
+{
+    let ones = digit_of((n % 10) as u8);
+    if n < 10 {
+        text[at] = ones;
+        return at + 1;
+    }
+    let tens = digit_of((n / 10 % 10) as u8);
+    if n < 100 {
+        text[at] = tens;
+        text[at + 1] = ones;
+        return at + 2;
+    }
+    text[at] = digit_of((n / 100 % 10) as u8);
+    text[at + 1] = tens;
+    text[at + 2] = ones;
+    at + 3
+}
+
+// Octets in hex to a place.
+fn write_hex(octets: &[u8], text: &mut [u8], at: usize)
+    requires { ⌜ at + 2 * length (now octets) ≤ length (now text) ⌝ }
+    ensures { λ _. ⌜ now (text .exit) ≡ sets (now (text .entry)) at (hex (now (octets .entry))) ⌝ }
+{
+    let mut i: usize = 0;
+    while i < octets.len() {
+        let x = octets[i];
+        text[at + 2 * i] = digit_of(x / 16 % 16);
+        text[at + 2 * i + 1] = digit_of(x % 16);
+        i += 1;
+    }
+}
+
+// A space and octets in hex to a place, or nothing where there are none; answers the place behind it.
+fn write_written(octets: &[u8], text: &mut [u8], at: usize) -> usize
+    requires { ⌜ at + 1 + 2 * length (now octets) ≤ length (now text) ⌝ }
+    ensures { λ r. ⌜ (r ≡ at + length (writtenText (now (octets .entry)))) × (now (text .exit) ≡ sets (now (text .entry)) at (writtenText (now (octets .entry)))) ⌝ }
+{
+    let n = octets.len();
+    if n == 0 {
+        return at;
+    }
+    octets::put_u8(text, at, b' ');
+    write_hex(octets, text, at + 1);
+    at + 1 + 2 * n
+}
+
+// The line of an event to the first octets; answers how many they are.
+pub(crate) fn write_line(place: usize, answer: u8, octets: &[u8], text: &mut [u8]) -> usize
+    requires { ⌜ 9 + 2 * length (now octets) ≤ length (now text) ⌝ }
+    ensures { λ r. ⌜ (r ≡ length (lineOf place answer (now (octets .entry)))) × (now (text .exit) ≡ sets (now (text .entry)) 0 (lineOf place answer (now (octets .entry)))) ⌝ }
+{
+    let first = write_decimal(text, 0, place);
+    octets::put_u8(text, first, b' ');
+    let second = write_decimal(text, first + 1, answer as usize);
+    let last = write_written(octets, text, second);
+    octets::put_u8(text, last, b'\n');
+    last + 1
+}
+
+// The line of a tape that is not sound to the first octets; answers how many they are.
+pub(crate) fn write_refused(text: &mut [u8]) -> usize
+    requires { ⌜ 13 ≤ length (now text) ⌝ }
+    ensures { λ r. ⌜ (r ≡ length tapeRefused) × (now (text .exit) ≡ sets (now (text .entry)) 0 tapeRefused) ⌝ }
+{
+    octets::copy(text, 0, b"tape refused\n");
+    13
+}

@@ -1,0 +1,135 @@
+// A replay, one line at a time: the tape is opened, then each event is taken in its turn.
+ghost use mathlib.Core.Path.{_≡_};
+ghost use mathlib.Core.List.{[]};
+ghost use Prim.Native.Nat.{_+_, _*_, _≤_};
+ghost use lib.ListN.{length};
+ghost use lib.Seq.{sets};
+ghost use Rattle.tape.specs.Tape.{bodyOf};
+ghost use Rattle.tape.specs.Turns.{opened, indexOf, nextBody, tableTurn, callTurn, played, turnOf, Turned};
+use exporter::state::State;
+use octets::Answer;
+
+// How many octets the calls of a replay are lent as output.
+pub const OUTPUT_OCTETS: usize = 16392;
+
+// The most octets of a line: 9, and two for each octet of output.
+pub const LINE_OCTETS: usize = 32793;
+
+// How far a replay is, between two events.
+pub struct Progress {
+    pub state: State,
+    // how many events are left
+    pub left: usize,
+    // where the body of the next event begins
+    pub at: usize,
+}
+
+// What a turn answers: how many octets its line has, and the progress after it.
+pub struct Turn {
+    pub len: usize,
+    pub progress: Progress,
+}
+
+// Opens a tape over a lent store and writes its first line: `tape refused`, or that of the settings. After a refusal no event is left.
+pub fn open_tape(tape: &[u8], store: &[u8], text: &mut [u8; 32793]) -> Turn
+    ensures { λ r. ⌜ (r ≡ turnOf (opened (now (tape .entry)) (now (store .entry)))) × (now (text .exit) ≡ sets (now (text .entry)) 0 (opened (now (tape .entry)) (now (store .entry)) .line)) ⌝ }
+{
+    let settings = crate::event::settings_of(crate::contents::body(tape, 0));
+    let made = exporter::set_up::set_up(settings, store);
+    let state = made.state;
+    let at = crate::contents::body_at(tape, 1);
+    let part = &mut text[..];
+    if crate::contents::tape_answer(tape) != Answer::DONE {
+        let len = crate::line::write_refused(part);
+        return Turn {
+            len,
+            progress: Progress { state, left: 0, at },
+        };
+    }
+    let len = crate::line::write_line(0, made.answer, &tape[..0], part);
+    let mut left: usize = 0;
+    if made.answer == Answer::DONE {
+        left = octets::room(crate::contents::event_count(tape) as usize, 1);
+    }
+    Turn {
+        len,
+        progress: Progress { state, left, at },
+    }
+}
+
+// Takes the table, whose body ends at a place.
+fn take_table(r: Progress, tape: &[u8], at: usize, text: &mut [u8]) -> Turn
+    requires { ⌜ (1 ≤ r .left) × ((at ≡ r .at + length (nextBody (now tape) r)) × (9 ≤ length (now text))) ⌝ }
+    ensures { λ x. ⌜ (x ≡ turnOf (tableTurn (now (tape .entry)) r [])) × (now (text .exit) ≡ sets (now (text .entry)) 0 (tableTurn (now (tape .entry)) r [] .line)) ⌝ }
+{
+    let settings = crate::event::settings_of(crate::contents::body(tape, 0));
+    let answer = crate::event::table_answer(settings, crate::contents::body(tape, 1));
+    let len = crate::line::write_line(1, answer, &tape[..0], text);
+    let state = r.state;
+    let mut left: usize = 0;
+    if answer == Answer::DONE {
+        left = r.left - 1;
+    }
+    Turn {
+        len,
+        progress: Progress { state, left, at },
+    }
+}
+
+// Takes the call of event i, whose body is b and ends at a place.
+fn take_call<'a>(
+    r: Progress,
+    tape: &'a [u8],
+    i: usize,
+    b: &'a [u8],
+    at: usize,
+    store: &mut [u8],
+    out: &mut [u8],
+    text: &mut [u8],
+) -> Turn
+    requires { ⌜ (1 ≤ r .left) × ((i ≤ 65535) × ((i ≡ indexOf (now tape) r) × ((now b ≡ nextBody (now tape) r) × ((at ≡ r .at + length (now b)) × (9 + 2 * length (now out) ≤ length (now text)))))) ⌝ }
+    ensures { λ x. ⌜ Turned (callTurn (now (tape .entry)) r (now (store .entry)) (now (out .entry))) (now (out .entry)) (now (text .entry)) x (now (store .exit)) (now (out .exit)) (now (text .exit)) ⌝ }
+{
+    let table = crate::contents::body(tape, 1);
+    let kind = crate::contents::kind_at(tape, i);
+    let server = crate::contents::server_at(tape, i);
+    let old = r.state;
+    let wrote = crate::event::call(old, kind, server, b, table, store, out);
+    let written = wrote.written;
+    let len = crate::line::write_line(i, wrote.answer, &out[..written], text);
+    let state = wrote.state;
+    Turn {
+        len,
+        progress: Progress {
+            state,
+            left: r.left - 1,
+            at,
+        },
+    }
+}
+
+// Takes the next event, where one is left, and writes its line; a store and an output are lent to its call.
+pub fn take_event(
+    r: Progress,
+    tape: &[u8],
+    store: &mut [u8],
+    out: &mut [u8; 16392],
+    text: &mut [u8; 32793],
+) -> Turn
+    ensures { λ x. ⌜ Turned (played (now (tape .entry)) r (now (store .entry)) (now (out .entry))) (now (out .entry)) (now (text .entry)) x (now (store .exit)) (now (out .exit)) (now (text .exit)) ⌝ }
+{
+    if r.left == 0 {
+        return Turn {
+            len: 0,
+            progress: r,
+        };
+    }
+    let i = octets::room(crate::contents::event_count(tape) as usize, r.left);
+    let b = crate::contents::part(tape, r.at, crate::contents::body_length(tape, i) as usize);
+    let at = r.at + b.len();
+    let line = &mut text[..];
+    if i == 1 {
+        return take_table(r, tape, at, line);
+    }
+    take_call(r, tape, i, b, at, store, &mut out[..], line)
+}
