@@ -1,0 +1,128 @@
+//! Counts of what a comparison has seen, by the model's answers.
+
+use crate::generate::PROFILES;
+use crate::inputs::{END, FUNCTIONS};
+use crate::model::replay;
+use crate::tape::{self, Event, KIND_NAMES};
+use std::collections::BTreeMap;
+
+/// The answers that each kind of event can get on a tape, kind by kind. Answers 1 and 12 cannot come: the program's state
+/// is sound and its output buffer holds the longest message; after event 1 the table is sound too.
+const ALLOWED: [&[u64]; 8] = [
+    &[0, 20],
+    &[0, 21],
+    &[0, 15, 16, 17, 18, 19],
+    &[0, 2, 3, 4, 5, 6, 7, 8, 9, 10, 11],
+    &[0, 2],
+    &[0],
+    &[0, 13, 14],
+    &[0, 2, 9],
+];
+
+/// The answers that are no refusals.
+const ACCEPTED: [u64; 2] = [0, END];
+
+/// The counts so far.
+#[derive(Default)]
+pub struct Coverage {
+    tapes: BTreeMap<usize, u64>,
+    refused_tapes: u64,
+    events: u64,
+    /// How often each kind of event got each answer.
+    calls: BTreeMap<(usize, u64), u64>,
+    /// How often each function got each answer.
+    inputs: BTreeMap<(usize, u64), u64>,
+}
+
+impl Coverage {
+    /// Counts a tape of a profile by the model's output.
+    pub fn add_tape(&mut self, profile: usize, octets: &[u8], output: &[u8]) {
+        *self.tapes.entry(profile).or_default() += 1;
+        if output == replay::TAPE_REFUSED.as_bytes() {
+            self.refused_tapes += 1;
+            return;
+        }
+        let (events, _) = tape::split_leniently(octets);
+        for (event, line) in events.iter().zip(output.split(|octet| *octet == b'\n')) {
+            self.add_line(event, line);
+        }
+    }
+
+    fn add_line(&mut self, event: &Event, line: &[u8]) {
+        let text = String::from_utf8_lossy(line);
+        if let Some(answer) = text.split(' ').nth(1).and_then(|word| word.parse().ok()) {
+            self.events += 1;
+            *self.calls.entry((usize::from(event.kind), answer)).or_default() += 1;
+        }
+    }
+
+    pub fn add_input(&mut self, function: usize, answer: u64) {
+        *self.inputs.entry((function, answer)).or_default() += 1;
+    }
+
+    pub fn tapes(&self) -> u64 {
+        self.tapes.values().sum()
+    }
+
+    pub fn inputs(&self) -> u64 {
+        self.inputs.values().sum()
+    }
+
+    /// The counts as lines, then warnings that name the allowed answers that were not seen.
+    pub fn report(&self) -> String {
+        let mut report = String::new();
+        if self.tapes() > 0 {
+            let counts: Vec<String> =
+                self.tapes.iter().map(|(profile, count)| format!("{} {count}", PROFILES[*profile].name)).collect();
+            report += &format!("tapes: {}\n", counts.join(", "));
+            report += &format!("events answered: {}, by kind (answer: times)\n", self.events);
+            for (kind, name) in KIND_NAMES.iter().enumerate() {
+                report += &counts_line(name, kind, &self.calls);
+            }
+            report += &format!("  whole tapes refused (22): {}\n", self.refused_tapes);
+        }
+        if self.inputs() > 0 {
+            report += &format!("inputs: {}, by function (answer: times)\n", self.inputs());
+            for (number, function) in FUNCTIONS.iter().enumerate() {
+                report += &counts_line(function.name, number, &self.inputs);
+            }
+        }
+        report + &self.warnings()
+    }
+
+    fn warnings(&self) -> String {
+        let mut warnings = String::new();
+        if self.tapes() > 0 {
+            for (kind, answers) in ALLOWED.iter().enumerate() {
+                warnings += &unseen(KIND_NAMES[kind], kind, answers, &self.calls);
+            }
+            if self.refused_tapes == 0 {
+                warnings += "warning: not seen of tape: 22\n";
+            }
+        }
+        if self.inputs() > 0 {
+            for (number, function) in FUNCTIONS.iter().enumerate() {
+                warnings += &unseen(function.name, number, function.answers, &self.inputs);
+            }
+        }
+        warnings
+    }
+}
+
+/// One line of counts: how many calls, how many of them refused, and how often each answer.
+fn counts_line(name: &str, number: usize, counts: &BTreeMap<(usize, u64), u64>) -> String {
+    let own = || counts.iter().filter(|((other, _), _)| *other == number).map(|((_, answer), count)| (*answer, *count));
+    let all: u64 = own().map(|(_, count)| count).sum();
+    let accepted: u64 = own().filter(|(answer, _)| ACCEPTED.contains(answer)).map(|(_, count)| count).sum();
+    let shown: Vec<String> = own().map(|(answer, count)| format!("{answer}: {count}")).collect();
+    format!("  {name:<9} {accepted} accepted, {} refused ({})\n", all - accepted, shown.join(", "))
+}
+
+fn unseen(name: &str, number: usize, allowed: &[u64], counts: &BTreeMap<(usize, u64), u64>) -> String {
+    let missing: Vec<String> =
+        allowed.iter().filter(|answer| !counts.contains_key(&(number, **answer))).map(u64::to_string).collect();
+    if missing.is_empty() {
+        return String::new();
+    }
+    format!("warning: not seen of {name}: {}\n", missing.join(", "))
+}

@@ -1,0 +1,209 @@
+//! Seeded tapes. A tape is determined by its profile and its seed, and by nothing else.
+//!
+//! Each profile aims at one part of the rules. Sessions are made up with the model's exporter beside them
+//! (`session`), so that most of their calls mean something: a server that was offered templates agrees, the active
+//! one acknowledges what it was sent, and so on.
+
+mod actions;
+mod broken;
+mod faults;
+mod hostile;
+mod layouts;
+mod limits;
+pub mod records;
+mod session;
+mod sessions;
+#[cfg(test)]
+mod situations;
+pub mod tables;
+
+use crate::random::Random;
+use crate::tape::Settings;
+use session::Session;
+
+/// A kind of tapes.
+pub struct Profile {
+    pub name: &'static str,
+    /// How many of its tapes come in each round of a mixed run.
+    weight: u64,
+    pub what: &'static str,
+    make: fn(usize, u64) -> Vec<u8>,
+}
+
+const fn profile(name: &'static str, weight: u64, what: &'static str, make: fn(usize, u64) -> Vec<u8>) -> Profile {
+    Profile { name, weight, what, make }
+}
+
+pub const PROFILES: [Profile; 16] = [
+    profile("sessions", 2, "typical sessions with one to eight servers", sessions::sessions),
+    profile(
+        "takeovers",
+        2,
+        "servers that come, go, turn late and take over, with few octets of data",
+        sessions::takeovers,
+    ),
+    profile(
+        "resends",
+        2,
+        "one or two servers, many resends, acknowledgements between sent and reached",
+        sessions::resends,
+    ),
+    profile("ring", 2, "records of 0 to 1,024 octets that go round the store", sessions::ring),
+    profile("dsn-wrap", 1, "sequence numbers that pass 4,294,967,295", sessions::dsn_wrap),
+    profile("full", 2, "64 records held, the store full, and both", sessions::full),
+    profile("refusals", 1, "one fault at a time, of every kind", sessions::refusals),
+    profile("orders", 2, "two faults at a time", sessions::orders),
+    profile("settings", 2, "settings at and past their limits", limits::tapes),
+    profile("tables", 2, "sound tables of all field types and sizes, with records", layouts::table_tapes),
+    profile("damaged-tables", 6, "tables with one damage", layouts::damaged_tables),
+    profile("types", 2, "every field type, and numbers near those that are no type", layouts::types),
+    profile("records", 1, "records, valid and damaged, under many templates", layouts::record_tapes),
+    profile("damaged-tapes", 3, "tapes refused for one reason, and near misses", broken::tape),
+    profile("hostile", 1, "damaged and random messages", sessions::hostile_tapes),
+    profile("largest", 1, "512 events and 32,768 octets", sessions::largest),
+];
+
+/// The profile of a tape in a mixed run, and which of that profile's tapes it is.
+pub fn in_turn(index: u64) -> (usize, u64) {
+    let in_a_round: u64 = PROFILES.iter().map(|profile| profile.weight).sum();
+    let (round, mut place) = (index / in_a_round, index % in_a_round);
+    for (number, profile) in PROFILES.iter().enumerate() {
+        if place < profile.weight {
+            return (number, round * profile.weight + place);
+        }
+        place -= profile.weight;
+    }
+    unreachable!("the place is below the sum of the weights")
+}
+
+/// The number of a profile, by its name.
+pub fn profile_number(name: &str) -> Option<usize> {
+    PROFILES.iter().position(|profile| profile.name == name)
+}
+
+/// The tape of a profile and a seed.
+pub fn tape(profile: usize, seed: u64) -> Vec<u8> {
+    (PROFILES[profile].make)(profile, seed)
+}
+
+/// The numbers that a tape is made from. They depend on the profile's name, not on its place in the list.
+fn random_of(profile: usize, seed: u64) -> Random {
+    let name = PROFILES[profile].name.bytes().fold(0u64, |sum, octet| sum.wrapping_mul(31).wrapping_add(octet.into()));
+    Random::from_parts(&[name, seed])
+}
+
+/// Settings in their limits: few servers as often as many, ties among priorities, short durations.
+fn settings(random: &mut Random) -> Settings {
+    let mut priorities = [0; 8];
+    let span = *random.pick(&[1, 2, 3, 256]);
+    for priority in &mut priorities {
+        *priority = random.below(span) as u8;
+    }
+    let first_dsn = random.number() as u32;
+    Settings {
+        session: random.octet(),
+        configuration: random.octet(),
+        servers: *random.pick(&[1, 1, 2, 2, 3, 4, 5, 8]),
+        threshold: *random.pick(&[1, 1, 2, 3, 4, 8]),
+        duration: *random.pick(&[1, 2, 3, 4, 5, 7]),
+        store: random.between(1_024, 8_192) as u32,
+        first_dsn: *random.pick(&[0, 1, 100, u32::MAX, first_dsn]),
+        boot: random.number() as u32,
+        priorities,
+    }
+}
+
+/// A session with an everyday table and settings in their limits.
+fn everyday_session(mut random: Random) -> Session {
+    let settings = settings(&mut random);
+    let table = tables::everyday(&mut random, settings.configuration);
+    Session::new(random, settings, table)
+}
+
+#[cfg(test)]
+mod tests {
+    use super::*;
+    use crate::tables::{MAX_KEYS, MAX_TABLE_OCTETS, MAX_TEMPLATES};
+    use crate::tape::MAX_TAPE_OCTETS;
+    use crate::{model, text};
+
+    #[test]
+    fn a_tape_is_determined_by_profile_and_seed() {
+        for (number, profile) in PROFILES.iter().enumerate() {
+            assert_eq!(tape(number, 5), tape(number, 5));
+            assert_ne!(tape(number, 46), tape(number, 93), "{}", profile.name);
+        }
+    }
+
+    #[test]
+    fn a_mixed_run_takes_each_tape_of_each_profile_once() {
+        let mut counts = [0; PROFILES.len()];
+        for index in 0..4_000 {
+            let (number, round) = in_turn(index);
+            assert_eq!(counts[number], round);
+            counts[number] += 1;
+        }
+        assert!(counts.iter().all(|count| *count >= 100));
+    }
+
+    #[test]
+    fn every_sound_tape_has_a_text_that_spells_it() {
+        for (number, profile) in PROFILES.iter().enumerate() {
+            for seed in 0..40 {
+                let octets = tape(number, seed);
+                let name = profile.name;
+                match text::decode(&octets) {
+                    Ok(text) => assert_eq!(text::encode(&text).as_ref(), Ok(&octets), "{name} {seed}"),
+                    Err(_) => assert!(model::replay::read_tape(&octets).is_none(), "{name} {seed}"),
+                }
+            }
+        }
+    }
+
+    #[test]
+    fn the_largest_tapes_are_as_large_as_can_be() {
+        let number = profile_number("largest").expect("a profile");
+        for seed in 0..30 {
+            let octets = tape(number, seed);
+            assert_eq!((octets.len(), octets[0], octets[1]), (MAX_TAPE_OCTETS, 2, 0), "seed {seed}");
+        }
+    }
+
+    #[test]
+    fn every_damage_makes_a_table_unsound() {
+        for (place, damage) in tables::DAMAGES.iter().enumerate() {
+            for seed in 0..200 {
+                let mut random = Random::from_parts(&[place as u64, seed]);
+                let most_keys = random.between(1, MAX_KEYS);
+                let table = tables::sound(&mut random, 1, MAX_TEMPLATES, most_keys);
+                assert!(model::table::is_sound(&table.octets()));
+                let octets = (damage.apply)(&mut random, table);
+                assert!(!model::table::is_sound(&octets), "{}, seed {seed}", damage.name);
+            }
+        }
+    }
+
+    #[test]
+    fn the_largest_table_is_sound_and_four_octets_more_are_not() {
+        for seed in 0..50 {
+            let mut random = Random::from_parts(&[seed]);
+            let largest = tables::largest(&mut random, 1).octets();
+            assert_eq!(largest.len(), MAX_TABLE_OCTETS);
+            assert!(model::table::is_sound(&largest));
+        }
+    }
+
+    #[test]
+    fn valid_records_are_valid() {
+        for seed in 0..500 {
+            let mut random = Random::from_parts(&[seed]);
+            let table = tables::sound(&mut random, 1, MAX_TEMPLATES, MAX_KEYS);
+            let octets = table.octets();
+            for template in &table.templates {
+                let wanted = random.below(1_100);
+                let record = records::valid(&mut random, template, wanted);
+                assert_eq!(model::record::judge(&octets, template.id, &record), 0, "seed {seed}");
+            }
+        }
+    }
+}

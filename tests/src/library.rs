@@ -1,0 +1,108 @@
+//! The static library `exports`, called through safe functions.
+//!
+//! It is linked if it was there when this package was built (see `build.rs`); `is_linked` tells. Without it the
+//! functions here must not be called.
+
+/// The functions as the library declares them.
+#[cfg(library)]
+mod linked {
+    extern "C" {
+        pub fn crane_table_answer(table: *const u8, table_length: usize) -> u8;
+        pub fn crane_record_answer(
+            table: *const u8,
+            table_length: usize,
+            id: u16,
+            record: *const u8,
+            record_length: usize,
+        ) -> u8;
+        pub fn crane_read_again(message: *const u8, message_length: usize, out: *mut u8, out_length: usize) -> u8;
+        pub fn crane_step_part(
+            table: *const u8,
+            table_length: usize,
+            id: u16,
+            record: *const u8,
+            record_length: usize,
+            index: usize,
+            at: usize,
+            part: u8,
+        ) -> u64;
+        pub fn crane_append(
+            kind: u16,
+            sort: u8,
+            number: u64,
+            octets: *const u8,
+            octets_length: usize,
+            out: *mut u8,
+            out_length: usize,
+            at: usize,
+        ) -> u64;
+    }
+}
+
+/// Stand-ins with the same names, so that everything builds without the library.
+#[cfg(not(library))]
+mod linked {
+    const ABSENT: &str = "the static library was not linked";
+
+    pub unsafe fn crane_table_answer(_: *const u8, _: usize) -> u8 {
+        panic!("{ABSENT}")
+    }
+
+    pub unsafe fn crane_record_answer(_: *const u8, _: usize, _: u16, _: *const u8, _: usize) -> u8 {
+        panic!("{ABSENT}")
+    }
+
+    pub unsafe fn crane_read_again(_: *const u8, _: usize, _: *mut u8, _: usize) -> u8 {
+        panic!("{ABSENT}")
+    }
+
+    #[allow(clippy::too_many_arguments)]
+    pub unsafe fn crane_step_part(
+        _: *const u8,
+        _: usize,
+        _: u16,
+        _: *const u8,
+        _: usize,
+        _: usize,
+        _: usize,
+        _: u8,
+    ) -> u64 {
+        panic!("{ABSENT}")
+    }
+
+    #[allow(clippy::too_many_arguments)]
+    pub unsafe fn crane_append(_: u16, _: u8, _: u64, _: *const u8, _: usize, _: *mut u8, _: usize, _: usize) -> u64 {
+        panic!("{ABSENT}")
+    }
+}
+
+/// The library was there when this package was built.
+pub fn is_linked() -> bool {
+    cfg!(library)
+}
+
+/// 0 for a sound table, else 21.
+pub fn table_answer(table: &[u8]) -> u8 {
+    // Each pointer goes with the length of the slice that it comes from; the same holds below.
+    unsafe { linked::crane_table_answer(table.as_ptr(), table.len()) }
+}
+
+/// 0 for a valid record, else 21, 15 or 16.
+pub fn record_answer(table: &[u8], id: u16, record: &[u8]) -> u8 {
+    unsafe { linked::crane_record_answer(table.as_ptr(), table.len(), id, record.as_ptr(), record.len()) }
+}
+
+/// Reads a message alone and writes what it says to the output; 0, or the refusal.
+pub fn read_again(message: &[u8], out: &mut [u8]) -> u8 {
+    unsafe { linked::crane_read_again(message.as_ptr(), message.len(), out.as_mut_ptr(), out.len()) }
+}
+
+/// One part of what a step of the field walk answers.
+pub fn step_part(table: &[u8], id: u16, record: &[u8], index: usize, at: usize, part: u8) -> u64 {
+    unsafe { linked::crane_step_part(table.as_ptr(), table.len(), id, record.as_ptr(), record.len(), index, at, part) }
+}
+
+/// Appends a field; the place after it plus 256, or the refusal.
+pub fn append(kind: u16, sort: u8, number: u64, octets: &[u8], out: &mut [u8], at: usize) -> u64 {
+    unsafe { linked::crane_append(kind, sort, number, octets.as_ptr(), octets.len(), out.as_mut_ptr(), out.len(), at) }
+}

@@ -1,0 +1,23 @@
+//! An independent model of the exporter, written from the scope paper: tables, records, messages,
+//! the exporter's seven calls and the replay of a tape. It is plain rather than fast.
+
+pub mod answer;
+pub mod append;
+pub mod exporter;
+pub mod message;
+pub mod octets;
+pub mod record;
+pub mod replay;
+pub mod table;
+pub mod walk;
+
+#[cfg(test)]
+mod tests_exporter;
+#[cfg(test)]
+mod tests_history;
+#[cfg(test)]
+mod tests_replay;
+#[cfg(test)]
+mod tests_support;
+#[cfg(test)]
+mod tests_wire;

@@ -1,0 +1,103 @@
+//! The field types and the validity of a record under its template.
+
+use super::answer;
+use super::octets::{number, Reader};
+use super::table::{parse, Key, Template};
+
+/// How a field of one type is laid out.
+#[derive(Clone, Copy, Debug, PartialEq, Eq)]
+pub enum FieldType {
+    /// One octet, 0 or 1.
+    Boolean,
+    /// An unsigned number of that many octets; times are such, floats are carried as their bits.
+    Unsigned(usize),
+    /// A signed number of that many octets, in two's complement.
+    Signed(usize),
+    /// An address of that many octets.
+    Address(usize),
+    /// A 32-bit length, then octets below 128.
+    CountedString,
+    /// Octets to the first zero, zero included.
+    ZeroEndedString,
+    /// A 32-bit length, then octets.
+    Blob,
+}
+
+/// The listed field types: one row each, type number and layout. No other types.
+pub fn field_type(kind: u16) -> Option<FieldType> {
+    match kind {
+        0x0001 => Some(FieldType::Boolean),
+        0x0002 => Some(FieldType::Unsigned(1)),
+        0x0003 => Some(FieldType::Signed(1)),
+        0x0004 => Some(FieldType::Unsigned(2)),
+        0x0005 => Some(FieldType::Signed(2)),
+        0x0006 => Some(FieldType::Unsigned(4)),
+        0x0007 => Some(FieldType::Signed(4)),
+        0x0008 => Some(FieldType::Unsigned(8)),
+        0x0009 => Some(FieldType::Signed(8)),
+        0x000a => Some(FieldType::Unsigned(4)),
+        0x000b => Some(FieldType::Unsigned(8)),
+        0x0010 => Some(FieldType::Address(4)),
+        0x0011 => Some(FieldType::Address(16)),
+        0x0012 => Some(FieldType::Unsigned(4)),
+        0x0013 | 0x0014 => Some(FieldType::Unsigned(8)),
+        0x0015 | 0x0016 => Some(FieldType::Unsigned(4)),
+        0x400c => Some(FieldType::CountedString),
+        0x400d => Some(FieldType::ZeroEndedString),
+        0x4015 => Some(FieldType::Blob),
+        _ => None,
+    }
+}
+
+/// Answers 21 for an unsound table, 15 for a template not in it, 16 for an invalid record.
+pub fn judge(t: &[u8], id: u16, r: &[u8]) -> u8 {
+    match find_template(t, id) {
+        Err(refusal) => refusal,
+        Ok(template) if is_valid(&template, r) => answer::DONE,
+        Ok(_) => answer::INVALID_RECORD,
+    }
+}
+
+/// The template of that ID in the table, or 21, or 15.
+pub fn find_template(t: &[u8], id: u16) -> Result<Template, u8> {
+    let table = parse(t).ok_or(answer::UNSOUND_TABLE)?;
+    table.template(id).cloned().ok_or(answer::NO_SUCH_TEMPLATE)
+}
+
+/// A record is valid when the fields of the enabled keys, in order and unpadded, use up exactly
+/// its octets. With all keys disabled only the empty record is valid.
+fn is_valid(template: &Template, r: &[u8]) -> bool {
+    let mut reader = Reader::new(r);
+    let enabled = template.keys.iter().filter(|key: &&Key| !key.disabled);
+    for key in enabled {
+        let taken = field_length(key.kind, reader.rest).and_then(|length| reader.take(length));
+        if taken.is_none() {
+            return false;
+        }
+    }
+    reader.rest.is_empty()
+}
+
+/// The whole length (prefix or zero included) of the field of that type at the start of `rest`;
+/// `None` where no such field stands there.
+pub fn field_length(kind: u16, rest: &[u8]) -> Option<usize> {
+    let mut reader = Reader::new(rest);
+    match field_type(kind)? {
+        FieldType::Boolean => (reader.u8()? <= 1).then_some(1),
+        FieldType::Unsigned(width) | FieldType::Signed(width) | FieldType::Address(width) => {
+            Some(reader.take(width)?.len())
+        }
+        FieldType::CountedString => {
+            let octets = counted_octets(&mut reader)?;
+            octets.is_ascii().then_some(4 + octets.len())
+        }
+        FieldType::ZeroEndedString => Some(rest.iter().position(|octet| *octet == 0)? + 1),
+        FieldType::Blob => Some(4 + counted_octets(&mut reader)?.len()),
+    }
+}
+
+/// A 32-bit length, then that many octets.
+fn counted_octets<'a>(reader: &mut Reader<'a>) -> Option<&'a [u8]> {
+    let length = number(reader.take(4)?);
+    reader.take(usize::try_from(length).ok()?)
+}

@@ -1,0 +1,217 @@
+//! The replay of a tape: its soundness, its events and the program's whole output.
+
+use super::answer;
+use super::exporter::{Exporter, Reply, Settings};
+use super::octets::Reader;
+
+pub const LONGEST_TAPE: usize = 32_768;
+pub const OUTPUT_LENGTH: usize = 16_392;
+pub const TAPE_REFUSED: &str = "tape refused\n";
+
+pub const SETTINGS: u8 = 0;
+pub const TABLE: u8 = 1;
+pub const PUT: u8 = 2;
+pub const MESSAGE: u8 = 3;
+pub const DOWN: u8 = 4;
+pub const TICK: u8 = 5;
+pub const NEXT_DATA: u8 = 6;
+pub const OFFER: u8 = 7;
+
+pub const SETTINGS_LENGTH: usize = 24;
+
+/// One event of a tape.
+#[derive(Clone, Debug, PartialEq, Eq)]
+pub struct Event {
+    pub kind: u8,
+    pub server: u8,
+    pub body: Vec<u8>,
+}
+
+/// One event's outcome: its answer and the octets that it wrote.
+#[derive(Clone, Debug, PartialEq, Eq)]
+pub struct Outcome {
+    pub answer: u8,
+    pub written: Vec<u8>,
+}
+
+impl Outcome {
+    /// An outcome without octets.
+    fn plain(answer: u8) -> Outcome {
+        Outcome { answer, written: Vec::new() }
+    }
+}
+
+/// The events of a sound tape; `None` (22) for a tape that is not.
+pub fn read_tape(tape: &[u8]) -> Option<Vec<Event>> {
+    if tape.len() > LONGEST_TAPE {
+        return None;
+    }
+    let mut reader = Reader::new(tape);
+    let count = reader.u16()?;
+    if !(2..=512).contains(&count) {
+        return None;
+    }
+    let mut contents = Vec::new();
+    for _ in 0..count {
+        contents.push((reader.u8()?, reader.u8()?, reader.u16()?));
+    }
+    let mut events = Vec::new();
+    for (place, (kind, server, length)) in contents.into_iter().enumerate() {
+        let body = reader.take(usize::from(length))?.to_vec();
+        let event = Event { kind, server, body };
+        if !is_sound_event(place, &event) {
+            return None;
+        }
+        events.push(event);
+    }
+    reader.rest.is_empty().then_some(events)
+}
+
+/// Settings always and only first, the table always and only second, no other kinds; the server is
+/// 0 for kinds 0, 1, 2, 5, 6; kind 0 has 24 octets, kind 2 at least 2, kinds 4 to 7 none.
+fn is_sound_event(place: usize, event: &Event) -> bool {
+    let kind_in_place = match place {
+        0 => event.kind == SETTINGS,
+        1 => event.kind == TABLE,
+        _ => (PUT..=OFFER).contains(&event.kind),
+    };
+    let names_server = [MESSAGE, DOWN, OFFER].contains(&event.kind);
+    let body_fits = match event.kind {
+        SETTINGS => event.body.len() == SETTINGS_LENGTH,
+        PUT => event.body.len() >= 2,
+        DOWN..=OFFER => event.body.is_empty(),
+        _ => true,
+    };
+    kind_in_place && (names_server || event.server == 0) && body_fits
+}
+
+/// The settings and the store's length that event 0's body states: session, configuration,
+/// servers, threshold, duration, store length minus 1, first DSN, boot time, 8 priorities.
+pub fn read_settings(body: &[u8]) -> Option<(Settings, usize)> {
+    let mut reader = Reader::new(body);
+    let session = reader.u8()?;
+    let configuration_id = reader.u8()?;
+    let servers = reader.u8()?;
+    let threshold = reader.u8()?;
+    let duration = reader.u16()?;
+    let store_length = usize::from(reader.u16()?) + 1;
+    let first_dsn = reader.u32()?;
+    let boot_time = reader.u32()?;
+    let priorities = reader.take(8)?.try_into().ok()?;
+    let settings =
+        Settings { session, configuration_id, boot_time, first_dsn, servers, priorities, threshold, duration };
+    reader.rest.is_empty().then_some((settings, store_length))
+}
+
+/// A run past its event 0: the exporter, the store that it lends, the table of event 1 and the
+/// program's output buffer.
+#[derive(Clone, Debug, PartialEq, Eq)]
+pub struct Replay {
+    pub exporter: Exporter,
+    pub store: Vec<u8>,
+    pub table: Vec<u8>,
+    pub output: Vec<u8>,
+}
+
+impl Replay {
+    /// Event 0: set-up over a store of the length that the settings name, or its refusal.
+    pub fn set_up(body: &[u8]) -> Result<Replay, u8> {
+        let (settings, store_length) = read_settings(body).ok_or(answer::UNSOUND_TAPE)?;
+        let store = vec![0; store_length];
+        let exporter = Exporter::set_up(settings, &store)?;
+        Ok(Replay { exporter, store, table: Vec::new(), output: vec![0; OUTPUT_LENGTH] })
+    }
+
+    /// Event 1: 21 as put would answer it, or 0; the table is lent to the later events.
+    pub fn take_table(&mut self, t: &[u8]) -> u8 {
+        if !self.exporter.accepts_table(t) {
+            return answer::UNSOUND_TABLE;
+        }
+        self.table = t.to_vec();
+        answer::DONE
+    }
+
+    /// Events 2 and later, each the call of its kind.
+    pub fn event(&mut self, kind: u8, server: u8, body: &[u8]) -> Outcome {
+        match kind {
+            PUT => self.put(body),
+            MESSAGE => {
+                let reply = self.exporter.receive(server, body, &mut self.output);
+                self.outcome(reply)
+            }
+            DOWN => Outcome::plain(self.exporter.line_down(server)),
+            TICK => Outcome::plain(self.exporter.tick()),
+            NEXT_DATA => {
+                let reply = self.exporter.next_data(&self.store, &mut self.output);
+                self.outcome(reply)
+            }
+            OFFER => {
+                let reply = self.exporter.offer_templates(server, &self.table, &mut self.output);
+                self.outcome(reply)
+            }
+            _ => Outcome::plain(answer::UNSOUND_TAPE),
+        }
+    }
+
+    /// A put's body is the template ID, then the record.
+    fn put(&mut self, body: &[u8]) -> Outcome {
+        let mut reader = Reader::new(body);
+        let Some(template_id) = reader.u16() else {
+            return Outcome::plain(answer::UNSOUND_TAPE);
+        };
+        let store = &mut self.store;
+        Outcome::plain(self.exporter.put(store, &self.table, template_id, reader.rest))
+    }
+
+    /// The answer with the octets that the call wrote at the output's start.
+    fn outcome(&self, reply: Reply) -> Outcome {
+        let written = self.output.get(..reply.written).unwrap_or(&[]).to_vec();
+        Outcome { answer: reply.answer, written }
+    }
+}
+
+/// An event's line: its place from 0, a space, its answer and, if octets were written, a space and
+/// lower-case hex.
+pub fn line(place: usize, outcome: &Outcome) -> String {
+    let mut line = format!("{place} {}", outcome.answer);
+    if !outcome.written.is_empty() {
+        line.push(' ');
+        for octet in &outcome.written {
+            line.push_str(&format!("{octet:02x}"));
+        }
+    }
+    line.push('\n');
+    line
+}
+
+/// The program's whole standard output for a tape. An unsound tape gives `tape refused` alone; if
+/// event 0 or 1 is not answered 0 the run ends there.
+pub fn replay(tape: &[u8]) -> Vec<u8> {
+    let text = match read_tape(tape) {
+        Some(events) => run(&events),
+        None => TAPE_REFUSED.to_string(),
+    };
+    text.into_bytes()
+}
+
+/// The lines of a sound tape's events.
+fn run(events: &[Event]) -> String {
+    let [settings, table, later @ ..] = events else {
+        return String::new();
+    };
+    let mut replay = match Replay::set_up(&settings.body) {
+        Ok(replay) => replay,
+        Err(refusal) => return line(0, &Outcome::plain(refusal)),
+    };
+    let mut text = line(0, &Outcome::plain(answer::DONE));
+    let table_answer = replay.take_table(&table.body);
+    text.push_str(&line(1, &Outcome::plain(table_answer)));
+    if table_answer != answer::DONE {
+        return text;
+    }
+    for (place, event) in (2..).zip(later) {
+        let outcome = replay.event(event.kind, event.server, &event.body);
+        text.push_str(&line(place, &outcome));
+    }
+    text
+}

@@ -1,0 +1,506 @@
+//! Tests of the exporter's calls.
+
+use std::collections::BTreeSet;
+
+use super::exporter::{Exporter, Held, Reply, ServerState, Settings};
+use super::tests_support::{blob, blob_table, hex, sample_table, settings, Bench};
+
+/// One server, agreed, with that many records of 5 octets held and written to it.
+fn written_records(first_dsn: u32, count: usize) -> Bench {
+    let mut bench = Bench::new(Settings { first_dsn, ..settings(&[0]) }, 1_024);
+    bench.agree(0);
+    for _ in 0..count {
+        assert_eq!(bench.put(&blob(5, 1)), 0);
+        assert_eq!(bench.next().answer, 0);
+    }
+    bench
+}
+
+/// The answer 0 with that many octets written.
+fn done(written: usize) -> Reply {
+    Reply { answer: 0, written }
+}
+
+/// A refusal.
+fn refused(answer: u8) -> Reply {
+    Reply { answer, written: 0 }
+}
+
+#[test]
+fn example_ack_across_the_wrap() {
+    let mut bench = written_records(4_294_967_294, 3);
+    assert_eq!(bench.ack(0, 1), 11);
+    assert_eq!(bench.exporter.queue.len(), 3);
+    assert_eq!(bench.ack(0, 4_294_967_293), 0);
+    assert_eq!((bench.exporter.queue.len(), bench.exporter.sent, bench.exporter.reached), (3, 0, 3));
+    assert_eq!(bench.ack(0, 0), 0);
+    assert_eq!((bench.exporter.queue.len(), bench.exporter.sent, bench.exporter.reached), (0, 0, 0));
+    assert_eq!((bench.exporter.next_dsn, bench.exporter.ring_start), (1, 15));
+}
+
+#[test]
+fn example_ack_of_an_empty_queue() {
+    let mut bench = written_records(5, 0);
+    assert_eq!((bench.ack(0, 4), bench.ack(0, 5)), (0, 11));
+}
+
+#[test]
+fn example_longest_record_in_the_smallest_store() {
+    let mut bench = Bench::new(settings(&[0]), 1_024);
+    assert_eq!(bench.put(&blob(1_025, 0)), 17);
+    assert_eq!(bench.put(&blob(1_024, 9)), 0);
+    assert_eq!(bench.store, blob(1_024, 9));
+}
+
+#[test]
+fn example_record_65() {
+    let mut bench = written_records(0, 64);
+    assert_eq!(bench.put(&blob(5, 1)), 18);
+    assert_eq!(bench.ack(0, 0), 0);
+    assert_eq!(bench.put(&blob(5, 1)), 0);
+    assert_eq!(bench.put(&blob(5, 1)), 18);
+}
+
+#[test]
+fn set_up_limits() {
+    let answer = |settings: Settings, length: usize| Exporter::set_up(settings, &vec![0; length]).err().unwrap_or(0);
+    let fair = settings(&[0]);
+    for (length, expected) in [(0, 20), (1_023, 20), (1_024, 0), (65_536, 0), (65_537, 20)] {
+        assert_eq!(answer(fair.clone(), length), expected);
+    }
+    for (servers, expected) in [(0, 20), (1, 0), (8, 0), (9, 20), (255, 20)] {
+        assert_eq!(answer(Settings { servers, ..fair.clone() }, 1_024), expected);
+    }
+    for (threshold, expected) in [(0, 20), (1, 0), (64, 0), (65, 20), (255, 20)] {
+        assert_eq!(answer(Settings { threshold, ..fair.clone() }, 1_024), expected);
+    }
+    for (duration, expected) in [(0, 20), (1, 0), (65_535, 0)] {
+        assert_eq!(answer(Settings { duration, ..fair.clone() }, 1_024), expected);
+    }
+}
+
+#[test]
+fn fresh_exporter() {
+    let mut bench = Bench::new(Settings { first_dsn: 9, ..settings(&[0, 1]) }, 1_024);
+    let fresh = &bench.exporter;
+    assert!(fresh.is_sound() && fresh.queue.is_empty() && fresh.s_due);
+    assert_eq!((fresh.next_dsn, fresh.first_held_dsn(), fresh.active), (9, 9, None));
+    assert_eq!((fresh.sent, fresh.reached, fresh.timer, fresh.ring_start), (0, 0, 0, 0));
+    assert_eq!(fresh.states, [ServerState::Closed; 8]);
+    assert!(bench.store.iter().all(|octet| *octet == 0xaa));
+    assert_eq!(bench.next(), refused(13));
+}
+
+/// A rule of soundness by name, and a change that breaks it.
+type Break = (&'static str, fn(&mut Exporter));
+
+/// Every call on the state answers 1 and changes neither it nor store nor output.
+fn assert_unsound(bench: &mut Bench, rule: &str) {
+    let (exporter, store, out) = (bench.exporter.clone(), bench.store.clone(), bench.out.clone());
+    assert!(!exporter.is_sound(), "{rule}");
+    assert_eq!(bench.put(&[]), 1, "{rule}");
+    assert_eq!(bench.next(), refused(1), "{rule}");
+    assert_eq!(bench.receive(200, &[]), refused(1), "{rule}");
+    assert_eq!(bench.exporter.offer_templates(200, &[], &mut []), refused(1), "{rule}");
+    assert_eq!(bench.exporter.line_down(200), 1, "{rule}");
+    assert_eq!(bench.exporter.tick(), 1, "{rule}");
+    assert!(bench.exporter == exporter && bench.store == store && bench.out == out, "{rule}");
+}
+
+/// Each breaks one rule of a state with an active server and three records, two of them sent.
+const BREAKS: [Break; 21] = [
+    ("no servers", |e| e.settings.servers = 0),
+    ("nine servers", |e| e.settings.servers = 9),
+    ("threshold 0", |e| e.settings.threshold = 0),
+    ("threshold 65", |e| e.settings.threshold = 65),
+    ("duration 0", |e| e.settings.duration = 0),
+    ("short store", |e| e.store_length = 1_023),
+    ("long store", |e| e.store_length = 65_537),
+    ("65 records", |e| e.queue.resize(65, Held { template_id: 4, length: 0, sent_to: BTreeSet::new() })),
+    ("long record", |e| (e.store_length, e.queue[2].length) = (4_096, 1_025)),
+    ("records over the store", |e| e.queue[2].length = 1_024),
+    ("length of no number", |e| e.queue[2].length = usize::MAX),
+    ("ring start", |e| e.ring_start = 1_024),
+    ("sent above reached", |e| e.sent = 3),
+    ("reached above count", |e| {
+        e.queue[2].sent_to.insert(0);
+        e.reached = 4;
+    }),
+    ("timer", |e| e.timer = 2),
+    ("another active", |e| e.active = Some(1)),
+    ("no active", |e| e.active = None),
+    ("S due", |e| e.s_due = true),
+    ("sent to no server", |e| {
+        e.queue[2].sent_to.insert(2);
+    }),
+    ("not sent to the active", |e| {
+        e.queue[1].sent_to.remove(&0);
+    }),
+    ("agreed, but not chosen", |e| e.states[1] = ServerState::Agreed),
+];
+
+#[test]
+fn unsound_states_are_refused() {
+    for (rule, break_rule) in BREAKS {
+        let mut bench = Bench::new(settings(&[1, 2]), 1_024);
+        bench.agree(0);
+        for _ in 0..3 {
+            bench.put(&blob(5, 1));
+        }
+        bench.next();
+        bench.next();
+        assert!(bench.exporter.is_sound());
+        break_rule(&mut bench.exporter);
+        assert_unsound(&mut bench, rule);
+    }
+}
+
+#[test]
+fn unsound_without_an_active_server() {
+    let breaks: [Break; 2] = [("timer", |e| e.timer = 1), ("reached", |e| (e.reached, e.s_due) = (1, false))];
+    for (rule, break_rule) in breaks {
+        let mut bench = Bench::new(settings(&[1, 2]), 1_024);
+        bench.put(&blob(5, 1));
+        break_rule(&mut bench.exporter);
+        assert_unsound(&mut bench, rule);
+    }
+}
+
+#[test]
+fn what_soundness_does_not_look_at() {
+    let mut bench = Bench::new(settings(&[1, 2]), 1_024);
+    bench.put(&blob(5, 1));
+    bench.exporter.states[2] = ServerState::Agreed;
+    bench.exporter.settings.priorities[2] = 9;
+    bench.exporter.s_due = false;
+    bench.exporter.next_dsn = 77;
+    bench.exporter.queue[0].template_id = 99;
+    assert!(bench.exporter.is_sound());
+    assert_eq!(bench.exporter.tick(), 0);
+    assert_eq!(bench.exporter.active, None);
+}
+
+#[test]
+fn lent_store_has_the_length_set() {
+    let mut bench = written_records(0, 1);
+    bench.store.push(0);
+    assert_eq!(bench.put(&[]), 1);
+    assert_eq!(bench.next(), refused(1));
+    bench.store.truncate(1_023);
+    assert_eq!(bench.put(&blob(5, 1)), 1);
+    assert_eq!(bench.next(), refused(1));
+}
+
+#[test]
+fn put_refuses_in_order() {
+    let mut bench = Bench::new(settings(&[0]), 1_024);
+    let other = hex("02010001 0003 0001 0000 0000 00000018 00000009 0004 0000 00000000");
+    let put = |bench: &mut Bench, table: &[u8], id: u16, record: &[u8]| {
+        let before = (bench.exporter.clone(), bench.store.clone());
+        let answer = bench.exporter.put(&mut bench.store, table, id, record);
+        assert!(answer == 0 || before == (bench.exporter.clone(), bench.store.clone()));
+        answer
+    };
+    let long = vec![0; 1_025];
+    assert_eq!(put(&mut bench, &[], 9, &long), 21);
+    assert_eq!(put(&mut bench, &other, 9, &long), 21);
+    assert_eq!(put(&mut bench, &sample_table(), 9, &long), 15);
+    assert_eq!(put(&mut bench, &sample_table(), 3, &long), 17);
+    assert_eq!(put(&mut bench, &blob_table(), 4, &blob(1_025, 0)), 17);
+    assert_eq!(put(&mut bench, &sample_table(), 3, &hex("000500")), 16);
+    assert_eq!(put(&mut bench, &blob_table(), 4, &blob(1_020, 0)), 0);
+    assert_eq!(put(&mut bench, &blob_table(), 4, &blob(5, 0)), 19);
+    assert_eq!(put(&mut bench, &sample_table(), 3, &hex("00")), 16);
+    assert_eq!(put(&mut bench, &blob_table(), 4, &blob(4, 0)), 0);
+    assert_eq!(put(&mut bench, &blob_table(), 4, &blob(4, 0)), 19);
+    for _ in 0..62 {
+        assert_eq!(put(&mut bench, &blob_table(), 5, &[]), 0);
+    }
+    assert_eq!(put(&mut bench, &blob_table(), 4, &blob(4, 0)), 18);
+    assert_eq!(put(&mut bench, &blob_table(), 5, &[]), 18);
+    assert_eq!(put(&mut bench, &blob_table(), 4, &[]), 16);
+}
+
+#[test]
+fn next_data_refuses_in_order() {
+    let mut bench = Bench::new(settings(&[0]), 1_024);
+    assert_eq!(bench.exporter.next_data(&bench.store, &mut []), refused(13));
+    bench.agree(0);
+    assert_eq!(bench.exporter.next_data(&bench.store, &mut []), refused(14));
+    bench.put(&blob(5, 1));
+    let before = bench.exporter.clone();
+    let mut out = [0xee; 20];
+    assert_eq!(bench.exporter.next_data(&bench.store, &mut out), refused(12));
+    assert_eq!((out, &bench.exporter), ([0xee; 20], &before));
+    bench.out = vec![0xee; 22];
+    assert_eq!(bench.next(), done(21));
+    assert_eq!(bench.out, hex("01200700 00000015 00040101 00000000 00000001 01 ee"));
+    assert_eq!(bench.next(), refused(14));
+}
+
+#[test]
+fn receive_refuses_in_order() {
+    let mut bench = written_records(0, 1);
+    let answer = |bench: &mut Bench, server: u8, message: &str| {
+        let before = (bench.exporter.clone(), bench.out.clone());
+        let reply = bench.receive(server, &hex(message));
+        assert!(before == (bench.exporter.clone(), bench.out.clone()) && reply.written == 0);
+        reply.answer
+    };
+    assert_eq!(answer(&mut bench, 1, "02ff0800 000000"), 2);
+    assert_eq!(answer(&mut bench, 0, "02ff0800 000000"), 3);
+    assert_eq!(answer(&mut bench, 0, "02ff0800 00000000"), 4);
+    assert_eq!(answer(&mut bench, 0, "01ff0800 00000009"), 5);
+    assert_eq!(answer(&mut bench, 0, "01ff0800 00000008"), 6);
+    for number in ["02", "04", "10", "19", "20", "00", "22", "ff"] {
+        assert_eq!(answer(&mut bench, 0, &format!("01{number}0700 00000008")), 7);
+    }
+    assert_eq!(answer(&mut bench, 0, "01020700 0000000c 00000000"), 7);
+    for number in ["01", "03", "18", "13", "21"] {
+        assert_eq!(answer(&mut bench, 0, &format!("01{number}0700 00000009 00")), 8);
+    }
+    assert_eq!(answer(&mut bench, 0, "01130700 0000000c 02000000"), 9);
+    assert_eq!(answer(&mut bench, 0, "01210700 00000010 00000009 02000000"), 10);
+    assert_eq!(answer(&mut bench, 0, "01210700 00000010 00000009 01000000"), 11);
+}
+
+#[test]
+fn receive_turns() {
+    let mut bench = Bench::new(settings(&[0, 0]), 1_024);
+    assert_eq!(bench.negotiate(0), refused(9));
+    assert_eq!(bench.final_ack(0), refused(9));
+    assert_eq!(bench.ack(0, u32::MAX), 9);
+    assert_eq!(bench.receive(0, &hex("01210700 00000010 ffffffff 02000000")), refused(9));
+    bench.start(0);
+    assert_eq!(bench.final_ack(0), refused(9));
+    bench.offer(0);
+    assert_eq!(bench.receive(0, &hex("01130700 0000000c 02000000")), refused(10));
+    assert_eq!(bench.final_ack(0), done(0));
+    assert_eq!(bench.final_ack(0), refused(9));
+    bench.agree(1);
+    assert_eq!((bench.ack(1, u32::MAX), bench.ack(0, u32::MAX)), (9, 0));
+}
+
+#[test]
+fn receive_judges_the_output_by_its_reply() {
+    let mut bench = Bench::new(settings(&[0]), 1_024);
+    let receive = |bench: &mut Bench, message: &str, length: usize| {
+        bench.out = vec![0xee; length];
+        bench.receive(0, &hex(message))
+    };
+    assert_eq!(receive(&mut bench, "01180700 00000008", 0), refused(9));
+    assert_eq!(receive(&mut bench, "01010700 00000008", 11), refused(12));
+    assert_eq!((bench.exporter.state(0), bench.out.clone()), (ServerState::Closed, vec![0xee; 11]));
+    assert_eq!(receive(&mut bench, "01010700 00000008", 13), done(12));
+    assert_eq!(bench.out, hex("01020700 0000000c 00000e10 ee"));
+    assert_eq!(receive(&mut bench, "01180700 00000008", 7), refused(12));
+    assert_eq!(receive(&mut bench, "01180700 00000008", 9), done(8));
+    assert_eq!(bench.out, hex("01190700 00000008 ee"));
+    assert_eq!(receive(&mut bench, "01030700 00000008", 7), refused(12));
+    assert_eq!(receive(&mut bench, "01030700 00000008", 8), done(8));
+    assert_eq!(bench.out, hex("01040700 00000008"));
+    bench.out = vec![0; 64];
+    assert_eq!(bench.exporter.offer_templates(0, &bench.table, &mut bench.out), refused(9));
+    bench.start(0);
+    bench.out = vec![0; 8 + bench.table.len()];
+    assert_eq!(bench.offer(0), done(8 + bench.table.len()));
+    assert_eq!(receive(&mut bench, "01130700 0000000c 01000000", 0), done(0));
+    assert_eq!(receive(&mut bench, "01210700 00000010 ffffffff 01000000", 0), done(0));
+}
+
+#[test]
+fn offer_refuses_in_order() {
+    let mut bench = Bench::new(settings(&[0]), 1_024);
+    let other = hex("02010001 0003 0001 0000 0000 00000018 00000009 0004 0000 00000000");
+    assert_eq!(bench.exporter.offer_templates(1, &[], &mut []), refused(2));
+    assert_eq!(bench.exporter.offer_templates(0, &[], &mut []), refused(21));
+    assert_eq!(bench.exporter.offer_templates(0, &other, &mut []), refused(21));
+    assert_eq!(bench.exporter.offer_templates(0, &sample_table(), &mut []), refused(9));
+    bench.start(0);
+    let mut out = [0xee; 37];
+    assert_eq!(bench.exporter.offer_templates(0, &sample_table(), &mut out[..35]), refused(12));
+    assert_eq!((out, bench.exporter.state(0)), ([0xee; 37], ServerState::Started));
+    assert_eq!(bench.exporter.offer_templates(0, &sample_table(), &mut out), done(36));
+    assert_eq!(out.to_vec(), [hex("01100700 00000024"), sample_table(), vec![0xee]].concat());
+    assert_eq!(bench.exporter.state(0), ServerState::Offered);
+    assert_eq!(bench.offer(0).answer, 0);
+    bench.final_ack(0);
+    assert_eq!(bench.offer(0), refused(9));
+}
+
+#[test]
+fn line_down_and_stop_close_from_any_state() {
+    let mut bench = Bench::new(settings(&[0]), 1_024);
+    assert_eq!((bench.exporter.line_down(1), bench.exporter.line_down(0)), (2, 0));
+    assert_eq!(bench.stop(0), done(8));
+    bench.agree(0);
+    assert_eq!(bench.exporter.line_down(0), 0);
+    assert_eq!((bench.exporter.state(0), bench.exporter.active), (ServerState::Closed, None));
+    bench.agree(0);
+    assert_eq!(bench.stop(0), done(8));
+    assert_eq!((bench.exporter.state(0), bench.exporter.active), (ServerState::Closed, None));
+}
+
+#[test]
+fn negotiate_starts_every_server_not_closed() {
+    let mut bench = Bench::new(settings(&[0; 5]), 1_024);
+    bench.start(1);
+    bench.start(2);
+    bench.offer(2);
+    bench.agree(3);
+    bench.agree(4);
+    bench.put(&blob(5, 1));
+    bench.next();
+    bench.exporter.tick();
+    bench.exporter.tick();
+    assert_eq!(bench.exporter.state(3), ServerState::Late);
+    assert_eq!(bench.negotiate(0), refused(9));
+    assert_eq!(bench.negotiate(3), done(8));
+    let states: Vec<ServerState> = (0..5).map(|server| bench.exporter.state(server)).collect();
+    assert_eq!(states[0], ServerState::Closed);
+    assert!(states[1..].iter().all(|state| *state == ServerState::Started));
+    assert_eq!(bench.exporter.active, None);
+}
+
+#[test]
+fn active_server_is_the_highest_lowest_numbered() {
+    let mut bench = Bench::new(settings(&[3, 200, 3, 200]), 1_024);
+    for (server, active) in [(2, 2), (0, 0), (3, 3), (1, 1)] {
+        bench.agree(server);
+        assert_eq!(bench.exporter.active, Some(active));
+    }
+    for (server, active) in [(1, Some(3)), (3, Some(0)), (0, Some(2)), (2, None)] {
+        bench.exporter.line_down(server);
+        assert_eq!(bench.exporter.active, active);
+    }
+}
+
+#[test]
+fn s_marks_the_first_data_of_an_activation() {
+    let mut bench = written_records(0, 0);
+    for _ in 0..3 {
+        bench.put(&blob(5, 1));
+    }
+    assert_eq!(bench.exporter.next_data(&bench.store, &mut []), refused(12));
+    assert_eq!((bench.next_flags(), bench.next_flags()), ((1, 0), (0, 1)));
+    assert_eq!(bench.ack(0, u32::MAX), 0);
+    assert_eq!(bench.next_flags(), (0, 0));
+    bench.start(0);
+    assert_eq!((bench.exporter.active, bench.exporter.reached), (None, 0));
+    bench.offer(0);
+    bench.final_ack(0);
+    assert_eq!((bench.next_flags(), bench.next_flags()), ((1, 0), (0, 1)));
+}
+
+#[test]
+fn d_marks_records_written_to_another_server() {
+    let mut bench = Bench::new(settings(&[1, 2]), 1_024);
+    for _ in 0..3 {
+        bench.put(&blob(5, 1));
+    }
+    bench.agree(0);
+    assert_eq!((bench.next_flags(), bench.next_flags()), ((1, 0), (0, 1)));
+    bench.agree(1);
+    assert_eq!(bench.exporter.active, Some(1));
+    assert_eq!((bench.next_flags(), bench.next_flags(), bench.next_flags()), ((3, 0), (2, 1), (0, 2)));
+    bench.exporter.line_down(1);
+    assert_eq!((bench.next_flags(), bench.next_flags(), bench.next_flags()), ((3, 0), (2, 1), (2, 2)));
+}
+
+#[test]
+fn failover_releases_only_what_was_acknowledged() {
+    let mut bench = Bench::new(settings(&[2, 1]), 1_024);
+    bench.agree(0);
+    bench.agree(1);
+    for _ in 0..3 {
+        bench.put(&blob(5, 1));
+        bench.next();
+    }
+    assert_eq!(bench.ack(0, 0), 0);
+    assert_eq!((bench.exporter.sent, bench.exporter.reached), (2, 2));
+    assert_eq!((bench.exporter.tick(), bench.exporter.tick()), (0, 0));
+    assert_eq!((bench.exporter.state(0), bench.exporter.active), (ServerState::Late, Some(1)));
+    assert_eq!((bench.exporter.sent, bench.exporter.reached, bench.exporter.queue.len()), (0, 0, 2));
+    assert_eq!((bench.ack(0, 1), bench.ack(1, 1)), (9, 11));
+    assert_eq!((bench.next_flags(), bench.next_flags()), ((3, 1), (2, 2)));
+    assert_eq!((bench.exporter.tick(), bench.exporter.tick()), (0, 0));
+    assert_eq!((bench.exporter.active, bench.exporter.sent, bench.exporter.reached), (Some(1), 0, 2));
+    assert_eq!(bench.exporter.state(0), ServerState::Late);
+    assert_eq!(bench.ack(1, 2), 0);
+    assert!(bench.exporter.queue.is_empty());
+}
+
+#[test]
+fn ticks_count_from_the_threshold() {
+    let fair = Settings { threshold: 2, duration: 3, ..settings(&[0]) };
+    let mut bench = Bench::new(fair, 1_024);
+    bench.agree(0);
+    bench.put(&blob(5, 1));
+    bench.put(&blob(5, 1));
+    bench.next();
+    let ticks = |bench: &mut Bench, count: usize| -> Vec<u16> {
+        (0..count).map(|_| (bench.exporter.tick(), bench.exporter.timer).1).collect()
+    };
+    assert_eq!(ticks(&mut bench, 2), [0, 0]);
+    bench.next();
+    assert_eq!(ticks(&mut bench, 2), [1, 2]);
+    assert_eq!(bench.ack(0, u32::MAX), 0);
+    assert_eq!((bench.exporter.timer, bench.exporter.sent, bench.exporter.reached), (2, 0, 2));
+    bench.next();
+    bench.next();
+    assert_eq!(ticks(&mut bench, 1), [0]);
+    assert_eq!((bench.exporter.sent, bench.exporter.reached), (0, 2));
+    assert!(!bench.exporter.s_due);
+    assert_eq!(ticks(&mut bench, 1), [1]);
+    assert_eq!(bench.ack(0, 0), 0);
+    assert_eq!((bench.exporter.timer, bench.exporter.sent, bench.exporter.reached), (0, 0, 1));
+}
+
+#[test]
+fn tick_below_the_threshold_clears_the_timer() {
+    let mut bench = written_records(0, 1);
+    bench.exporter.settings.threshold = 2;
+    bench.exporter.timer = 1;
+    assert_eq!((bench.exporter.tick(), bench.exporter.timer, bench.exporter.sent), (0, 0, 1));
+}
+
+#[test]
+fn tick_without_an_active_server() {
+    let mut bench = Bench::new(Settings { duration: 1, ..settings(&[0]) }, 1_024);
+    let before = bench.exporter.clone();
+    assert_eq!(bench.exporter.tick(), 0);
+    assert_eq!(bench.exporter, before);
+    bench.agree(0);
+    bench.put(&blob(5, 1));
+    bench.next();
+    assert_eq!(bench.exporter.tick(), 0);
+    assert_eq!((bench.exporter.timer, bench.exporter.sent, bench.exporter.reached), (0, 0, 1));
+}
+
+#[test]
+fn ack_beyond_sent_within_reached() {
+    let mut bench = written_records(0, 4);
+    assert_eq!(bench.ack(0, u32::MAX), 0);
+    assert_eq!(bench.next_flags(), (0, 0));
+    assert_eq!(bench.ack(0, 2), 0);
+    assert_eq!((bench.exporter.queue.len(), bench.exporter.sent, bench.exporter.reached), (1, 0, 1));
+    assert_eq!(bench.next_flags(), (0, 3));
+}
+
+#[test]
+fn ring_wraps_around_the_end_of_the_store() {
+    let mut bench = Bench::new(settings(&[0]), 1_024);
+    bench.agree(0);
+    assert_eq!((bench.put(&blob(1_000, 1)), bench.next().answer, bench.ack(0, 0)), (0, 0, 0));
+    assert_eq!(bench.exporter.ring_start, 1_000);
+    let before = bench.store.clone();
+    assert_eq!(bench.put(&blob(40, 2)), 0);
+    assert_eq!(bench.store[1_000..], blob(40, 2)[..24]);
+    assert_eq!(bench.store[..16], blob(40, 2)[24..]);
+    assert_eq!(bench.store[16..1_000], before[16..1_000]);
+    assert_eq!(bench.next(), done(56));
+    assert_eq!(bench.out[16..56], blob(40, 2));
+    assert_eq!(bench.exporter.held_record(&bench.store, 0), blob(40, 2));
+    assert_eq!(bench.ack(0, 1), 0);
+    assert_eq!(bench.exporter.ring_start, 16);
+}

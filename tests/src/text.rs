@@ -1,0 +1,180 @@
+//! The text form of tapes: one event on a line, its parts by name; `#` begins a comment.
+//!
+//! ```text
+//! settings session=7 configuration=1 servers=1 threshold=4 duration=10 store=1024 first-dsn=0 boot=3600 priorities=1
+//! table configuration=1
+//!   template 3 description="minutes by port"
+//!     key 9 type=unsigned16
+//!     key 10 type=string disabled
+//! put template=3 0005
+//! message server=0 start
+//! message server=0 data-ack dsn=5 configuration=1
+//! message server=0 ff00ff
+//! offer server=0
+//! down server=0
+//! next
+//! tick 5
+//! ```
+//!
+//! A named message has the session of the settings unless it says `session=`. `times=5` repeats any event (`tick 5`
+//! for short). In hex, `61*20` stands for 20 times the octet 61. An indented line goes on with the line above it: the
+//! parts of a table, or more octets in hex. Whatever has no named form is given in hex, so that every sound tape has
+//! a text.
+
+mod decode;
+mod encode;
+pub mod words;
+
+pub use decode::decode;
+pub use encode::encode;
+
+use crate::letters::{self, Letter};
+
+/// The messages that have a name, with their numbers.
+const MESSAGE_NAMES: [(&str, u8); 10] = [
+    ("start", letters::START),
+    ("start-ack", letters::START_ACK),
+    ("stop", letters::STOP),
+    ("stop-ack", letters::STOP_ACK),
+    ("template-data", letters::TEMPLATE_DATA),
+    ("final-template-data-ack", letters::FINAL_ACK),
+    ("start-negotiate", letters::NEGOTIATE),
+    ("start-negotiate-ack", letters::NEGOTIATE_ACK),
+    ("data", letters::DATA),
+    ("data-ack", letters::DATA_ACK),
+];
+
+/// The message that the words after `message server=N` name, or spell in hex. `session` is that of the tape's settings.
+fn message_of_words(words: &mut words::Words, session: u8) -> Result<Vec<u8>, String> {
+    let named = MESSAGE_NAMES.iter().find(|(name, _)| words.first() == Some(*name));
+    let Some((_, number)) = named else {
+        return words.take_hex();
+    };
+    words.take_first();
+    let session = words.optional("session", 255)?.unwrap_or(u64::from(session)) as u8;
+    let letter = match *number {
+        letters::START_ACK => Letter::start_ack(session, words.number("boot", u64::from(u32::MAX))? as u32),
+        letters::TEMPLATE_DATA => Letter::new(letters::TEMPLATE_DATA, session, words.take_hex()?),
+        letters::FINAL_ACK => Letter::final_ack(session, words.number("configuration", 255)? as u8),
+        letters::DATA => {
+            let template = words.number("template", 65_535)? as u16;
+            let configuration = words.number("configuration", 255)? as u8;
+            let flags = words.number("flags", 255)? as u8;
+            let dsn = words.number("dsn", u64::from(u32::MAX))? as u32;
+            Letter::data(session, template, configuration, flags, dsn, &words.take_hex()?)
+        }
+        letters::DATA_ACK => {
+            let dsn = words.number("dsn", u64::from(u32::MAX))? as u32;
+            Letter::data_ack(session, dsn, words.number("configuration", 255)? as u8)
+        }
+        number => Letter::bare(number, session),
+    };
+    Ok(letter.octets())
+}
+
+/// The words that name a message, if there are any that spell exactly these octets.
+fn words_of_message(message: &[u8], session: u8) -> Option<String> {
+    let letter = Letter::from_octets(message)?;
+    let (name, _) = MESSAGE_NAMES.iter().find(|(_, number)| *number == letter.number)?;
+    let body = &letter.body;
+    let number32 = |at: usize| Some(u32::from_be_bytes(body.get(at..at + 4)?.try_into().ok()?));
+    let parts = match letter.number {
+        letters::START_ACK => format!(" boot={}", number32(0)?),
+        letters::TEMPLATE_DATA => format!(" {}", words::hex(body)),
+        letters::FINAL_ACK => format!(" configuration={}", body.first()?),
+        letters::DATA => {
+            let (head, record) = body.split_at_checked(8)?;
+            let template = u16::from_be_bytes([head[0], head[1]]);
+            format!(
+                " template={template} configuration={} flags={} dsn={} {}",
+                head[2],
+                head[3],
+                number32(4)?,
+                words::hex(record)
+            )
+        }
+        letters::DATA_ACK => format!(" dsn={} configuration={}", number32(0)?, body.get(4)?),
+        _ => String::new(),
+    };
+    let other_session = if letter.session == session { String::new() } else { format!(" session={}", letter.session) };
+    let line = format!("{name}{other_session}{parts}");
+    let mut again = words::Words::of_line(&line).ok()?;
+    (message_of_words(&mut again, session).ok()? == message).then(|| line.trim_end().to_string())
+}
+
+#[cfg(test)]
+mod tests {
+    use super::*;
+    use crate::tape::{self, Event};
+
+    const SETTINGS: &str =
+        "settings session=7 configuration=1 servers=1 threshold=4 duration=10 store=1024 first-dsn=0 boot=3600 priorities=1";
+    const TABLE: &str = "table configuration=1
+  template 3 description=\"a \\\"b\\\" \\\\ \\x00#\"   # a comment
+    key 9 type=unsigned16
+    key 0x0a type=0x400c disabled";
+
+    /// The events after settings and table that a text spells.
+    fn events(text: &str) -> Result<Vec<Event>, String> {
+        let octets = encode(&format!("{SETTINGS}\n{TABLE}\n{text}"))?;
+        Ok(tape::split(&octets)?[2..].to_vec())
+    }
+
+    #[test]
+    fn the_example_of_the_paper_is_spelt() {
+        let table = "table 01010001 0003 0001 0000 0000 00000018 00000009 0004 0000 00000000";
+        let text = format!("{SETTINGS}\n{table}\nput template=3 0005\nnext\nmessage server=0 0101070000000008\n");
+        let octets = encode(&text).expect("a sound tape");
+        assert_eq!(octets[..22], [0, 5, 0, 0, 0, 24, 1, 0, 0, 28, 2, 0, 0, 4, 6, 0, 0, 0, 3, 0, 0, 8]);
+        assert_eq!(octets[22..46], [7, 1, 1, 4, 0, 10, 3, 255, 0, 0, 0, 0, 0, 0, 14, 16, 1, 0, 0, 0, 0, 0, 0, 0]);
+        assert_eq!(octets[74..], [0, 3, 0, 5, 1, 1, 7, 0, 0, 0, 0, 8]);
+        assert_eq!(decode(&octets).map(|text| text.contains("message server=0 start  # 4")), Ok(true));
+    }
+
+    #[test]
+    fn a_table_is_spelt_part_by_part() {
+        let octets = encode(&format!("{SETTINGS}\n{TABLE}\nnext\n")).expect("a sound tape");
+        let table = &tape::split(&octets).expect("a sound tape")[1].body;
+        let description = b"a \"b\" \\ \0#";
+        assert_eq!(table[..16], [1, 1, 0, 1, 0, 3, 0, 2, 0, 0, 0, 10, 0, 0, 0, 48]);
+        assert_eq!(&table[16..26], description);
+        assert_eq!(table[26..], [0, 0, 0, 0, 0, 9, 0, 4, 0, 0, 0, 0, 0, 0, 0, 0, 0, 10, 0x40, 0x0c, 0, 0, 0, 0, 0, 1]);
+        assert_eq!(decode(&octets).and_then(|text| encode(&text)), Ok(octets));
+    }
+
+    #[test]
+    fn events_are_spelt_and_repeated() {
+        let start = Event::message(2, vec![1, 1, 7, 0, 0, 0, 0, 8]);
+        assert_eq!(events("tick 2\nnext\n"), Ok(vec![Event::tick(), Event::tick(), Event::next()]));
+        assert_eq!(
+            events("put template=4 times=2 61*3\n  00 01\n"),
+            Err("line 7: an indented line cannot go on with a repeated event".to_string())
+        );
+        assert_eq!(events("put template=4 61*3\n  00 01 # more\n"), Ok(vec![Event::put(4, &[0x61, 0x61, 0x61, 0, 1])]));
+        assert_eq!(events("message server=2 start times=2"), Ok(vec![start.clone(), start]));
+        assert_eq!(
+            events("message server=0 data-ack dsn=5 configuration=1 session=8"),
+            events("message server=0 0121080000000010 00000005 01000000")
+        );
+        assert_eq!(events("down server=255\noffer server=3"), Ok(vec![Event::down(255), Event::offer(3)]));
+    }
+
+    #[test]
+    fn what_cannot_be_spelt_is_named() {
+        let reason = |text: &str| events(text).expect_err("not a tape");
+        assert_eq!(reason("jump"), "line 6: no event 'jump'");
+        assert_eq!(reason("next\nput 00"), "line 7: 'template=' is missing");
+        assert_eq!(reason("put template=65536"), "line 6: '65536' is not a number from 0 to 65535");
+        assert_eq!(reason("put template=1 000"), "line 6: '000' is not octets in hex");
+        assert_eq!(reason("down server=1 server=2"), "line 6: 'server=' does not belong here");
+        assert_eq!(reason("tick 600"), "line 6: '600' is not a number from 0 to 512");
+        assert_eq!(reason("settings session=1"), "line 6: 'configuration=' is missing");
+        assert_eq!(reason("table 00"), "event 2: a table stands only second");
+        assert_eq!(encode(""), Err("the event count is 0, not 2 to 512".to_string()));
+        assert_eq!(
+            encode("  key 9"),
+            Err("line 1: an indented line goes on with the line above, and there is none".to_string())
+        );
+        assert_eq!(decode(&[0, 2]), Err("the contents of 2 events are cut short".to_string()));
+    }
+}

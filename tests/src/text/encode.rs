@@ -1,0 +1,160 @@
+//! From the text form to a tape.
+
+use super::message_of_words;
+use super::words::{number, Words};
+use crate::tables::{Key, Table, Template, FIELD_TYPES};
+use crate::tape::{self, Event, Settings};
+
+/// The tape that a text spells, or the line that does not and why. Only sound tapes are spelt.
+pub fn encode(text: &str) -> Result<Vec<u8>, String> {
+    let mut encoder = Encoder::default();
+    for (place, line) in text.lines().enumerate() {
+        encoder.line(line).map_err(|reason| format!("line {}: {reason}", place + 1))?;
+    }
+    encoder.close_table();
+    if encoder.events.len() > tape::MAX_EVENTS {
+        return Err(format!("{} events, more than {}", encoder.events.len(), tape::MAX_EVENTS));
+    }
+    let octets = tape::build(&encoder.events);
+    tape::split(&octets)?;
+    Ok(octets)
+}
+
+/// What the lines so far have said.
+#[derive(Default)]
+struct Encoder {
+    events: Vec<Event>,
+    /// The session of the settings, which named messages carry.
+    session: u8,
+    /// The table that is being spelt part by part; it becomes the body of the last event.
+    table: Option<Table>,
+    /// How often the last event was repeated.
+    times: u64,
+}
+
+impl Encoder {
+    fn line(&mut self, line: &str) -> Result<(), String> {
+        let mut words = Words::of_line(line)?;
+        if words.is_empty() {
+            return Ok(());
+        }
+        if words.indented {
+            return self.continuation(words);
+        }
+        self.close_table();
+        let name = words.take_first().ok_or("the line names no event")?;
+        let event = match name.as_str() {
+            "settings" => self.settings(&mut words)?,
+            "table" => self.begin_table(&mut words)?,
+            "put" => Event::put(words.number("template", 65_535)? as u16, &words.take_hex()?),
+            "message" => {
+                let server = words.number("server", 255)? as u8;
+                Event::message(server, message_of_words(&mut words, self.session)?)
+            }
+            "down" => Event::down(words.number("server", 255)? as u8),
+            "offer" => Event::offer(words.number("server", 255)? as u8),
+            "tick" => Event::tick(),
+            "next" => Event::next(),
+            _ => return Err(format!("no event '{name}'")),
+        };
+        self.times = times(&mut words)?;
+        words.end()?;
+        self.events.extend((0..self.times).map(|_| event.clone()));
+        Ok(())
+    }
+
+    fn settings(&mut self, words: &mut Words) -> Result<Event, String> {
+        let settings = Settings {
+            session: words.number("session", 255)? as u8,
+            configuration: words.number("configuration", 255)? as u8,
+            servers: words.number("servers", 255)? as u8,
+            threshold: words.number("threshold", 255)? as u8,
+            duration: words.number("duration", 65_535)? as u16,
+            store: match words.number("store", 65_536)? {
+                0 => return Err("a tape cannot say a store of 0 octets".to_string()),
+                octets => octets as u32,
+            },
+            first_dsn: words.number("first-dsn", u64::from(u32::MAX))? as u32,
+            boot: words.number("boot", u64::from(u32::MAX))? as u32,
+            priorities: priorities(&words.take_named("priorities").ok_or("'priorities=' is missing")?)?,
+        };
+        self.session = settings.session;
+        Ok(Event::settings(&settings))
+    }
+
+    /// A table in hex, or the first line of one that is spelt part by part.
+    fn begin_table(&mut self, words: &mut Words) -> Result<Event, String> {
+        if let Some(configuration) = words.optional("configuration", 255)? {
+            self.table = Some(Table { configuration: configuration as u8, templates: Vec::new() });
+        }
+        Ok(Event::table(words.take_hex()?))
+    }
+
+    /// An indented line: a part of the table, or more octets for the last event's body.
+    fn continuation(&mut self, mut words: Words) -> Result<(), String> {
+        let last = self.events.last_mut().ok_or("an indented line goes on with the line above, and there is none")?;
+        if self.times != 1 {
+            return Err("an indented line cannot go on with a repeated event".to_string());
+        }
+        match (words.first(), &mut self.table) {
+            (Some("template"), Some(table)) => table.templates.push(template_of_words(&mut words)?),
+            (Some("key"), Some(table)) => {
+                let template = table.templates.last_mut().ok_or("a key stands under its template")?;
+                template.keys.push(key_of_words(&mut words)?);
+            }
+            (_, Some(_)) => return Err("a table goes on with 'template' or 'key'".to_string()),
+            (_, None) => last.body.extend(words.take_hex()?),
+        }
+        words.end()
+    }
+
+    /// Gives the table that was being spelt to its event.
+    fn close_table(&mut self) {
+        if let (Some(table), Some(last)) = (self.table.take(), self.events.last_mut()) {
+            last.body = table.octets();
+        }
+    }
+}
+
+/// How often an event is repeated: `times=5` at any event, or `tick 5` and `next 5`.
+fn times(words: &mut Words) -> Result<u64, String> {
+    let most = tape::MAX_EVENTS as u64;
+    match words.take_first() {
+        Some(text) => number(&text, most),
+        None => Ok(words.optional("times", most)?.unwrap_or(1)),
+    }
+}
+
+/// `template 3 description="minutes"`; the description may be missing.
+fn template_of_words(words: &mut Words) -> Result<Template, String> {
+    words.take_first();
+    let id = number(&words.take_first().unwrap_or_default(), 65_535)? as u16;
+    let description = words.take_named("description").unwrap_or_default();
+    if description.len() > 65_535 {
+        return Err("the description is longer than 65535 octets".to_string());
+    }
+    Ok(Template { id, description, keys: Vec::new() })
+}
+
+/// `key 9 type=unsigned16 disabled`; the type is a name or a number.
+fn key_of_words(words: &mut Words) -> Result<Key, String> {
+    words.take_first();
+    let id = number(&words.take_first().unwrap_or_default(), u64::from(u32::MAX))? as u32;
+    let name = words.take_named("type").ok_or("'type=' is missing")?;
+    let listed = FIELD_TYPES.iter().find(|kind| kind.name.as_bytes() == name);
+    let kind = match listed {
+        Some(kind) => kind.number,
+        None => number(&String::from_utf8_lossy(&name), 65_535)? as u16,
+    };
+    Ok(Key { id, kind, disabled: words.take_plain("disabled") })
+}
+
+/// One to eight numbers with commas between; those not named are 0.
+fn priorities(text: &[u8]) -> Result<[u8; 8], String> {
+    let mut priorities = [0; 8];
+    let text = String::from_utf8_lossy(text);
+    for (place, part) in text.split(',').enumerate() {
+        *priorities.get_mut(place).ok_or("more than 8 priorities")? = number(part, 255)? as u8;
+    }
+    Ok(priorities)
+}
