@@ -1,41 +1,28 @@
 -- Laws of messages: what an answer of 0 says of a message, and what writing answers. Assumes nothing.
 use mathlib.Core.Path.{_≡_, refl, sym, ap, _∙_}
-use mathlib.Core.Bool.{Bool, true, false, cond, not, _&&_, _||_}
+use mathlib.Core.Bool.{Bool, true, false, cond, not, _&&_}
 use mathlib.Core.List.{List, [], _∷_, _++_}
 use Prim.Native.Nat.{ℕ, _+_, _-_, _≤_, _<_}
 use native.Mathlib.Nat.{zero-add}
 use native.Mathlib.Omega.{arith}
-use borrow.Author.Tests.{ltb-true, ltb-false, eqb-true, leb-true, not-false, le-ltb, lt-ltb, eq-eqb, ne-eqb}
+use borrow.Author.Tests.{ltb-true, ltb-false, eqb-true, leb-true, not-false, le-ltb, lt-ltb, le-leb, lt-leb, eq-eqb, ne-eqb}
 use lib.Dec.{eqb, leb, ltb}
 use lib.ListN.{length, take, drop, length-drop}
 use lib.Seq.{take-all, sets, length-sets}
 use Rattle.octets.specs.Answers.{judge, done, outputTooShort}
 use Rattle.octets.specs.Numbers.{octetsOf, putAt}
 use Rattle.octets.proofs.Stores.{put-fits, put-short, sets-append}
-use Rattle.wire.specs.Messages.{Form, ofForm, forms, isMessage, bodyFits, messageNumber, versionOf, lengthField, headerChecks, bodyChecks, headerAnswer, readAnswer, partAt, partOf, tmplData, dataNumber}
+use Rattle.wire.specs.Messages.{Form, ofForm, forms, isMessage, bodyFits, messageNumber, versionOf, lengthField, headerChecks, bodyChecks, headerAnswer, readAnswer, sessionOf, meaningOf, readWhere, readTable, readOf, partAt, partOf, tmplData, dataNumber}
 use Rattle.wire.specs.Table.{tableSound}
 use Rattle.wire.specs.Messages.{headerOctetsOf, messageOf, dataFront, dataHeadOctets, Placed, isTmplData, isData, layoutOf, writeAnswer, writeOf, writeOut}
 use Rattle.wire.specs.declared.message.DataHead.{DataHead}
 use Rattle.wire.specs.declared.message.Message.{Message}
-use Rattle.wire.specs.declared.message.Message.the-variants.{Data}
+use Rattle.wire.specs.declared.message.Message.the-variants.{TmplData, Data}
+use Rattle.wire.specs.declared.message.Reading.the-variants as reading
 use Rattle.wire.specs.declared.message.Written.{Written}
 use Rattle.wire.specs.declared.message.Written.the-variants as written
 use Rattle.octets.proofs.Judging.{passed, judged-done, judged-first, judged-next}
-
--- ---- choices
-
--- one of two, then another: a chain of choices
-pub or-cond : (a b : Bool) → (a || b) ≡ cond a true b
-or-cond true b = refl
-or-cond false b = refl
-
-pub cond-cond : (a b c : Bool) → cond (cond a true b) true c ≡ cond a true (cond b true c)
-cond-cond true b c = refl
-cond-cond false b c = refl
-
-pub cond-true : (a : Bool) → cond a true false ≡ a
-cond-true true = refl
-cond-true false = refl
+use Rattle.wire.proofs.Each.{and-false}
 
 -- what is left behind the first n octets
 pub take-rest : (m : List ℕ) (n : ℕ) → take (length m - n) (drop n m) ≡ drop n m
@@ -54,9 +41,9 @@ no-row U f (r ∷ rows) n h =
     let p = no-row (U × (n ≡ r .number → ⊥)) f rows n h in
     (rw (ne-eqb n (r .number) (p .1 .1)) (p .0), p .1 .0)
 
-pub no-body-fits : (n body : ℕ) → Others (Unit {0}) forms n → bodyFits n body ≡ false
-unfolding bodyFits
-no-body-fits n body h = no-row (Unit {0}) (λ f. cond (f .more) (leb (f .body) body) (eqb body (f .body))) forms n h .0
+pub no-message : (n : ℕ) → Others (Unit {0}) forms n → isMessage n ≡ false
+unfolding isMessage
+no-message n h = no-row (Unit {0}) (λ f. true) forms n h .0
 
 -- ---- a message that can be read
 
@@ -83,6 +70,42 @@ header-passed m h = judged-next (headerChecks m) (bodyChecks m) tt h
 pub header-long : (m : List ℕ) → headerAnswer m ≡ done → 8 ≤ length m
 unfolding headerAnswer
 header-long m h = ltb-false (length m) 8 (passed (headerChecks m) tt h .0)
+
+-- ---- what is read behind a header that is not refused
+
+fits-judged : (fits : Bool) (x : Message)
+    → cond (eqb (cond (not fits) 8 0) 0) (reading.Message x) (reading.Refused (cond (not fits) 8 0)) ≡ readWhere fits x
+fits-judged true x = refl
+fits-judged false x = refl
+
+-- of a message other than TMPL DATA only the length of its body is left to judge
+pub read-fits : (m : List ℕ) (n : ℕ) (x : Message) → headerAnswer m ≡ done → messageNumber m ≡ n → meaningOf m ≡ x
+    → isMessage n ≡ true → eqb n tmplData ≡ false → readOf m ≡ readWhere (bodyFits n (length m - 8)) x
+unfolding readOf
+read-fits m n x h e s k t = rw (header-passed m h, e, s, k, t) (fits-judged (bodyFits n (length m - 8)) x)
+
+table-judged : (sound : Bool) (x : Message)
+    → cond (eqb (cond (not sound) 21 0) 0) (reading.Message x) (reading.Refused (cond (not sound) 21 0)) ≡ cond sound (reading.Message x) (reading.Refused 21)
+table-judged true x = refl
+table-judged false x = refl
+
+pub answer-table : (m : List ℕ) → headerAnswer m ≡ done → messageNumber m ≡ tmplData → readAnswer m ≡ cond (not (tableSound (drop 8 m))) 21 0
+unfolding isMessage bodyFits
+answer-table m h e = header-passed m h ∙ rw (e, le-leb 0 (length m - 8) (omega arith))
+
+-- of a TMPL DATA its table is
+pub read-table : (m : List ℕ) → headerAnswer m ≡ done → messageNumber m ≡ tmplData → readOf m ≡ readTable m
+unfolding readOf meaningOf
+read-table m h e = rw (answer-table m h e, e) (table-judged (tableSound (drop 8 m)) (TmplData (sessionOf m)))
+
+-- a number that is no message's is refused
+pub read-unknown : (m : List ℕ) → headerAnswer m ≡ done → isMessage (messageNumber m) ≡ false → readOf m ≡ reading.Refused 7
+unfolding readOf
+read-unknown m h k = rw (header-passed m h, k)
+
+pub answer-data : (m : List ℕ) → headerAnswer m ≡ done → messageNumber m ≡ dataNumber → readAnswer m ≡ cond (not (leb 8 (length m - 8))) 8 0
+unfolding isMessage bodyFits
+answer-data m h e = header-passed m h ∙ rw e
 
 table-sound : (a b : Bool) → (a && not b) ≡ false → a ≡ true → b ≡ true
 table-sound true b e h = not-false b e
@@ -125,13 +148,6 @@ reads m r =
       ),
     )
 
--- a DATA that can be read has 16 octets
-pub data-long : (m : List ℕ) → readAnswer m ≡ done → messageNumber m ≡ dataNumber → 16 ≤ length m
-unfolding bodyFits
-data-long m h e =
-    let f : bodyFits dataNumber (length m - 8) ≡ true = ap (λ (n : ℕ). bodyFits n (length m - 8)) (sym e) ∙ readable m h .fits in
-    omega (arith, leb-true 8 (length m - 8) f)
-
 -- ---- the part that a message carries
 
 pub part-of-data : (m : List ℕ) → readAnswer m ≡ done → messageNumber m ≡ dataNumber → (partAt m ≡ 16) × (partOf m ≡ drop 16 m)
@@ -146,13 +162,31 @@ pub part-of-refused : (m : List ℕ) → (readAnswer m ≡ done → ⊥) → (pa
 unfolding partAt partOf
 part-of-refused m h = (rw (ne-eqb (readAnswer m) done h), rw (ne-eqb (readAnswer m) done h))
 
-pub part-of-other : (m : List ℕ) → readAnswer m ≡ done → (messageNumber m ≡ dataNumber → ⊥) → (messageNumber m ≡ tmplData → ⊥)
+pub part-of-other : (m : List ℕ) → (messageNumber m ≡ dataNumber → ⊥) → (messageNumber m ≡ tmplData → ⊥)
     → (partAt m ≡ 0) × (partOf m ≡ [])
 unfolding partAt partOf
-part-of-other m h d t =
+part-of-other m d t =
     let a = ne-eqb (messageNumber m) dataNumber d in
     let b = ne-eqb (messageNumber m) tmplData t in
-    (rw (h, a, b), rw (h, a, b))
+    let n = and-false (eqb (readAnswer m) done) in
+    (rw (a, b, n), rw (a, b, n))
+
+-- a DATA whose body is too short and a TMPL DATA whose table is unsound are refused
+pub short-refused : (m : List ℕ) → headerAnswer m ≡ done → messageNumber m ≡ dataNumber → length m < 16 → readAnswer m ≡ done → ⊥
+short-refused m h e l z =
+    let short : readAnswer m ≡ 8 = answer-data m h e ∙ rw (lt-leb 8 (length m - 8) (omega arith)) in
+    omega arith
+
+pub long-read : (m : List ℕ) → headerAnswer m ≡ done → messageNumber m ≡ dataNumber → 16 ≤ length m → readAnswer m ≡ done
+long-read m h e l = answer-data m h e ∙ rw (le-leb 8 (length m - 8) (omega arith))
+
+pub unsound-refused : (m : List ℕ) → headerAnswer m ≡ done → messageNumber m ≡ tmplData → tableSound (drop 8 m) ≡ false → readAnswer m ≡ done → ⊥
+unsound-refused m h e t z =
+    let unsound : readAnswer m ≡ 21 = answer-table m h e ∙ rw t in
+    omega arith
+
+pub sound-read : (m : List ℕ) → headerAnswer m ≡ done → messageNumber m ≡ tmplData → tableSound (drop 8 m) ≡ true → readAnswer m ≡ done
+sound-read m h e t = answer-table m h e ∙ rw t
 
 -- ---- writing
 

@@ -82,7 +82,7 @@ bare-back : (n s : ℕ) (body : List ℕ) (v : Message) → 8 + length body < 2 
 bare-back n s body v small known fits d t e =
     let m = messageOf n s body in
     let h = answered n s body small known fits (λ q. absurd (eqb-false n tmplData t q)) in
-    let p = part-of-other m h (λ q. eqb-false n dataNumber d (sym (number-of n s body) ∙ q)) (λ q. eqb-false n tmplData t (sym (number-of n s body) ∙ q)) in
+    let p = part-of-other m (λ q. eqb-false n dataNumber d (sym (number-of n s body) ∙ q)) (λ q. eqb-false n tmplData t (sym (number-of n s body) ∙ q)) in
     (read-as m v h e, (p .1, p .0))
 
 empty-back : (n s : ℕ) (v : ℕ → Message) → isMessage n ≡ true → bodyFits n 0 ≡ true → eqb n dataNumber ≡ false → eqb n tmplData ≡ false

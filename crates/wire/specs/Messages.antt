@@ -209,6 +209,14 @@ meaningOf m =
 unfoldable pub readOf : List ℕ → Reading
 readOf m = cond (eqb (readAnswer m) done) (reading.Message (meaningOf m)) (reading.Refused (readAnswer m))
 
+-- What is read behind a header that is not refused: what the message says where its body's length fits, and of a TMPL DATA where its
+-- table is sound.
+abbrev pub readWhere : Bool → Message → Reading
+readWhere fits m = cond fits (reading.Message m) (reading.Refused bodyLengthWrong)
+
+abbrev pub readTable : List ℕ → Reading
+readTable m = cond (tableSound (drop headerOctets m)) (reading.Message (TmplData (sessionOf m))) (reading.Refused unsoundTable)
+
 -- The message is not refused, and is a DATA or a TMPL DATA: only then a part is handed back.
 abbrev pub hasPart : List ℕ → Bool
 hasPart m = eqb (readAnswer m) done && (eqb (messageNumber m) dataNumber || eqb (messageNumber m) tmplData)

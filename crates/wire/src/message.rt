@@ -1,14 +1,14 @@
 // CRANE's messages: reading and writing alone, each by the layout of its octets.
 ghost use mathlib.Core.Path.{_≡_};
 ghost use mathlib.Core.List.{[], _∷_, _++_};
-ghost use Prim.Native.Nat.{_+_, _≤_};
+ghost use Prim.Native.Nat.{_+_, _-_, _≤_};
+ghost use lib.Dec.{eqb, leb};
 ghost use lib.ListN.{length};
 ghost use lib.Seq.{sets};
-ghost use Rattle.octets.specs.Answers.{judge};
-ghost use Rattle.octets.specs.Numbers.{octetsOf};
-ghost use Rattle.wire.specs.Messages.{isMessage, bodyFits, headerAnswer, headerOf, bodyChecks, readAnswer, dataHeadOf, meaningOf, readOf, partAt, partOf};
+ghost use Rattle.octets.specs.Numbers.{uintAt, octetsOf};
+ghost use Rattle.wire.specs.Messages.{sessionOf, headerAnswer, headerOf, readWhere, readTable, dataHeadOf, readOf, partAt, partOf};
 ghost use Rattle.wire.specs.Messages.{headerOctetsOf, dataHeadOctets, messageOf, flagsOf, startAck, finalTmplDataAck, dataAck, Placed, headWriteOf, headWriteOut, writeOf, writeOut};
-ghost use Rattle.wire.specs.declared.message.Message.the-variants.{TmplData, Data};
+ghost use Rattle.wire.specs.declared.message.Message.the-variants.{StartAck, TmplData, FinalTmplDataAck, Data, DataAck};
 use octets::Answer;
 
 // The octets of a message's header.
@@ -100,41 +100,6 @@ pub enum Written {
     Refused(u8),
 }
 
-// Whether a message has this number.
-fn is_message(number: u8) -> bool
-    ensures { λ r. ⌜ r ≡ isMessage number ⌝ }
-{
-    (number == Message::START)
-        | (number == Message::START_ACK)
-        | (number == Message::STOP)
-        | (number == Message::STOP_ACK)
-        | (number == Message::TMPL_DATA)
-        | (number == Message::FINAL_TMPL_DATA_ACK)
-        | (number == Message::START_NEGOTIATE)
-        | (number == Message::START_NEGOTIATE_ACK)
-        | (number == Message::DATA)
-        | (number == Message::DATA_ACK)
-}
-
-// Whether a body of this length is right for the message with this number.
-fn body_fits(number: u8, body: usize) -> bool
-    ensures { λ r. ⌜ r ≡ bodyFits number body ⌝ }
-{
-    match number {
-        Message::START => body == 0,
-        Message::START_ACK => body == 4,
-        Message::STOP => body == 0,
-        Message::STOP_ACK => body == 0,
-        Message::TMPL_DATA => true,
-        Message::FINAL_TMPL_DATA_ACK => body == 4,
-        Message::START_NEGOTIATE => body == 0,
-        Message::START_NEGOTIATE_ACK => body == 0,
-        Message::DATA => 8 <= body,
-        Message::DATA_ACK => body == 8,
-        _ => false,
-    }
-}
-
 // 0 for a whole header whose length field is right, else 3, 4 or 5.
 fn header_answer(message: &[u8]) -> u8
     ensures { λ r. ⌜ r ≡ headerAnswer (now (message .entry)) ⌝ }
@@ -142,10 +107,11 @@ fn header_answer(message: &[u8]) -> u8
     if message.len() < HEADER_OCTETS {
         return Answer::SHORT_MESSAGE;
     }
-    if octets::get_u8(message, 0) != VERSION {
+    if message[0] != VERSION {
         return Answer::OTHER_VERSION;
     }
-    if octets::get_u32(message, 4) as usize != message.len() {
+    let len = octets::u32_of(message[4], message[5], message[6], message[7]);
+    if len as usize != message.len() {
         return Answer::LENGTH_DIFFERS;
     }
     Answer::DONE
@@ -158,103 +124,126 @@ pub fn read_header(message: &[u8]) -> HeaderReading
     let answer = header_answer(message);
     if answer == Answer::DONE {
         return HeaderReading::Header(Header {
-            session: octets::get_u8(message, 2),
-            number: octets::get_u8(message, 1),
+            session: message[2],
+            number: message[1],
         });
     }
     HeaderReading::Refused(answer)
 }
 
-// 0 for a message whose body is right for its number, else 7, 8 or 21; its header is not refused.
-fn body_answer(message: &[u8]) -> u8
-    requires { ⌜ 8 ≤ length (now message) ⌝ }
-    ensures { λ r. ⌜ r ≡ judge (bodyChecks (now (message .entry))) ⌝ }
+// Reads a message whose body has `body` octets, which says `meaning` where it has none.
+fn read_bare(body: usize, meaning: Message) -> Reading
+    ensures { λ r. ⌜ r ≡ readWhere (eqb body 0) meaning ⌝ }
 {
-    let number = octets::get_u8(message, 1);
-    if !is_message(number) {
-        return Answer::MESSAGE_NOT_ACCEPTED;
+    if body == 0 {
+        return Reading::Message(meaning);
     }
-    if !body_fits(number, message.len() - HEADER_OCTETS) {
-        return Answer::BODY_LENGTH_WRONG;
-    }
-    if number != Message::TMPL_DATA {
-        return Answer::DONE;
-    }
-    if crate::table::table_sound(&message[HEADER_OCTETS..]) {
-        return Answer::DONE;
-    }
-    Answer::UNSOUND_TABLE
+    Reading::Refused(Answer::BODY_LENGTH_WRONG)
 }
 
-// 0 for a message that can be read, else 3, 4, 5, 7, 8 or 21.
-fn read_answer(message: &[u8]) -> u8
-    ensures { λ r. ⌜ r ≡ readAnswer (now (message .entry)) ⌝ }
+// Reads a START ACK behind its header.
+fn read_start_ack(message: &[u8]) -> Reading
+    requires { ⌜ 8 ≤ length (now message) ⌝ }
+    ensures { λ r. ⌜ r ≡ readWhere (eqb (length (now (message .entry)) - 8) 4) (StartAck (sessionOf (now (message .entry))) (uintAt (now (message .entry)) 8 4)) ⌝ }
 {
-    let answer = header_answer(message);
-    if answer != Answer::DONE {
-        return answer;
+    if message.len() - HEADER_OCTETS != 4 {
+        return Reading::Refused(Answer::BODY_LENGTH_WRONG);
     }
-    body_answer(message)
+    Reading::Message(Message::StartAck {
+        session: message[2],
+        boot_time: octets::u32_of(message[8], message[9], message[10], message[11]),
+    })
+}
+
+// Reads a TMPL DATA behind its header.
+fn read_tmpl_data(message: &[u8]) -> Reading
+    requires { ⌜ 8 ≤ length (now message) ⌝ }
+    ensures { λ r. ⌜ r ≡ readTable (now (message .entry)) ⌝ }
+{
+    if crate::table::table_sound(&message[HEADER_OCTETS..]) {
+        return Reading::Message(Message::TmplData {
+            session: message[2],
+        });
+    }
+    Reading::Refused(Answer::UNSOUND_TABLE)
+}
+
+// Reads a FINAL TMPL DATA ACK behind its header.
+fn read_final_tmpl_data_ack(message: &[u8]) -> Reading
+    requires { ⌜ 8 ≤ length (now message) ⌝ }
+    ensures { λ r. ⌜ r ≡ readWhere (eqb (length (now (message .entry)) - 8) 4) (FinalTmplDataAck (sessionOf (now (message .entry))) (uintAt (now (message .entry)) 8 1)) ⌝ }
+{
+    if message.len() - HEADER_OCTETS != 4 {
+        return Reading::Refused(Answer::BODY_LENGTH_WRONG);
+    }
+    Reading::Message(Message::FinalTmplDataAck {
+        session: message[2],
+        config: message[8],
+    })
 }
 
 // What a DATA message says in front of its record.
 fn data_head(message: &[u8]) -> DataHead
+    requires { ⌜ 16 ≤ length (now message) ⌝ }
     ensures { λ r. ⌜ r ≡ dataHeadOf (now (message .entry)) ⌝ }
 {
-    let flags = octets::get_u8(message, 11);
+    let flags = message[11];
     DataHead {
-        session: octets::get_u8(message, 2),
-        template: octets::get_u16(message, 8),
-        config: octets::get_u8(message, 10),
+        session: message[2],
+        template: octets::u16_of(message[8], message[9]),
+        config: message[10],
         first: flags % 2 == 1,
         duplicate: flags / 2 % 2 == 1,
-        dsn: octets::get_u32(message, 12),
+        dsn: octets::u32_of(message[12], message[13], message[14], message[15]),
     }
 }
 
-// What a message that can be read says.
-fn meaning(message: &[u8]) -> Message
-    ensures { λ r. ⌜ r ≡ meaningOf (now (message .entry)) ⌝ }
+// Reads a DATA behind its header.
+fn read_data(message: &[u8]) -> Reading
+    requires { ⌜ 8 ≤ length (now message) ⌝ }
+    ensures { λ r. ⌜ r ≡ readWhere (leb 8 (length (now (message .entry)) - 8)) (Data (dataHeadOf (now (message .entry)))) ⌝ }
 {
-    let number = octets::get_u8(message, 1);
-    let session = octets::get_u8(message, 2);
-    if number == Message::START {
-        return Message::Start { session };
+    if message.len() - HEADER_OCTETS < 8 {
+        return Reading::Refused(Answer::BODY_LENGTH_WRONG);
     }
-    if number == Message::START_ACK {
-        return Message::StartAck {
-            session,
-            boot_time: octets::get_u32(message, 8),
-        };
+    Reading::Message(Message::Data(data_head(message)))
+}
+
+// Reads a DATA ACK behind its header.
+fn read_data_ack(message: &[u8]) -> Reading
+    requires { ⌜ 8 ≤ length (now message) ⌝ }
+    ensures { λ r. ⌜ r ≡ readWhere (eqb (length (now (message .entry)) - 8) 8) (DataAck (sessionOf (now (message .entry))) (uintAt (now (message .entry)) 8 4) (uintAt (now (message .entry)) 12 1)) ⌝ }
+{
+    if message.len() - HEADER_OCTETS != 8 {
+        return Reading::Refused(Answer::BODY_LENGTH_WRONG);
     }
-    if number == Message::STOP {
-        return Message::Stop { session };
-    }
-    if number == Message::STOP_ACK {
-        return Message::StopAck { session };
-    }
-    if number == Message::TMPL_DATA {
-        return Message::TmplData { session };
-    }
-    if number == Message::FINAL_TMPL_DATA_ACK {
-        return Message::FinalTmplDataAck {
-            session,
-            config: octets::get_u8(message, 8),
-        };
-    }
-    if number == Message::START_NEGOTIATE {
-        return Message::StartNegotiate { session };
-    }
-    if number == Message::START_NEGOTIATE_ACK {
-        return Message::StartNegotiateAck { session };
-    }
-    if number == Message::DATA {
-        return Message::Data(data_head(message));
-    }
-    Message::DataAck {
-        session,
-        dsn: octets::get_u32(message, 8),
-        config: octets::get_u8(message, 12),
+    Reading::Message(Message::DataAck {
+        session: message[2],
+        dsn: octets::u32_of(message[8], message[9], message[10], message[11]),
+        config: message[12],
+    })
+}
+
+// Reads a message whose header is not refused.
+fn read_body(message: &[u8]) -> Reading
+    requires { ⌜ headerAnswer (now message) ≡ 0 ⌝ }
+    ensures { λ r. ⌜ r ≡ readOf (now (message .entry)) ⌝ }
+{
+    let number = message[1];
+    let session = message[2];
+    let body = message.len() - HEADER_OCTETS;
+    match number {
+        Message::START => read_bare(body, Message::Start { session }),
+        Message::START_ACK => read_start_ack(message),
+        Message::STOP => read_bare(body, Message::Stop { session }),
+        Message::STOP_ACK => read_bare(body, Message::StopAck { session }),
+        Message::TMPL_DATA => read_tmpl_data(message),
+        Message::FINAL_TMPL_DATA_ACK => read_final_tmpl_data_ack(message),
+        Message::START_NEGOTIATE => read_bare(body, Message::StartNegotiate { session }),
+        Message::START_NEGOTIATE_ACK => read_bare(body, Message::StartNegotiateAck { session }),
+        Message::DATA => read_data(message),
+        Message::DATA_ACK => read_data_ack(message),
+        _ => Reading::Refused(Answer::MESSAGE_NOT_ACCEPTED),
     }
 }
 
@@ -262,11 +251,11 @@ fn meaning(message: &[u8]) -> Message
 pub fn read_message(message: &[u8]) -> Reading
     ensures { λ r. ⌜ r ≡ readOf (now (message .entry)) ⌝ }
 {
-    let answer = read_answer(message);
-    if answer == Answer::DONE {
-        return Reading::Message(meaning(message));
+    let answer = header_answer(message);
+    if answer != Answer::DONE {
+        return Reading::Refused(answer);
     }
-    Reading::Refused(answer)
+    read_body(message)
 }
 
 // The part that a message carries, as a part of the caller's octets: a DATA's record or a TMPL DATA's table. Of any other
@@ -275,14 +264,20 @@ pub fn message_part(message: &[u8]) -> &[u8]
     ensures { λ r. ⌜ (now r ≡ partOf (now (message .entry)))
         × ((r .ptr .0 ≡ message .entry .ptr .0) × (r .ptr .1 ≡ partAt (now (message .entry)) + message .entry .ptr .1)) ⌝ }
 {
-    if read_answer(message) != Answer::DONE {
+    if header_answer(message) != Answer::DONE {
         return &message[..0];
     }
-    let number = octets::get_u8(message, 1);
+    let number = message[1];
     if number == Message::DATA {
+        if message.len() < DATA_HEAD_OCTETS {
+            return &message[..0];
+        }
         return &message[DATA_HEAD_OCTETS..];
     }
-    if number == Message::TMPL_DATA {
+    if number != Message::TMPL_DATA {
+        return &message[..0];
+    }
+    if crate::table::table_sound(&message[HEADER_OCTETS..]) {
         return &message[HEADER_OCTETS..];
     }
     &message[..0]

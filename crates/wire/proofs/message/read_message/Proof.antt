@@ -1,24 +1,28 @@
--- `read_message` meets its contract: it answers what the message says where it is not refused, and the refusal otherwise.
+-- `read_message` meets its contract: the header's refusal is the message's, and where there is none its body is read.
 -- Assumes nothing.
-use borrow.Author.Needs.{needs}
+use mathlib.Core.Path.{sym, _∙_}
+use borrow.Author.Tests.{ne-eqb}
 use Rattle.wire.specs.Messages.{readOf}
-use Rattle.octets.proofs.Judging.{tests}
+use Rattle.wire.proofs.Messages.{header-refused}
+use borrow.Author.Needs.{needs}
 use Rattle.wire.proofs.message.read_message.Statement.{statement}
 use Rattle.wire.proofs.message.read_message.Tie as tie
 
-read-answer-requires : tie.Need-read-answer-requires
-read-answer-requires c κs = search needs
-
-meaning-requires : tie.Need-meaning-requires
-meaning-requires c κs = search needs
+header-answer-requires : tie.Need-header-answer-requires
+header-answer-requires c κs = search needs
 
 returns : tie.Need-returns
 unfolding readOf
-returns c = rw (← c .before .before .read-answer .ensures, ← c .meaning .ensures) (search tests)
+returns c =
+    let a = c .before .header-answer .ensures in
+    rw (header-refused _ (λ e. c .if1 .taken (a ∙ e)), ← a, ne-eqb _ _ (c .if1 .taken))
+
+read-body-requires : tie.Need-read-body-requires
+read-body-requires c κs = search needs
 
 returns-2 : tie.Need-returns-2
-unfolding readOf
-returns-2 c = rw (← c .before .read-answer .ensures) (search tests)
+returns-2 c = search needs
 
 pub read-message-spec : {M : Type 1} → statement M
-read-message-spec = tie.close (tie.spec read-answer-requires meaning-requires returns returns-2)
+read-message-spec =
+    tie.close (tie.spec header-answer-requires returns read-body-requires returns-2)
