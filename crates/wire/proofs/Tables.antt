@@ -68,6 +68,11 @@ pub block-head : (t : List ℕ) (at : ℕ) → blockSound t at ≡ true → head
 unfolding blockSound
 block-head t at e = clause-first (headSound t at) _ e
 
+-- and its head lies within the table
+pub block-inside : (t : List ℕ) (at : ℕ) → blockSound t at ≡ true → at + 12 ≤ length t
+unfolding blockEnd
+block-inside t at e = omega (arith, head-facts t at (block-head t at e) .within)
+
 -- ---- where blocks lie
 
 pub block-at-more : (t : List ℕ) (i : ℕ) → blockAt t (i + 1) ≡ blockEnd t (blockAt t i)
@@ -80,6 +85,10 @@ unfolding blockAt
 block-near t n h e zero l = lit≤ tt
 block-near t n h e (suc j) l =
     omega (arith, head-facts t (blockAt t j) (block-head t (blockAt t j) (every-at n (λ i. blockSound t (blockAt t i)) e j l)) .within)
+
+-- each sound block begins within the table
+pub block-in : (t : List ℕ) (n : ℕ) → blocksSound t n ≡ true → (j : ℕ) → j < n → blockAt t j + 12 ≤ length t
+block-in t n e j l = block-inside t (blockAt t j) (every-at n (λ i. blockSound t (blockAt t i)) e j l)
 
 -- ---- what a sound table says
 
@@ -119,14 +128,6 @@ template-within t id e m =
     let b = every-at (templateCount t) (λ i. blockSound t (blockAt t i)) (f .blocks) i (leb-false (templateCount t) i m) in
     omega (arith, head-facts t (blockAt t i) (block-head t (blockAt t i) b) .within)
 
-pub template-few : (t : List ℕ) (id : ℕ) → tableSound t ≡ true → isMissing t id ≡ false → templateOf t id .count ≤ 32
-unfolding templateAt
-template-few t id e m =
-    let f = table-facts t e in
-    let i = templateIndex t id in
-    let b = every-at (templateCount t) (λ i. blockSound t (blockAt t i)) (f .blocks) i (leb-false (templateCount t) i m) in
-    head-facts t (blockAt t i) (block-head t (blockAt t i) b) .few
-
 -- ---- what locating a template says
 
 pub located : (t : List ℕ) (id : ℕ) (m : Template) → locateOf t id ≡ At m → (isMissing t id ≡ false) × (templateOf t id ≡ m)
@@ -145,10 +146,7 @@ not-located t id a = go (isMissing t id)
     go true e = (refl, cc)
     go false e = let z : _≡_ {A = ℕ} 0 1 = cc in absurd (omega arith)
 
-pub located-near : (t : List ℕ) (id : ℕ) (m : Template) → tableSound t ≡ true → locateOf t id ≡ At m → (m .keys ≤ 16384) × (m .count ≤ 65535)
-located-near t id m s e =
+pub located-within : (t : List ℕ) (id : ℕ) (m : Template) → tableSound t ≡ true → locateOf t id ≡ At m → m .keys + 12 * m .count ≤ length t
+located-within t id m s e =
     let l = located t id m e in
-    let f = table-facts t s in
-    let w : m .keys + 12 * m .count ≤ length t = rw (l .1) at (template-within t id s (l .0)) in
-    let n : m .count ≤ 32 = rw (l .1) at (template-few t id s (l .0)) in
-    (omega (arith, f .short), omega arith)
+    rw (l .1) at (template-within t id s (l .0))

@@ -8,3 +8,4 @@ pub mod message;
 pub mod record;
 pub mod table;
 pub mod walk;
+mod within;

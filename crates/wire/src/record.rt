@@ -1,26 +1,30 @@
 // Records: the length of a field, and whether octets are a valid record under a template.
 ghost use mathlib.Core.Path.{_≡_};
 ghost use mathlib.Core.Bool.{true};
-ghost use Prim.Native.Nat.{_+_, _*_, _≤_};
+ghost use Prim.Native.Nat.{_+_, _*_, _≤_, _<_};
 ghost use lib.Dec.{ltb};
 ghost use lib.ListN.{length, getD};
 ghost use Rattle.wire.specs.Each.{every};
 ghost use Rattle.wire.specs.Table.{keyAt, isEnabled};
-ghost use Rattle.wire.specs.Record.{fixedLength, blobLength, stringLength, terminatedLength, fieldLength, lengthUnder, recordValid, recordAnswer};
+ghost use Rattle.wire.specs.FieldTypes.{widthOf};
+ghost use Rattle.wire.specs.Record.{blobLength, stringLength, terminatedLength, fieldLength, lengthUnder, recordValid, recordAnswer};
 use crate::field_type::FieldType;
 use crate::table::Found;
 use crate::table::Template;
 use octets::Answer;
 
-// The length of the field of a fixed width at a place, 0 where none is valid there.
-fn fixed_length(kind: u16, r: &[u8], at: usize) -> usize
-    ensures { λ n. ⌜ n ≡ fixedLength kind (now (r .entry)) at ⌝ }
+// The length of the field of a type of a fixed width at a place, 0 where none is valid there.
+fn fixed_length(kind: u16, width: usize, r: &[u8], at: usize) -> usize
+    requires { ⌜ (width ≡ widthOf kind) × (0 < width) ⌝ }
+    ensures { λ n. ⌜ n ≡ fieldLength kind (now (r .entry)) at ⌝ }
 {
-    let width = FieldType { number: kind }.width() as usize;
     if octets::room(r.len(), at) < width {
         return 0;
     }
-    if (kind == FieldType::BOOLEAN) & (1 < octets::get_u8(r, at)) {
+    if kind != FieldType::BOOLEAN {
+        return width;
+    }
+    if 1 < r[at] {
         return 0;
     }
     width
@@ -33,7 +37,7 @@ fn blob_length(r: &[u8], at: usize) -> usize
     if octets::room(r.len(), at) < 4 {
         return 0;
     }
-    let n = octets::get_u32(r, at) as usize;
+    let n = crate::within::u32_at(r, at) as usize;
     if octets::room(r.len(), at + 4) < n {
         return 0;
     }
@@ -82,14 +86,11 @@ fn terminated_length(r: &[u8], at: usize) -> usize
     0
 }
 
-// The length of the field of a type at a place of a record, 0 where none is valid there.
-pub(crate) fn field_length(kind: u16, r: &[u8], at: usize) -> usize
+// The length of the field of a type whose width varies at a place of a record, 0 where none is valid there.
+fn varying_length(kind: u16, r: &[u8], at: usize) -> usize
+    requires { ⌜ widthOf kind ≡ 0 ⌝ }
     ensures { λ n. ⌜ n ≡ fieldLength kind (now (r .entry)) at ⌝ }
 {
-    let width = FieldType { number: kind }.width();
-    if 0 < width {
-        return fixed_length(kind, r, at);
-    }
     if kind == FieldType::STRING {
         return string_length(r, at);
     }
@@ -102,28 +103,44 @@ pub(crate) fn field_length(kind: u16, r: &[u8], at: usize) -> usize
     0
 }
 
+// The length of the field of a type at a place of a record, 0 where none is valid there.
+pub(crate) fn field_length(kind: u16, r: &[u8], at: usize) -> usize
+    ensures { λ n. ⌜ n ≡ fieldLength kind (now (r .entry)) at ⌝ }
+{
+    let width = FieldType { number: kind }.width() as usize;
+    if 0 < width {
+        return fixed_length(kind, width, r, at);
+    }
+    varying_length(kind, r, at)
+}
+
 // Whether key k of a template is enabled.
 pub(crate) fn is_enabled(t: &[u8], m: Template, k: usize) -> bool
-    requires { ⌜ (m .keys ≤ 16384) × (k ≤ 65535) ⌝ }
+    requires { ⌜ m .keys + 12 * k + 12 ≤ length (now t) ⌝ }
     ensures { λ b. ⌜ b ≡ isEnabled (now (t .entry)) (keyAt (m .keys) k) ⌝ }
 {
-    octets::get_u32(t, m.keys + 12 * k + 8) == 0
+    crate::within::u32_at(t, m.keys + 12 * k + 8) == 0
 }
 
 // The length of key k's field at a place of a record; 0 for a disabled key, and where none is valid there.
 fn length_under(t: &[u8], m: Template, r: &[u8], k: usize, at: usize) -> usize
-    requires { ⌜ (m .keys ≤ 16384) × (k ≤ 65535) ⌝ }
+    requires { ⌜ m .keys + 12 * k + 12 ≤ length (now t) ⌝ }
     ensures { λ n. ⌜ n ≡ lengthUnder (now (t .entry)) m (now (r .entry)) k at ⌝ }
 {
     if is_enabled(t, m, k) {
-        return field_length(octets::get_u16(t, m.keys + 12 * k + 4), r, at);
+        let kind = crate::within::u16_at(t, m.keys + 12 * k + 4);
+        let width = FieldType { number: kind }.width() as usize;
+        if 0 < width {
+            return fixed_length(kind, width, r, at);
+        }
+        return varying_length(kind, r, at);
     }
     0
 }
 
 // Whether the fields of a template's enabled keys use up exactly a record's octets.
 fn fields_valid(t: &[u8], m: Template, r: &[u8]) -> bool
-    requires { ⌜ (m .keys ≤ 16384) × (m .count ≤ 65535) ⌝ }
+    requires { ⌜ m .keys + 12 * m .count ≤ length (now t) ⌝ }
     ensures { λ b. ⌜ b ≡ recordValid (now (t .entry)) m (now (r .entry)) ⌝ }
 {
     let count = m.count;
@@ -144,7 +161,8 @@ fn fields_valid(t: &[u8], m: Template, r: &[u8]) -> bool
 pub fn record_valid(t: &[u8], id: u16, r: &[u8]) -> u8
     ensures { λ n. ⌜ n ≡ recordAnswer (now (t .entry)) id (now (r .entry)) ⌝ }
 {
-    if !crate::table::table_sound(t) {
+    // `&t[..]` lends the table anew: to pass the parameter on would copy it first.
+    if !crate::table::table_sound(&t[..]) {
         return Answer::UNSOUND_TABLE;
     }
     match crate::table::locate(t, id) {

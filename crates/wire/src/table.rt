@@ -50,13 +50,14 @@ fn keys_sound(t: &[u8], keys: usize, n: usize) -> bool
     requires { ⌜ (keys + 12 * n ≤ length (now t)) × (n ≤ 32) ⌝ }
     ensures { λ r. ⌜ r ≡ keysSound (now (t .entry)) keys n ⌝ }
 {
-    let mut ok = true;
     let mut k: usize = 0;
     while k < n {
-        ok = ok & key_sound(t, keys + 12 * k);
+        if !key_sound(t, keys + 12 * k) {
+            return false;
+        }
         k += 1;
     }
-    ok
+    true
 }
 
 // The ID in the key block at a place.
@@ -64,7 +65,7 @@ fn key_id(t: &[u8], at: usize) -> u32
     requires { ⌜ at + 12 ≤ length (now t) ⌝ }
     ensures { λ r. ⌜ r ≡ keyId (now (t .entry)) at ⌝ }
 {
-    octets::u32_of(t[at], t[at + 1], t[at + 2], t[at + 3])
+    crate::within::u32_at(t, at)
 }
 
 // Whether the IDs of n key blocks rise, so that no two are equal.
@@ -121,34 +122,35 @@ fn all_zero(t: &[u8], at: usize, n: usize) -> bool
     requires { ⌜ at + n ≤ length (now t) ⌝ }
     ensures { λ r. ⌜ r ≡ every n (λ i. eqb (getD (now (t .entry)) (at + i) 0) 0) ⌝ }
 {
-    let mut ok = true;
     let mut i: usize = 0;
     while i < n {
-        ok = ok & (t[at + i] == 0);
+        if t[at + i] != 0 {
+            return false;
+        }
         i += 1;
     }
-    ok
+    true
 }
 
 // The key blocks of the template block at a place.
 fn template_at(t: &[u8], at: usize) -> Template
-    requires { ⌜ at ≤ 16384 ⌝ }
+    requires { ⌜ (at ≤ 16384) × (at + 12 ≤ length (now t)) ⌝ }
     ensures { λ r. ⌜ r ≡ templateAt (now (t .entry)) at ⌝ }
 {
-    let description = octets::get_u16(t, at + 6) as usize;
+    let description = crate::within::u16_at(t, at + 6) as usize;
     Template {
         keys: at + 12 + (description + 3) / 4 * 4,
-        count: octets::get_u16(t, at + 2) as usize,
+        count: crate::within::u16_at(t, at + 2) as usize,
     }
 }
 
 // Where the template block at a place ends, by its key count and description length.
 fn block_end(t: &[u8], at: usize) -> usize
-    requires { ⌜ at ≤ 16384 ⌝ }
+    requires { ⌜ (at ≤ 16384) × (at + 12 ≤ length (now t)) ⌝ }
     ensures { λ r. ⌜ r ≡ blockEnd (now (t .entry)) at ⌝ }
 {
-    let description = octets::get_u16(t, at + 6) as usize;
-    let count = octets::get_u16(t, at + 2) as usize;
+    let description = crate::within::u16_at(t, at + 6) as usize;
+    let count = crate::within::u16_at(t, at + 2) as usize;
     at + 12 + (description + 3) / 4 * 4 + 12 * count
 }
 
@@ -157,13 +159,16 @@ fn head_sound(t: &[u8], at: usize) -> bool
     requires { ⌜ at ≤ 16384 ⌝ }
     ensures { λ r. ⌜ r ≡ headSound (now (t .entry)) at ⌝ }
 {
+    if t.len() < at + 12 {
+        return false;
+    }
     let end = block_end(t, at);
-    let count = octets::get_u16(t, at + 2);
+    let count = crate::within::u16_at(t, at + 2);
     (end <= t.len())
         & (1 <= count)
         & (count <= 32)
-        & (octets::get_u16(t, at + 4) == 0)
-        & (octets::get_u32(t, at + 8) as usize == end - at)
+        & (crate::within::u16_at(t, at + 4) == 0)
+        & (crate::within::u32_at(t, at + 8) as usize == end - at)
 }
 
 // Whether the octets that pad the description of the template block at a place are 0.
@@ -171,7 +176,7 @@ fn padding_sound(t: &[u8], at: usize) -> bool
     requires { ⌜ (at ≤ 16384) × (keysAt (now t) at ≤ length (now t)) ⌝ }
     ensures { λ r. ⌜ r ≡ paddingSound (now (t .entry)) at ⌝ }
 {
-    let description = octets::get_u16(t, at + 6) as usize;
+    let description = crate::within::u16_at(t, at + 6) as usize;
     let padded = (description + 3) / 4 * 4;
     all_zero(t, at + 12 + description, padded - description)
 }
@@ -202,7 +207,7 @@ fn id_is_new(t: &[u8], n: usize, id: u16) -> bool
     let mut at: usize = 4;
     let mut i: usize = 0;
     while i < n {
-        if octets::get_u16(t, at) == id {
+        if crate::within::u16_at(t, at) == id {
             return false;
         }
         at = block_end(t, at);
@@ -222,7 +227,7 @@ fn blocks_sound(t: &[u8], n: usize) -> bool
         if !block_sound(t, at) {
             return false;
         }
-        if !id_is_new(t, i, octets::get_u16(t, at)) {
+        if !id_is_new(t, i, crate::within::u16_at(t, at)) {
             return false;
         }
         at = block_end(t, at);
@@ -260,7 +265,7 @@ pub(crate) fn locate(t: &[u8], id: u16) -> Found
     let mut at: usize = 4;
     let mut i: usize = 0;
     while i < count {
-        if octets::get_u16(t, at) == id {
+        if crate::within::u16_at(t, at) == id {
             return Found::At(template_at(t, at));
         }
         at = block_end(t, at);
@@ -273,7 +278,8 @@ pub(crate) fn locate(t: &[u8], id: u16) -> Found
 pub fn find_template(t: &[u8], id: u16) -> Found
     ensures { λ r. ⌜ r ≡ findOf (now (t .entry)) id ⌝ }
 {
-    if table_sound(t) {
+    // `&t[..]` lends the table anew: to pass the parameter on would copy it first.
+    if table_sound(&t[..]) {
         return locate(t, id);
     }
     Found::Refused(Answer::UNSOUND_TABLE)

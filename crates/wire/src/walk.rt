@@ -1,6 +1,7 @@
 // The field walk: the fields of a borrowed record, one by one, by a cursor that is passed by value.
 ghost use mathlib.Core.Path.{_≡_};
-ghost use Prim.Native.Nat.{_-_, _^_, _≤_};
+ghost use Prim.Native.Nat.{_+_, _-_, _*_, _^_, _≤_};
+ghost use lib.ListN.{length};
 ghost use Rattle.wire.specs.Walk.{signedAt, valueAt, nextKey, stepUnder, stepOf, openOf};
 use crate::field_type::FieldType;
 use crate::table::Found;
@@ -92,7 +93,7 @@ fn value_at(kind: u16, r: &[u8], at: usize) -> Value
 
 // The first enabled key of a template from a key on; its count or more where there is none.
 fn next_key(t: &[u8], m: Template, index: usize) -> usize
-    requires { ⌜ (m .keys ≤ 16384) × (m .count ≤ 65535) ⌝ }
+    requires { ⌜ m .keys + 12 * m .count ≤ length (now t) ⌝ }
     ensures { λ k. ⌜ k ≡ nextKey (now (t .entry)) m index ⌝ }
 {
     let count = m.count;
@@ -108,7 +109,7 @@ fn next_key(t: &[u8], m: Template, index: usize) -> usize
 
 // A step under a template.
 fn step_under(t: &[u8], m: Template, r: &[u8], c: Cursor) -> Step
-    requires { ⌜ (m .keys ≤ 16384) × (m .count ≤ 65535) ⌝ }
+    requires { ⌜ m .keys + 12 * m .count ≤ length (now t) ⌝ }
     ensures { λ s. ⌜ s ≡ stepUnder (now (t .entry)) m (now (r .entry)) c ⌝ }
 {
     let at = c.at;
@@ -116,7 +117,7 @@ fn step_under(t: &[u8], m: Template, r: &[u8], c: Cursor) -> Step
     if m.count <= k {
         return Step::End;
     }
-    let kind = octets::get_u16(t, m.keys + 12 * k + 4);
+    let kind = crate::within::u16_at(t, m.keys + 12 * k + 4);
     let len = crate::record::field_length(kind, r, at);
     if len == 0 {
         return Step::Refused(Answer::RECORD_INVALID);
@@ -151,7 +152,8 @@ pub fn open_walk(t: &[u8], id: u16, r: &[u8]) -> Opened
 pub fn step_walk(t: &[u8], id: u16, r: &[u8], c: Cursor) -> Step
     ensures { λ s. ⌜ s ≡ stepOf (now (t .entry)) id (now (r .entry)) c ⌝ }
 {
-    if !crate::table::table_sound(t) {
+    // `&t[..]` lends the table anew: to pass the parameter on would copy it first.
+    if !crate::table::table_sound(&t[..]) {
         return Step::Refused(Answer::UNSOUND_TABLE);
     }
     match crate::table::locate(t, id) {

@@ -13,8 +13,8 @@ returns : tie.Need-returns
 unfolding blobLength
 returns c = rw (← c .before .room .ensures, lt-ltb _ _ (c .if1 .taken))
 
-get-u32-requires : tie.Need-get-u32-requires
-get-u32-requires c κs = search needs
+u32-at-requires : tie.Need-u32-at-requires
+u32-at-requires c κs = search needs
 
 cast-n : tie.Need-cast-n
 cast-n c = search needs
@@ -29,7 +29,7 @@ returns-2 : tie.Need-returns-2
 unfolding blobLength
 returns-2 c =
     let d = c .before .before .before in
-    rw (← d .before .room .ensures, le-ltb _ _ (d .if1 .left), ← c .before .room2 .ensures, ← c .before .before .get-u32 .ensures, lt-ltb _ _ (c .if2 .taken))
+    rw (← d .before .room .ensures, le-ltb _ _ (d .if1 .left), ← c .before .room2 .ensures, ← c .before .before .u32-at .ensures, lt-ltb _ _ (c .if2 .taken))
 
 add-result : tie.Need-add-result
 add-result c = search needs
@@ -38,7 +38,7 @@ returns-3 : tie.Need-returns-3
 unfolding blobLength
 returns-3 c =
     let d = c .before .before .before in
-    rw (← d .before .room .ensures, le-ltb _ _ (d .if1 .left), ← c .before .room2 .ensures, ← c .before .before .get-u32 .ensures, le-ltb _ _ (c .if2 .left))
+    rw (← d .before .room .ensures, le-ltb _ _ (d .if1 .left), ← c .before .room2 .ensures, ← c .before .before .u32-at .ensures, le-ltb _ _ (c .if2 .left))
 
 pub blob-length-spec : {M : Type 1} → statement M
 blob-length-spec =
@@ -46,7 +46,7 @@ blob-length-spec =
     (tie.spec
     room-requires
     returns
-    get-u32-requires
+    u32-at-requires
     cast-n
     add-room
     room-requires-2

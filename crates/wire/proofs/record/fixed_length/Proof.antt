@@ -1,40 +1,41 @@
--- `fixed_length` meets its contract: each return follows from the tests on the way to it. Assumes nothing.
-use Prim.Native.Nat.{_-_}
-use borrow.Author.Tests.{le-ltb, lt-ltb}
-use Rattle.wire.specs.Record.{fixedLength}
+-- `fixed_length` meets its contract: each return follows from the tests on the way to it, and a Boolean has one octet. Assumes nothing.
+use borrow.Author.Tests.{eq-eqb, ne-eqb, le-ltb, lt-ltb}
+use Rattle.octets.proofs.Numbers.{uint-one}
+use Rattle.wire.specs.Record.{fixedLength, fieldLength}
 use borrow.Author.Needs.{needs}
 use Rattle.wire.proofs.record.fixed_length.Statement.{statement}
 use Rattle.wire.proofs.record.fixed_length.Tie as tie
-
-width-requires : tie.Need-width-requires
-width-requires c κs = search needs
-
-cast-width : tie.Need-cast-width
-cast-width c = search needs
 
 room-requires : tie.Need-room-requires
 room-requires c κs = search needs
 
 returns : tie.Need-returns
-unfolding fixedLength
-returns c = rw (← c .before .before .width .ensures, ← c .before .room .ensures, lt-ltb _ _ (c .if1 .taken))
-
-get-u8-requires : tie.Need-get-u8-requires
-get-u8-requires c κs = search needs
+unfolding fixedLength fieldLength
+returns c =
+    let s = c .before .before .before in
+    rw (← s .pre .0, lt-ltb _ _ (s .pre .1), ← c .before .room .ensures, lt-ltb _ _ (c .if1 .taken))
 
 returns-2 : tie.Need-returns-2
-unfolding fixedLength
+unfolding fixedLength fieldLength
 returns-2 c =
-    let d = c .before .before in
-    rw (← d .before .before .width .ensures, ← d .before .room .ensures, le-ltb _ _ (d .if1 .left), ← c .before .get-u8 .ensures, c .if2 .taken)
+    let s = c .before .before .before .before in
+    rw (← s .pre .0, lt-ltb _ _ (s .pre .1), ← c .before .before .room .ensures, le-ltb _ _ (c .before .if1 .left), ne-eqb _ _ (c .if2 .taken))
+
+shared-slice-read-if3 : tie.Need-shared-slice-read-if3
+shared-slice-read-if3 c = search needs
 
 returns-3 : tie.Need-returns-3
-unfolding fixedLength
+unfolding fixedLength fieldLength
 returns-3 c =
-    let d = c .before .before in
-    rw (← d .before .before .width .ensures, ← d .before .room .ensures, le-ltb _ _ (d .if1 .left), ← c .before .get-u8 .ensures, c .if2 .left)
+    let s = c .before .before .before .before .before .before in
+    rw (← s .pre .0, lt-ltb _ _ (s .pre .1), ← c .before .before .before .before .room .ensures, le-ltb _ _ (c .before .before .before .if1 .left), eq-eqb _ _ (c .before .before .if2 .left), uint-one (s .args .r .now) (s .args .at), lt-ltb _ _ (c .if3 .taken))
+
+returns-4 : tie.Need-returns-4
+unfolding fixedLength fieldLength
+returns-4 c =
+    let s = c .before .before .before .before .before .before in
+    rw (← s .pre .0, lt-ltb _ _ (s .pre .1), ← c .before .before .before .before .room .ensures, le-ltb _ _ (c .before .before .before .if1 .left), eq-eqb _ _ (c .before .before .if2 .left), uint-one (s .args .r .now) (s .args .at), le-ltb _ _ (c .if3 .left))
 
 pub fixed-length-spec : {M : Type 1} → statement M
 fixed-length-spec =
-    tie.close
-    (tie.spec width-requires cast-width room-requires returns get-u8-requires returns-2 returns-3)
+    tie.close (tie.spec room-requires returns returns-2 shared-slice-read-if3 returns-3 returns-4)

@@ -3,21 +3,21 @@ use borrow.Author.Needs.{needs}
 use Rattle.wire.proofs.record.is_enabled.Statement.{statement}
 use Rattle.wire.proofs.record.is_enabled.Tie as tie
 
-mul-get-u32 : tie.Need-mul-get-u32
-mul-get-u32 c = search needs
+mul-u32-at : tie.Need-mul-u32-at
+mul-u32-at c = search needs
 
-add-get-u32 : tie.Need-add-get-u32
-add-get-u32 c = search needs
+add-u32-at : tie.Need-add-u32-at
+add-u32-at c = search needs
 
-add-get-u32-2 : tie.Need-add-get-u32-2
-add-get-u32-2 c = search needs
+add-u32-at-2 : tie.Need-add-u32-at-2
+add-u32-at-2 c = search needs
 
-get-u32-requires : tie.Need-get-u32-requires
-get-u32-requires c κs = search needs
+u32-at-requires : tie.Need-u32-at-requires
+u32-at-requires c κs = search needs
 
 returns : tie.Need-returns
-returns c = rw (c .get-u32 .ensures)
+returns c = rw (c .u32-at .ensures)
 
 pub is-enabled-spec : {M : Type 1} → statement M
 is-enabled-spec =
-    tie.close (tie.spec mul-get-u32 add-get-u32 add-get-u32-2 get-u32-requires returns)
+    tie.close (tie.spec mul-u32-at add-u32-at add-u32-at-2 u32-at-requires returns)

@@ -2,7 +2,7 @@
 use mathlib.Core.Path.{sym, _∙_}
 use borrow.Author.Tests.{not-true, not-false}
 use Rattle.wire.specs.Record.{recordAnswer}
-use Rattle.wire.proofs.Tables.{located, not-located, located-near}
+use Rattle.wire.proofs.Tables.{located, not-located, located-within}
 use borrow.Author.Needs.{needs}
 use Rattle.wire.proofs.record.record_valid.Statement.{statement}
 use Rattle.wire.proofs.record.record_valid.Tie as tie
@@ -24,7 +24,7 @@ fields-valid-requires : tie.Need-fields-valid-requires
 fields-valid-requires c κs =
     let d = c .before .before .before .before in
     let a = d .before .before .before .before .args in
-    located-near (a .t .now) (a .id) _ (sym (d .before .table-sound .ensures) ∙ not-false _ (d .if1 .left)) (sym (c .before .before .before .locate .ensures) ∙ c .before .m .given .1)
+    located-within (a .t .now) (a .id) _ (sym (d .before .table-sound .ensures) ∙ not-false _ (d .if1 .left)) (sym (c .before .before .before .locate .ensures) ∙ c .before .m .given .1)
 
 returns-2 : tie.Need-returns-2
 unfolding recordAnswer

@@ -1,30 +1,35 @@
--- `all_zero` meets its contract. The loop's invariant: ok says whether the octets passed are 0. Assumes nothing.
-use mathlib.Core.Path.{_≡_, refl}
+-- `all_zero` meets its contract. The loop's invariant: the octets passed are 0. Assumes nothing.
+use mathlib.Core.Path.{_≡_, refl, sym}
+use mathlib.Core.Bool.{true}
 use native.Mathlib.Omega.{arith}
 use Prim.Native.Nat.{_+_, _-_, _≤_}
 use lib.Dec.{eqb}
 use lib.ListN.{getD}
-use Rattle.wire.specs.Each.{every}
-use Rattle.wire.proofs.Each.{every-more}
+use borrow.Author.Tests.{eq-eqb, ne-eqb}
 use borrow.Author.Needs.{needs}
+use Rattle.wire.specs.Each.{every}
+use Rattle.wire.proofs.Each.{every-false, every-step}
 use Rattle.wire.proofs.table.all_zero.Statement.{statement}
 use Rattle.wire.proofs.table.all_zero.Tie as tie
 
 abbrev Inv-loop : tie.InvT-loop
-Inv-loop t at n ok₀ i₀ ok i = (i ≤ n) × (ok ≡ every i (λ j. eqb (getD t (at + j) 0) 0))
+Inv-loop t at n i₀ i = (i ≤ n) × (every i (λ j. eqb (getD t (at + j) 0) 0) ≡ true)
 
 abbrev μ-loop : tie.MeasureT-loop
-μ-loop t at n ok₀ i₀ ok i = n - i
+μ-loop t at n i₀ i = n - i
 
 loop-holds : tie.Need-loop-holds Inv-loop μ-loop
 unfolding every
 loop-holds c = (search needs, refl)
 
-add-ok : tie.Need-add-ok Inv-loop μ-loop
-add-ok c = search needs
+add-if1 : tie.Need-add-if1 Inv-loop μ-loop
+add-if1 c = search needs
 
-shared-slice-read-ok : tie.Need-shared-slice-read-ok Inv-loop μ-loop
-shared-slice-read-ok c = search needs
+shared-slice-read-if1 : tie.Need-shared-slice-read-if1 Inv-loop μ-loop
+shared-slice-read-if1 c = search needs
+
+returns : tie.Need-returns Inv-loop μ-loop
+returns c = sym (every-false _ _ (c .before .before .before .loop .i) (search needs) (ne-eqb _ _ (c .if1 .taken)))
 
 add-i : tie.Need-add-i Inv-loop μ-loop
 add-i c = search needs
@@ -33,12 +38,12 @@ loop-less : tie.Need-loop-less Inv-loop μ-loop
 loop-less c = search needs
 
 loop-again : tie.Need-loop-again Inv-loop μ-loop
-loop-again c = (search needs, rw every-more (cc))
+loop-again c = (search needs, every-step (c .before .before .before .loop .i) _ (c .before .before .before .loop .inv .1) (eq-eqb _ _ (c .if1 .left)))
 
-returns : tie.Need-returns Inv-loop μ-loop
-returns c =
+returns-2 : tie.Need-returns-2 Inv-loop μ-loop
+returns-2 c =
     let e : c .before .loop .i ≡ c .before .before .args .n = omega arith in
-    cc
+    sym (rw e at (c .before .loop .inv .1))
 
 pub all-zero-spec : {M : Type 1} → statement M
 all-zero-spec =
@@ -47,9 +52,10 @@ all-zero-spec =
     Inv-loop
     μ-loop
     loop-holds
-    add-ok
-    shared-slice-read-ok
+    add-if1
+    shared-slice-read-if1
+    returns
     add-i
     loop-less
     loop-again
-    returns)
+    returns-2)

@@ -5,20 +5,20 @@ use borrow.Author.Needs.{needs}
 use Rattle.wire.proofs.table.block_end.Statement.{statement}
 use Rattle.wire.proofs.table.block_end.Tie as tie
 
-add-get-u16 : tie.Need-add-get-u16
-add-get-u16 c = search needs
+add-u16-at : tie.Need-add-u16-at
+add-u16-at c = search needs
 
-get-u16-requires : tie.Need-get-u16-requires
-get-u16-requires c κs = search needs
+u16-at-requires : tie.Need-u16-at-requires
+u16-at-requires c κs = search needs
 
 cast-description : tie.Need-cast-description
 cast-description c = search needs
 
-add-get-u16-2 : tie.Need-add-get-u16-2
-add-get-u16-2 c = search needs
+add-u16-at-2 : tie.Need-add-u16-at-2
+add-u16-at-2 c = search needs
 
-get-u16-requires-2 : tie.Need-get-u16-requires-2
-get-u16-requires-2 c κs = search needs
+u16-at-requires-2 : tie.Need-u16-at-requires-2
+u16-at-requires-2 c κs = search needs
 
 cast-count : tie.Need-cast-count
 cast-count c = search needs
@@ -49,11 +49,11 @@ pub block-end-spec : {M : Type 1} → statement M
 block-end-spec =
     tie.close
     (tie.spec
-    add-get-u16
-    get-u16-requires
+    add-u16-at
+    u16-at-requires
     cast-description
-    add-get-u16-2
-    get-u16-requires-2
+    add-u16-at-2
+    u16-at-requires-2
     cast-count
     add-result
     add-result-2

@@ -29,7 +29,11 @@ unfolding blockSound
 returns-2 c = rw (sym (c .before .before .before .head-sound .ensures) ∙ not-false _ (c .before .before .if1 .left), sym (c .before .padding-sound .ensures) ∙ not-true _ (c .if2 .taken))
 
 template-at-requires : tie.Need-template-at-requires
-template-at-requires c κs = search needs
+unfolding blockEnd
+template-at-requires c κs =
+    let a = c .before .before .before .before .before .args in
+    let h = head-facts (a .t .now) (a .at) (sym (c .before .before .before .head-sound .ensures) ∙ not-false _ (c .before .before .if1 .left)) in
+    (search needs, omega (arith, h .within))
 
 keys-sound-requires : tie.Need-keys-sound-requires
 unfolding blockEnd templateAt

@@ -10,7 +10,7 @@ use Rattle.octets.specs.Numbers.{uintAt}
 use Rattle.wire.specs.Each.{every}
 use Rattle.wire.proofs.Each.{clause-last, cond-same, every-false, every-step}
 use Rattle.wire.specs.Table.{blockEnd, blockSound, blockAt, idAt, blocksSound, templatesDiffer}
-use Rattle.wire.proofs.Tables.{block-at-more, block-near}
+use Rattle.wire.proofs.Tables.{block-at-more, block-near, block-inside}
 use borrow.Author.Needs.{needs}
 use Rattle.wire.proofs.table.blocks_sound.Statement.{statement}
 use Rattle.wire.proofs.table.blocks_sound.Tie as tie
@@ -37,8 +37,11 @@ returns c =
     let t = c .before .before .before .before .before .args .t .now in
     rw (every-false (c .before .before .before .before .before .args .n) (λ i. blockSound t (blockAt t i)) (l .i) (search needs) (ap (blockSound t) (sym (l .inv .1 .0)) ∙ sym (c .before .block-sound .ensures) ∙ not-true _ (c .if1 .taken)))
 
-get-u16-requires : tie.Need-get-u16-requires Inv-loop μ-loop
-get-u16-requires c κs = search needs
+u16-at-requires : tie.Need-u16-at-requires Inv-loop μ-loop
+u16-at-requires c κs =
+    let l = c .before .before .before .loop in
+    let t = c .before .before .before .before .before .args .t .now in
+    omega (arith, block-inside t (l .at) (sym (c .before .block-sound .ensures) ∙ not-false _ (c .if1 .left)))
 
 id-is-new-requires : tie.Need-id-is-new-requires Inv-loop μ-loop
 id-is-new-requires c κs = (search needs, c .before .before .before .before .loop .inv .1 .1 .0)
@@ -47,14 +50,16 @@ returns-2 : tie.Need-returns-2 Inv-loop μ-loop
 returns-2 c =
     let l = c .before .before .before .before .before .before .loop in
     let t = c .before .before .before .before .before .before .before .before .args .t .now in
-    let id = c .before .before .get-u16 .ensures ∙ ap (λ (p : ℕ). uintAt t p 2) (l .inv .1 .0) in
+    let id = c .before .before .u16-at .ensures ∙ ap (λ (p : ℕ). uintAt t p 2) (l .inv .1 .0) in
     rw (every-false (c .before .before .before .before .before .before .before .before .args .n) (λ i. every i (λ j. not (eqb (idAt t j) (idAt t i)))) (l .i) (search needs) (rw id at (sym (c .before .id-is-new .ensures) ∙ not-true _ (c .if2 .taken))), cond-same)
 
 block-end-requires : tie.Need-block-end-requires Inv-loop μ-loop
 block-end-requires c κs =
     let l = c .before .before .before .before .before .before .loop in
-    let s = c .before .before .before .before .before .before .before .before in
-    rw (l .inv .1 .0) (block-near (s .args .t .now) (l .i) (s .pre) (l .inv .1 .1 .0) (l .i) (search needs))
+    let s = c .before .before .before .before .before .before .before .before in (
+      rw (l .inv .1 .0) (block-near (s .args .t .now) (l .i) (s .pre) (l .inv .1 .1 .0) (l .i) (search needs)),
+      block-inside (s .args .t .now) (l .at) (sym (c .before .before .before .before .block-sound .ensures) ∙ not-false _ (c .before .before .before .if1 .left)),
+    )
 
 add-i : tie.Need-add-i Inv-loop μ-loop
 add-i c = search needs
@@ -66,7 +71,7 @@ loop-again : tie.Need-loop-again Inv-loop μ-loop
 loop-again c =
     let l = c .before .before .before .before .before .before .before .loop in
     let t = c .before .before .before .before .before .before .before .before .before .args .t .now in
-    let id = c .before .before .before .get-u16 .ensures ∙ ap (λ (p : ℕ). uintAt t p 2) (l .inv .1 .0) in (
+    let id = c .before .before .before .u16-at .ensures ∙ ap (λ (p : ℕ). uintAt t p 2) (l .inv .1 .0) in (
       search needs,
       (
         c .block-end .ensures ∙ ap (blockEnd t) (l .inv .1 .0) ∙ sym (block-at-more t (l .i)),
@@ -93,7 +98,7 @@ blocks-sound-spec =
     loop-holds
     block-sound-requires
     returns
-    get-u16-requires
+    u16-at-requires
     id-is-new-requires
     returns-2
     block-end-requires

@@ -9,7 +9,7 @@ use Rattle.octets.specs.Numbers.{uintAt}
 use Rattle.wire.specs.Each.{every}
 use Rattle.wire.proofs.Each.{every-false, every-step}
 use Rattle.wire.specs.Table.{blockEnd, blockAt, idAt}
-use Rattle.wire.proofs.Tables.{block-at-more, block-near}
+use Rattle.wire.proofs.Tables.{block-at-more, block-near, block-in}
 use borrow.Author.Needs.{needs}
 use Rattle.wire.proofs.table.id_is_new.Statement.{statement}
 use Rattle.wire.proofs.table.id_is_new.Tie as tie
@@ -24,20 +24,24 @@ loop-holds : tie.Need-loop-holds Inv-loop μ-loop
 unfolding every blockAt
 loop-holds c = (search needs, (refl, refl))
 
-get-u16-requires : tie.Need-get-u16-requires Inv-loop μ-loop
-get-u16-requires c κs = search needs
+u16-at-requires : tie.Need-u16-at-requires Inv-loop μ-loop
+u16-at-requires c κs =
+    let s = c .before .before .before in
+    omega (arith, block-in (s .args .t .now) (s .args .n) (s .pre .1) (c .before .loop .i) (c .loop-test .taken))
 
 returns : tie.Need-returns Inv-loop μ-loop
 returns c =
     let l = c .before .before .before .loop in
     let t = c .before .before .before .before .before .args .t .now in
-    sym (every-false _ _ (l .i) (search needs) (ap not (eq-eqb _ _ (ap (λ (p : ℕ). uintAt t p 2) (sym (l .inv .1 .0)) ∙ sym (c .before .get-u16 .ensures) ∙ c .if1 .taken))))
+    sym (every-false _ _ (l .i) (search needs) (ap not (eq-eqb _ _ (ap (λ (p : ℕ). uintAt t p 2) (sym (l .inv .1 .0)) ∙ sym (c .before .u16-at .ensures) ∙ c .if1 .taken))))
 
 block-end-requires : tie.Need-block-end-requires Inv-loop μ-loop
 block-end-requires c κs =
     let l = c .before .before .before .loop in
-    let s = c .before .before .before .before .before in
-    rw (l .inv .1 .0) (block-near (s .args .t .now) (s .args .n) (s .pre .0) (s .pre .1) (l .i) (l .inv .0))
+    let s = c .before .before .before .before .before in (
+      rw (l .inv .1 .0) (block-near (s .args .t .now) (s .args .n) (s .pre .0) (s .pre .1) (l .i) (l .inv .0)),
+      omega (arith, block-in (s .args .t .now) (s .args .n) (s .pre .1) (l .i) (c .before .before .loop-test .taken)),
+    )
 
 add-i : tie.Need-add-i Inv-loop μ-loop
 add-i c = search needs
@@ -52,7 +56,7 @@ loop-again c =
       search needs,
       (
         c .block-end .ensures ∙ ap (blockEnd t) (l .inv .1 .0) ∙ sym (block-at-more t (l .i)),
-        every-step (l .i) _ (l .inv .1 .1) (ap not (ne-eqb _ _ (λ e. c .before .if1 .left (c .before .before .get-u16 .ensures ∙ ap (λ (p : ℕ). uintAt t p 2) (l .inv .1 .0) ∙ e)))),
+        every-step (l .i) _ (l .inv .1 .1) (ap not (ne-eqb _ _ (λ e. c .before .if1 .left (c .before .before .u16-at .ensures ∙ ap (λ (p : ℕ). uintAt t p 2) (l .inv .1 .0) ∙ e)))),
       ),
     )
 
@@ -68,7 +72,7 @@ id-is-new-spec =
     Inv-loop
     μ-loop
     loop-holds
-    get-u16-requires
+    u16-at-requires
     returns
     block-end-requires
     add-i

@@ -1,19 +1,21 @@
--- `keys_sound` meets its contract. The loop's invariant: ok says whether the key blocks passed are sound. Assumes nothing.
-use mathlib.Core.Path.{_≡_, refl}
+-- `keys_sound` meets its contract. The loop's invariant: the key blocks passed are sound. Assumes nothing.
+use mathlib.Core.Path.{_≡_, refl, sym, _∙_}
+use mathlib.Core.Bool.{true}
 use native.Mathlib.Omega.{arith}
 use Prim.Native.Nat.{_-_, _≤_}
-use Rattle.wire.specs.Each.{every}
-use Rattle.wire.proofs.Each.{every-more}
-use Rattle.wire.specs.Table.{keysSound}
+use borrow.Author.Tests.{not-true, not-false}
 use borrow.Author.Needs.{needs}
+use Rattle.wire.specs.Each.{every}
+use Rattle.wire.proofs.Each.{every-false, every-step}
+use Rattle.wire.specs.Table.{keysSound}
 use Rattle.wire.proofs.table.keys_sound.Statement.{statement}
 use Rattle.wire.proofs.table.keys_sound.Tie as tie
 
 abbrev Inv-loop : tie.InvT-loop
-Inv-loop t keys n ok₀ k₀ ok k = (k ≤ n) × (ok ≡ keysSound t keys k)
+Inv-loop t keys n k₀ k = (k ≤ n) × (keysSound t keys k ≡ true)
 
 abbrev μ-loop : tie.MeasureT-loop
-μ-loop t keys n ok₀ k₀ ok k = n - k
+μ-loop t keys n k₀ k = n - k
 
 loop-holds : tie.Need-loop-holds Inv-loop μ-loop
 unfolding every
@@ -28,6 +30,9 @@ add-key-sound c = search needs
 key-sound-requires : tie.Need-key-sound-requires Inv-loop μ-loop
 key-sound-requires c κs = search needs
 
+returns : tie.Need-returns Inv-loop μ-loop
+returns c = sym (every-false _ _ (c .before .before .before .loop .k) (search needs) (sym (c .before .key-sound .ensures) ∙ not-true _ (c .if1 .taken)))
+
 add-k : tie.Need-add-k Inv-loop μ-loop
 add-k c = search needs
 
@@ -35,12 +40,12 @@ loop-less : tie.Need-loop-less Inv-loop μ-loop
 loop-less c = search needs
 
 loop-again : tie.Need-loop-again Inv-loop μ-loop
-loop-again c = (search needs, rw every-more (cc))
+loop-again c = (search needs, every-step (c .before .before .before .loop .k) _ (c .before .before .before .loop .inv .1) (sym (c .before .key-sound .ensures) ∙ not-false _ (c .if1 .left)))
 
-returns : tie.Need-returns Inv-loop μ-loop
-returns c =
+returns-2 : tie.Need-returns-2 Inv-loop μ-loop
+returns-2 c =
     let e : c .before .loop .k ≡ c .before .before .before .args .n = omega arith in
-    cc
+    sym (rw e at (c .before .loop .inv .1))
 
 pub keys-sound-spec : {M : Type 1} → statement M
 keys-sound-spec =
@@ -52,7 +57,8 @@ keys-sound-spec =
     mul-key-sound
     add-key-sound
     key-sound-requires
+    returns
     add-k
     loop-less
     loop-again
-    returns)
+    returns-2)

@@ -10,7 +10,7 @@ use Rattle.octets.specs.Numbers.{uintAt}
 use Rattle.wire.specs.Each.{firstFrom}
 use Rattle.wire.proofs.Each.{first-here, first-on, first-none}
 use Rattle.wire.specs.Table.{blockEnd, blockAt, idAt, templateCount, templateIndex, locateOf}
-use Rattle.wire.proofs.Tables.{block-at-more, block-near, table-facts}
+use Rattle.wire.proofs.Tables.{block-at-more, block-near, block-in, table-facts}
 use borrow.Author.Needs.{needs}
 use Rattle.wire.proofs.table.locate.Statement.{statement}
 use Rattle.wire.proofs.table.locate.Tie as tie
@@ -33,15 +33,20 @@ loop-holds c =
     let e : c .get-u16 .result - 0 ≡ templateCount (c .before .before .args .t .now) = omega arith in
     (search needs, (refl, rw e))
 
-get-u16-requires-2 : tie.Need-get-u16-requires-2 Inv-loop μ-loop
-get-u16-requires-2 c κs = search needs
+u16-at-requires : tie.Need-u16-at-requires Inv-loop μ-loop
+u16-at-requires c κs =
+    let s = c .before .before .before .before in
+    let f = table-facts (s .args .t .now) (s .pre) in
+    omega (arith, block-in (s .args .t .now) (templateCount (s .args .t .now)) (f .blocks) (c .before .loop .i) (omega arith))
 
 template-at-requires : tie.Need-template-at-requires Inv-loop μ-loop
 template-at-requires c κs =
     let l = c .before .before .before .loop in
     let s = c .before .before .before .before .before .before in
-    let f = table-facts (s .args .t .now) (s .pre) in
-    rw (l .inv .1 .0) (block-near (s .args .t .now) (templateCount (s .args .t .now)) (f .short) (f .blocks) (l .i) (omega arith))
+    let f = table-facts (s .args .t .now) (s .pre) in (
+      rw (l .inv .1 .0) (block-near (s .args .t .now) (templateCount (s .args .t .now)) (f .short) (f .blocks) (l .i) (omega arith)),
+      omega (arith, block-in (s .args .t .now) (templateCount (s .args .t .now)) (f .blocks) (l .i) (omega arith)),
+    )
 
 returns : tie.Need-returns Inv-loop μ-loop
 unfolding locateOf
@@ -50,7 +55,7 @@ returns c =
     let a = c .before .before .before .before .before .before .before .args in
     let t = a .t .now in
     let e : templateIndex t (a .id) ≡ l .i =
-    sym (l .inv .1 .1) ∙ first-here (l .i) (c .before .before .before .before .before .get-u16 .result - l .i) (λ j. eqb (idAt t j) (a .id)) (omega arith) (eq-eqb _ _ (ap (λ (p : ℕ). uintAt t p 2) (sym (l .inv .1 .0)) ∙ sym (c .before .before .get-u162 .ensures) ∙ c .before .if1 .taken)) in
+    sym (l .inv .1 .1) ∙ first-here (l .i) (c .before .before .before .before .before .get-u16 .result - l .i) (λ j. eqb (idAt t j) (a .id)) (omega arith) (eq-eqb _ _ (ap (λ (p : ℕ). uintAt t p 2) (sym (l .inv .1 .0)) ∙ sym (c .before .before .u16-at .ensures) ∙ c .before .if1 .taken)) in
     let n : l .i < templateCount t = omega arith in
     rw (e, lt-leb (templateCount t) (l .i) n, c .template-at .ensures, l .inv .1 .0)
 
@@ -58,8 +63,10 @@ block-end-requires : tie.Need-block-end-requires Inv-loop μ-loop
 block-end-requires c κs =
     let l = c .before .before .before .loop in
     let s = c .before .before .before .before .before .before in
-    let f = table-facts (s .args .t .now) (s .pre) in
-    rw (l .inv .1 .0) (block-near (s .args .t .now) (templateCount (s .args .t .now)) (f .short) (f .blocks) (l .i) (omega arith))
+    let f = table-facts (s .args .t .now) (s .pre) in (
+      rw (l .inv .1 .0) (block-near (s .args .t .now) (templateCount (s .args .t .now)) (f .short) (f .blocks) (l .i) (omega arith)),
+      omega (arith, block-in (s .args .t .now) (templateCount (s .args .t .now)) (f .blocks) (l .i) (omega arith)),
+    )
 
 add-i : tie.Need-add-i Inv-loop μ-loop
 add-i c = search needs
@@ -77,7 +84,7 @@ loop-again c =
       search needs,
       (
         c .block-end .ensures ∙ ap (blockEnd t) (l .inv .1 .0) ∙ sym (block-at-more t (l .i)),
-        rw k (sym (first-on (l .i) (count - l .i) (λ j. eqb (idAt t j) (a .id)) (omega arith) (ne-eqb _ _ (λ e. c .before .if1 .left (c .before .before .get-u162 .ensures ∙ ap (λ (p : ℕ). uintAt t p 2) (l .inv .1 .0) ∙ e)))) ∙ l .inv .1 .1),
+        rw k (sym (first-on (l .i) (count - l .i) (λ j. eqb (idAt t j) (a .id)) (omega arith) (ne-eqb _ _ (λ e. c .before .if1 .left (c .before .before .u16-at .ensures ∙ ap (λ (p : ℕ). uintAt t p 2) (l .inv .1 .0) ∙ e)))) ∙ l .inv .1 .1),
       ),
     )
 
@@ -100,7 +107,7 @@ locate-spec =
     get-u16-requires
     cast-count
     loop-holds
-    get-u16-requires-2
+    u16-at-requires
     template-at-requires
     returns
     block-end-requires

@@ -5,11 +5,11 @@ use borrow.Author.Needs.{needs}
 use Rattle.wire.proofs.table.padding_sound.Statement.{statement}
 use Rattle.wire.proofs.table.padding_sound.Tie as tie
 
-add-get-u16 : tie.Need-add-get-u16
-add-get-u16 c = search needs
+add-u16-at : tie.Need-add-u16-at
+add-u16-at c = search needs
 
-get-u16-requires : tie.Need-get-u16-requires
-get-u16-requires c κs = search needs
+u16-at-requires : tie.Need-u16-at-requires
+u16-at-requires c κs = search needs
 
 cast-description : tie.Need-cast-description
 cast-description c = search needs
@@ -34,14 +34,14 @@ all-zero-requires c κs = search needs
 
 returns : tie.Need-returns
 unfolding paddingSound
-returns c = rw (c .all-zero .ensures, c .before .get-u16 .ensures)
+returns c = rw (c .all-zero .ensures, c .before .u16-at .ensures)
 
 pub padding-sound-spec : {M : Type 1} → statement M
 padding-sound-spec =
     tie.close
     (tie.spec
-    add-get-u16
-    get-u16-requires
+    add-u16-at
+    u16-at-requires
     cast-description
     add-padded
     mul-padded

@@ -15,17 +15,17 @@ returns : tie.Need-returns
 unfolding stepUnder
 returns c = rw (← c .before .before .next-key .ensures, le-leb _ _ (c .if1 .taken))
 
-mul-get-u16 : tie.Need-mul-get-u16
-mul-get-u16 c = search needs
+mul-u16-at : tie.Need-mul-u16-at
+mul-u16-at c = search needs
 
-add-get-u16 : tie.Need-add-get-u16
-add-get-u16 c = search needs
+add-u16-at : tie.Need-add-u16-at
+add-u16-at c = search needs
 
-add-get-u16-2 : tie.Need-add-get-u16-2
-add-get-u16-2 c = search needs
+add-u16-at-2 : tie.Need-add-u16-at-2
+add-u16-at-2 c = search needs
 
-get-u16-requires : tie.Need-get-u16-requires
-get-u16-requires c κs = search needs
+u16-at-requires : tie.Need-u16-at-requires
+u16-at-requires c κs = search needs
 
 field-length-requires : tie.Need-field-length-requires
 field-length-requires c κs = search needs
@@ -34,7 +34,7 @@ returns-2 : tie.Need-returns-2
 unfolding stepUnder
 returns-2 c =
     let d = c .before .before .before .before in
-    rw (← d .before .before .next-key .ensures, lt-leb _ _ (d .if1 .left), ← c .before .before .get-u16 .ensures, ← c .before .field-length .ensures, eq-eqb _ _ (c .if2 .taken))
+    rw (← d .before .before .next-key .ensures, lt-leb _ _ (d .if1 .left), ← c .before .before .u16-at .ensures, ← c .before .field-length .ensures, eq-eqb _ _ (c .if2 .taken))
 
 value-at-requires : tie.Need-value-at-requires
 value-at-requires c κs = search needs
@@ -45,13 +45,13 @@ add-t13 c = search needs
 add-t11 : tie.Need-add-t11
 add-t11 c =
     let a = c .before .before .before .before .before .before .before .before .before .before .args in
-    omega (arith, field-within (c .before .before .before .get-u16 .result) (a .r .now) (a .c .at))
+    omega (arith, field-within (c .before .before .before .u16-at .result) (a .r .now) (a .c .at))
 
 returns-3 : tie.Need-returns-3
 unfolding stepUnder
 returns-3 c =
     let d = c .before .before .before .before .before in
-    rw (← d .before .before .next-key .ensures, lt-leb _ _ (d .if1 .left), ← c .before .before .before .get-u16 .ensures, ← c .before .before .field-length .ensures, ne-eqb _ _ (c .before .if2 .left), c .value-at .ensures)
+    rw (← d .before .before .next-key .ensures, lt-leb _ _ (d .if1 .left), ← c .before .before .before .u16-at .ensures, ← c .before .before .field-length .ensures, ne-eqb _ _ (c .before .if2 .left), c .value-at .ensures)
 
 pub step-under-spec : {M : Type 1} → statement M
 step-under-spec =
@@ -59,10 +59,10 @@ step-under-spec =
     (tie.spec
     next-key-requires
     returns
-    mul-get-u16
-    add-get-u16
-    add-get-u16-2
-    get-u16-requires
+    mul-u16-at
+    add-u16-at
+    add-u16-at-2
+    u16-at-requires
     field-length-requires
     returns-2
     value-at-requires

@@ -1,7 +1,7 @@
 -- `step_walk` meets its contract: the table is judged, then the template is located, then the step is taken under it. Assumes nothing.
 use mathlib.Core.Path.{sym, ap, _∙_}
 use borrow.Author.Tests.{not-true, not-false}
-use Rattle.wire.proofs.Tables.{located, not-located, located-near}
+use Rattle.wire.proofs.Tables.{located, not-located, located-within}
 use Rattle.wire.specs.Walk.{stepOf}
 use Rattle.wire.specs.declared.walk.Step.the-variants as step
 use borrow.Author.Needs.{needs}
@@ -25,7 +25,7 @@ step-under-requires : tie.Need-step-under-requires
 step-under-requires c κs =
     let d = c .before .before .before .before in
     let a = d .before .before .before .before .args in
-    located-near (a .t .now) (a .id) _ (sym (d .before .table-sound .ensures) ∙ not-false _ (d .if1 .left)) (sym (c .before .before .before .locate .ensures) ∙ c .before .m .given .1)
+    located-within (a .t .now) (a .id) _ (sym (d .before .table-sound .ensures) ∙ not-false _ (d .if1 .left)) (sym (c .before .before .before .locate .ensures) ∙ c .before .m .given .1)
 
 enum-known-answer : tie.Need-enum-known-answer
 enum-known-answer c = search needs

@@ -1,10 +1,10 @@
--- `key_id` meets its contract: four octets read one by one make the number at their place. Assumes nothing.
+-- `u32_at` meets its contract: four octets read one by one make the number at their place. Assumes nothing.
 use mathlib.Core.Path.{refl, _∙_}
 use Prim.Native.Nat.{_+_}
 use Rattle.octets.proofs.Numbers.{uint-four}
 use borrow.Author.Needs.{needs}
-use Rattle.wire.proofs.table.key_id.Statement.{statement}
-use Rattle.wire.proofs.table.key_id.Tie as tie
+use Rattle.wire.proofs.within.u32_at.Statement.{statement}
+use Rattle.wire.proofs.within.u32_at.Tie as tie
 
 shared-slice-read-u32-of : tie.Need-shared-slice-read-u32-of
 shared-slice-read-u32-of c = search needs
@@ -33,10 +33,10 @@ u32-of-requires c κs = search needs
 returns : tie.Need-returns
 returns c =
     let a = c .before .before .before .before .before .before .args in
-    c .u32-of .ensures ∙ uint-four (a .t .now) (a .at) (a .at) (a .at + 1) (a .at + 2) (a .at + 3) refl refl refl refl
+    c .u32-of .ensures ∙ uint-four (a .s .now) (a .at) (a .at) (a .at + 1) (a .at + 2) (a .at + 3) refl refl refl refl
 
-pub key-id-spec : {M : Type 1} → statement M
-key-id-spec =
+pub u32-at-spec : {M : Type 1} → statement M
+u32-at-spec =
     tie.close
     (tie.spec
     shared-slice-read-u32-of
