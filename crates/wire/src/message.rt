@@ -224,12 +224,15 @@ fn read_data_ack(message: &[u8]) -> Reading
     })
 }
 
-// Reads a message whose header is not refused.
+// Reads a message whose header is not refused; a DATA, the most frequent, first.
 fn read_body(message: &[u8]) -> Reading
     requires { ⌜ headerAnswer (now message) ≡ 0 ⌝ }
     ensures { λ r. ⌜ r ≡ readOf (now (message .entry)) ⌝ }
 {
     let number = message[1];
+    if number == Message::DATA {
+        return read_data(message);
+    }
     let session = message[2];
     let body = message.len() - HEADER_OCTETS;
     match number {
@@ -241,7 +244,6 @@ fn read_body(message: &[u8]) -> Reading
         Message::FINAL_TMPL_DATA_ACK => read_final_tmpl_data_ack(message),
         Message::START_NEGOTIATE => read_bare(body, Message::StartNegotiate { session }),
         Message::START_NEGOTIATE_ACK => read_bare(body, Message::StartNegotiateAck { session }),
-        Message::DATA => read_data(message),
         Message::DATA_ACK => read_data_ack(message),
         _ => Reading::Refused(Answer::MESSAGE_NOT_ACCEPTED),
     }
