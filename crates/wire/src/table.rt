@@ -124,7 +124,7 @@ fn all_zero(t: &[u8], at: usize, n: usize) -> bool
 {
     let mut i: usize = 0;
     while i < n {
-        if t[at + i] != 0 {
+        if 0 < t[at + i] {
             return false;
         }
         i += 1;

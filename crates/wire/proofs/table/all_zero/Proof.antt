@@ -2,7 +2,7 @@
 use mathlib.Core.Path.{_≡_, refl, sym}
 use mathlib.Core.Bool.{true}
 use native.Mathlib.Omega.{arith}
-use Prim.Native.Nat.{_+_, _-_, _≤_}
+use Prim.Native.Nat.{_+_, _-_, _≤_, _<_}
 use lib.Dec.{eqb}
 use lib.ListN.{getD}
 use borrow.Author.Tests.{eq-eqb, ne-eqb}
@@ -29,7 +29,12 @@ shared-slice-read-if1 : tie.Need-shared-slice-read-if1 Inv-loop μ-loop
 shared-slice-read-if1 c = search needs
 
 returns : tie.Need-returns Inv-loop μ-loop
-returns c = sym (every-false _ _ (c .before .before .before .loop .i) (search needs) (ne-eqb _ _ (c .if1 .taken)))
+returns c =
+    let a = c .before .before .before .before .args in
+    let i = c .before .before .before .loop .i in
+    let octet = getD (a .t .now) (a .at + i) 0 in
+    let h : 0 < octet = c .if1 .taken in
+    sym (every-false _ _ i (search needs) (ne-eqb octet 0 (λ e. omega arith)))
 
 add-i : tie.Need-add-i Inv-loop μ-loop
 add-i c = search needs
@@ -38,7 +43,12 @@ loop-less : tie.Need-loop-less Inv-loop μ-loop
 loop-less c = search needs
 
 loop-again : tie.Need-loop-again Inv-loop μ-loop
-loop-again c = (search needs, every-step (c .before .before .before .loop .i) _ (c .before .before .before .loop .inv .1) (eq-eqb _ _ (c .if1 .left)))
+loop-again c =
+    let a = c .before .before .before .before .args in
+    let l = c .before .before .before .loop in
+    let octet = getD (a .t .now) (a .at + l .i) 0 in
+    let h : octet ≤ 0 = c .if1 .left in
+    (search needs, every-step (l .i) _ (l .inv .1) (eq-eqb octet 0 (omega arith)))
 
 returns-2 : tie.Need-returns-2 Inv-loop μ-loop
 returns-2 c =
