@@ -1,6 +1,6 @@
 -- Acknowledgements: how many records a DSN names, what a DATA ACK is judged by, and what it changes of a state. Assumes nothing.
 use mathlib.Core.Path.{_≡_, refl, sym, ap, _∙_}
-use mathlib.Core.Bool.{Bool, true, false, _||_}
+use mathlib.Core.Bool.{Bool, true, false, cond}
 use mathlib.Core.List.{List, [], append-nil}
 use Prim.Native.Nat.{ℕ, _+_, _-_, _%_, _≤_, _<_}
 use native.Mathlib.Nat.{add-assoc, add-sub-of-le, mod-add-mod, add-mod-right, mod-eq-of-lt, le-of-lt, sub-zero}
@@ -9,7 +9,7 @@ use borrow.Author.Tests.{eqb-true, eqb-false, ltb-false, ne-eqb}
 use lib.Dec.{eqb}
 use Rattle.octets.specs.Answers.{judge, done, unsoundState}
 use Rattle.octets.proofs.Judging.{passed}
-use Rattle.exporter.specs.Servers.{acknowledged, settle, changed}
+use Rattle.exporter.specs.Servers.{chosen, withCounts, acknowledged}
 use Rattle.exporter.specs.Queue.{octetsTo, shifted, dropFront}
 use Rattle.exporter.specs.Sound.{sound}
 use Rattle.exporter.specs.Steps.{ackCount, ack, checks, answer, after, settled, written, step, wroteOf, outputAfter, ackCountBy, ackChecks}
@@ -20,8 +20,8 @@ use Rattle.exporter.specs.declared.state.Settings.{Settings}
 use Rattle.exporter.specs.declared.state.Delivery.{Delivery}
 use Rattle.exporter.specs.declared.state.State.{State}
 use Rattle.exporter.specs.declared.state.Wrote.{Wrote}
-use Rattle.exporter.proofs.SoundFacts.{sound-facts}
-use Rattle.exporter.proofs.Changes.{partsIn, step-refused, step-done}
+use Rattle.exporter.proofs.SoundFacts.{sound-facts, parts-of}
+use Rattle.exporter.proofs.Changes.{partsIn, settled-same, step-refused, step-done}
 
 -- ---- numbers that wrap at m
 
@@ -50,6 +50,26 @@ dropped-none : (q : Queue) → dropFront q 0 ≡ q
 unfolding dropFront
 dropped-none q = rw (shifted-none (q .lengths), shifted-none (q .templates), shifted-none (q .receivers), sub-zero (q .count))
 
+-- ---- a delivery after a release
+
+-- its servers and its active one are as they were
+acked-choice : (p : Settings) (d : Delivery) (n : ℕ) → d .active ≡ chosen p d → acknowledged n d .active ≡ chosen p (acknowledged n d)
+unfolding acknowledged
+acked-choice p d n e = go (eqb n 0)
+  where
+    go : (b : Bool) → let g = cond b (withCounts d 0 (d .reached) (d .timer)) (withCounts d (d .sent - n) (d .reached - n) 0) in g .active ≡ chosen p g
+    go true = e
+    go false = e
+
+acked-counts : (d : Delivery) (n : ℕ) → withCounts d (acknowledged n d .sent) (acknowledged n d .reached) (acknowledged n d .timer) ≡ acknowledged n d
+unfolding acknowledged
+acked-counts d n = go (eqb n 0)
+  where
+    go : (b : Bool) → let g = cond b (withCounts d 0 (d .reached) (d .timer)) (withCounts d (d .sent - n) (d .reached - n) 0) in
+        withCounts d (g .sent) (g .reached) (g .timer) ≡ g
+    go true = refl
+    go false = refl
+
 -- ---- the answer, and the change
 
 -- soundness does not look at the next DSN
@@ -75,32 +95,42 @@ module _ (w v dsn config : ℕ) (s : State) where
   ack-judged e = rw e
 
   pub refused-ack : (a : ℕ) (r : AckChange) → (a ≡ done → ⊥) → answer w [] 0 (ack v dsn config) s [] ≡ a
-      → r ≡ record { answer = a; released = 0; start = s .start; delivery = s .delivery; due = s .due }
+      → r ≡ record { answer = a; released = 0; start = s .start; sent = s .delivery .sent; reached = s .delivery .reached; timer = s .delivery .timer }
       → r ≡ ackChangeOf (namedIn w s dsn) (step w [] 0 (ack v dsn config) s [])
   refused-ack a r h e k = rw (step-refused w [] 0 (ack v dsn config) s [] a h e, ne-eqb a done h) k
 
-  pub accepted-ack : (r : AckChange) → answer w [] 0 (ack v dsn config) s [] ≡ done
+  -- the servers stay, and so does the choice
+  pub ack-settled : sound s ≡ true → settled (after w (ack v dsn config) s) ≡ after w (ack v dsn config) s
+  unfolding after
+  ack-settled e = settled-same (after w (ack v dsn config) s) (acked-choice (s .settings) (s .delivery) (ackCount w s dsn) (sound-facts s e .choice))
+
+  pub accepted-ack : (r : AckChange) → sound s ≡ true → answer w [] 0 (ack v dsn config) s [] ≡ done
       → r ≡ record {
         answer = done;
         released = namedIn w s dsn;
         start = (s .start + octetsTo (s .queue) (namedIn w s dsn)) % s .capacity;
-        delivery = settle (s .settings) (acknowledged (namedIn w s dsn) (s .delivery));
-        due = changed (s .settings) (acknowledged (namedIn w s dsn) (s .delivery)) || s .due;
+        sent = acknowledged (namedIn w s dsn) (s .delivery) .sent;
+        reached = acknowledged (namedIn w s dsn) (s .delivery) .reached;
+        timer = acknowledged (namedIn w s dsn) (s .delivery) .timer;
       }
       → r ≡ ackChangeOf (namedIn w s dsn) (step w [] 0 (ack v dsn config) s [])
-  unfolding after settled ackCount
-  accepted-ack r e k = rw (step-done w [] 0 (ack v dsn config) s [] e) k
+  unfolding after ackCount
+  accepted-ack r q e k = rw (step-done w [] 0 (ack v dsn config) s [] e, ack-settled q) k
+
+  -- an accepted one finds a sound state
+  pub ack-sound : answer w [] 0 (ack v dsn config) s [] ≡ done → sound s ≡ true
+  ack-sound e = go (sound s) refl
+    where
+      go : (b : Bool) → sound s ≡ b → sound s ≡ true
+      go true k = k
+      go false k = let z : _≡_ {A = ℕ} 1 0 = sym (ack-unsound k) ∙ e in absurd (omega arith)
 
   -- an accepted one releases records that are held
   pub ack-held : answer w [] 0 (ack v dsn config) s [] ≡ done → (namedIn w s dsn ≤ s .queue .count) × (namedIn w s dsn ≤ 64)
-  ack-held e = go (sound s) refl
-    where
-      go : (b : Bool) → sound s ≡ b → (namedIn w s dsn ≤ s .queue .count) × (namedIn w s dsn ≤ 64)
-      go true k =
-          let f = sound-facts s k .numbers in
-          let g = ack-reached (s .settings) (s .delivery) v config (namedIn w s dsn) (sym (ack-judged k) ∙ e) in
-          omega arith
-      go false k = let z : _≡_ {A = ℕ} 1 0 = sym (ack-unsound k) ∙ e in absurd (omega arith)
+  ack-held e =
+      let f = sound-facts s (ack-sound e) .numbers in
+      let g = ack-reached (s .settings) (s .delivery) v config (namedIn w s dsn) (sym (ack-judged (ack-sound e)) ∙ e) in
+      omega arith
 
 -- ---- by parts
 
@@ -136,7 +166,7 @@ module _ (w v dsn config : ℕ) (s : State) where
         state = releasedFrom s (ackChangeOf (namedIn w s dsn) (step w [] 0 (ack v dsn config) (ackParts s) []));
       })
       (wroteOf (step w [] 0 (ack v dsn config) s []))
-  unfolding after settled written ackCount
+  unfolding after written ackCount
   ack-parts = go (eqb (answer w [] 0 (ack v dsn config) s []) done) refl
     where
       go : (b : Bool) → eqb (answer w [] 0 (ack v dsn config) s []) done ≡ b → _≡_ {A = Wrote}
@@ -148,7 +178,14 @@ module _ (w v dsn config : ℕ) (s : State) where
           (wroteOf (step w [] 0 (ack v dsn config) s []))
       go true q =
           let e = eqb-true (answer w [] 0 (ack v dsn config) s []) done q in
-          rw (step-done w [] 0 (ack v dsn config) (ackParts s) [] (ack-same ∙ e), step-done w [] 0 (ack v dsn config) s [] e)
+          let k = ack-sound w v dsn config s e in
+          rw (
+            step-done w [] 0 (ack v dsn config) (ackParts s) [] (ack-same ∙ e),
+            step-done w [] 0 (ack v dsn config) s [] e,
+            ack-settled w v dsn config (ackParts s) (sound-next (partsIn s) (s .next) ∙ parts-of s ∙ k),
+            ack-settled w v dsn config s k,
+            acked-counts (s .delivery) (namedIn w s dsn),
+          )
       go false q =
           let h = eqb-false (answer w [] 0 (ack v dsn config) s []) done q in
           rw (

@@ -9,12 +9,11 @@ use lib.Dec.{eqb, leb}
 use lib.ListN.{length}
 use lib.Seq.{sets}
 use Rattle.octets.specs.Answers.{judge, done, unsoundState, noSuchServer}
-use Rattle.exporter.specs.Servers.{chosen, settle, changed, ticked, phaseAt, withServers, Transition, transition}
+use Rattle.exporter.specs.Servers.{chosen, settle, changed, phaseAt, withServers, Transition, transition}
 use Rattle.exporter.specs.Sound.{sound, partsOf}
-use Rattle.exporter.specs.Steps.{Outcome, Call, tick, step, answer, checks, after, settled, storeAfter, written, tickStep, steppedOf, move, replyTo, transitionChecks, outputAfter, wroteOf}
+use Rattle.exporter.specs.Steps.{Outcome, Call, step, answer, checks, after, settled, storeAfter, written, move, replyTo, transitionChecks, outputAfter, wroteOf}
 use Rattle.exporter.specs.Changes.{changeOf, appliedTo, settledChange, refusedChange}
 use Rattle.exporter.specs.declared.change.Change.{Change}
-use Rattle.exporter.specs.declared.state.Stepped.{Stepped}
 use Rattle.exporter.specs.declared.state.State.{State}
 use Rattle.exporter.specs.declared.state.Wrote.{Wrote}
 use Rattle.exporter.proofs.SoundFacts.{active-same, parts-of}
@@ -23,38 +22,10 @@ use Rattle.exporter.proofs.SoundFacts.{active-same, parts-of}
 abbrev pub partsIn : State → State
 partsIn s = partsOf (s .settings) (s .capacity) (s .delivery) (s .due) (s .queue .count) (s .queue .lengths) (s .queue .receivers) (s .start)
 
--- a tick of a sound state, and of any other
-pub tick-sound : (w : ℕ) (s : State) → sound s ≡ true → changeOf (tickStep w s) ≡ settledChange (s .settings) (ticked (s .settings) (s .delivery)) (s .due) 0
-unfolding step answer checks after settled written
-tick-sound w s e = rw e
-
-pub tick-unsound : (w : ℕ) (s : State) → sound s ≡ false → changeOf (tickStep w s) ≡ refusedChange 1 (s .delivery) (s .due)
-unfolding step answer checks
-tick-unsound w s e = rw e
-
--- a call's outcome, given what the checks answer
-abbrev pub outcomeBy : ℕ → List ℕ → Call → State → List ℕ → ℕ → Outcome
-outcomeBy w table c s store a =
-    cond (eqb a 0)
-    (record { answer = 0; state = settled (after w c s); store = storeAfter c s store; written = written w table c s store })
-    (record { answer = a; state = s; store = store; written = [] })
-
 -- where the active server is the one to be chosen, choosing changes nothing
 pub settled-same : (s : State) → s .delivery .active ≡ chosen (s .settings) (s .delivery) → settled s ≡ s
 unfolding settled settle changed
 settled-same s e = rw (← e, active-same (s .delivery .active))
-
--- a tick by parts
-pub tick-parts : (w : ℕ) (s : State) → _≡_ {A = Stepped} (record { answer = changeOf (tickStep w (partsIn s)) .answer; state = appliedTo s (changeOf (tickStep w (partsIn s))) }) (steppedOf (tickStep w s))
-unfolding step answer checks after settled written
-tick-parts w s = rw (parts-of s) (go (sound s))
-  where
-    o : State → Bool → Outcome
-    o s b = outcomeBy w [] tick s [] (cond (not b) 1 0)
-
-    go : (b : Bool) → _≡_ {A = Stepped} (record { answer = changeOf (o (partsIn s) b) .answer; state = appliedTo s (changeOf (o (partsIn s) b)) }) (steppedOf (o s b))
-    go true = refl
-    go false = refl
 
 -- ---- calls that are refused, and those that are not
 

@@ -76,7 +76,7 @@ pub chosen-below : (priorities : List ℕ) (servers : List serverOf.Server) (n v
 chosen-below priorities servers n v e = subst (IsChoice priorities servers n) e (choice priorities servers n) .inside
 
 -- with v late, v is not agreed, and every other server is as it was
-late-agreed : (servers : List serverOf.Server) (v u : ℕ) → isAgreed (phaseAt (set servers v (server Late)) u) ≡ true
+pub late-agreed : (servers : List serverOf.Server) (v u : ℕ) → isAgreed (phaseAt (set servers v (server Late)) u) ≡ true
     → (u ≢ v) × (isAgreed (phaseAt servers u) ≡ true)
 late-agreed servers v u e = go (ℕ-discrete u v)
   where

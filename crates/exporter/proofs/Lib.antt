@@ -3,6 +3,7 @@ pub mod Rings
 pub mod SoundFacts
 pub mod Choice
 pub mod Changes
+pub mod Ticks
 pub mod Puts
 pub mod Sends
 pub mod Moves

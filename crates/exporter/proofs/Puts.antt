@@ -2,18 +2,24 @@
 use mathlib.Core.Path.{_≡_, refl, sym}
 use mathlib.Core.Bool.{Bool, true, false, cond, not, _&&_}
 use mathlib.Core.List.{List, [], _∷_, _++_}
-use Prim.Native.Nat.{ℕ, _≤_, _<_}
+use Prim.Native.Nat.{ℕ, _+_, _%_, _≤_, _<_}
+use native.Mathlib.Omega.{arith}
 use lib.Dec.{eqb}
-use lib.ListN.{length}
-use borrow.Author.Tests.{not-false, eqb-true, leb-false, ltb-false}
-use Rattle.octets.specs.Answers.{_when_, judge, unsoundState}
+use lib.ListN.{length, getD, set}
+use lib.Seq.{set-getD}
+use borrow.Author.Tests.{not-false, ne-eqb, eqb-true, eqb-false, leb-false, ltb-false}
+use Rattle.octets.specs.Answers.{_when_, judge, done, unsoundState}
 use Rattle.octets.proofs.Judging.{passed}
 use Rattle.wire.proofs.Each.{and-left, and-right}
 use Rattle.exporter.specs.Sound.{sound}
-use Rattle.exporter.specs.Steps.{put, answer, checks, soundFor, recordChecks, roomChecks}
+use Rattle.exporter.specs.Steps.{put, answer, checks, soundFor, after, storeAfter, putStep, steppedOf, recordChecks, roomChecks}
+use Rattle.exporter.specs.Queue.{pushed}
+use Rattle.exporter.specs.Changes.{puttingOf, withPut}
+use Rattle.exporter.specs.declared.put.Putting.{Putting}
+use Rattle.exporter.specs.declared.state.Stepped.{Stepped}
 use Rattle.exporter.specs.declared.state.State.{State}
-use Rattle.exporter.proofs.SoundFacts.{parts-of}
-use Rattle.exporter.proofs.Changes.{partsIn}
+use Rattle.exporter.proofs.SoundFacts.{sound-facts, parts-of}
+use Rattle.exporter.proofs.Changes.{partsIn, settled-same, step-done, step-refused}
 
 -- wire's answer to a record, with the Configuration ID and the limit of 1,024 octets judged in their turn: whether the table is sound, its
 -- ID the session's, the template missing, the record too long, the record valid
@@ -64,3 +70,84 @@ put-facts s store table id r e =
       few = leb-false 64 (s .queue .count) (p .1 .1 .1 .1 .1 .0);
       short = ltb-false 1024 (length r) (p .1 .1 .1 .0);
     }
+
+-- ---- what putting changes
+
+-- a refused put changes nothing
+pub putting-kept : (s : State) (store table : List ℕ) (id : ℕ) (r : List ℕ) (a : ℕ) (x : Putting) → (a ≡ done → ⊥) → answer 32 table 0 (put id r) s store ≡ a
+    → x ≡ record {
+      answer = a;
+      place = 0;
+      len = getD (s .queue .lengths) 0 0;
+      template = getD (s .queue .templates) 0 0;
+      set = getD (s .queue .receivers) 0 0;
+      count = s .queue .count;
+      next = s .next;
+    }
+    → (x ≡ puttingOf s id r (putStep 32 s store table id r)) × (store ≡ putStep 32 s store table id r .store)
+putting-kept s store table id r a x h e q = rw (step-refused 32 table 0 (put id r) s store a h e, ne-eqb a done h) (q, refl)
+
+-- an accepted one fills the first unused entries
+pub putting-done : (s : State) (store table : List ℕ) (id : ℕ) (r : List ℕ) (x : Putting) (left : List ℕ) → answer 32 table 0 (put id r) s store ≡ done
+    → x ≡ record {
+      answer = done;
+      place = s .queue .count;
+      len = length r;
+      template = id;
+      set = 0;
+      count = s .queue .count + 1;
+      next = (s .next + 1) % 4294967296;
+    }
+    → left ≡ storeAfter (put id r) s store
+    → (x ≡ puttingOf s id r (putStep 32 s store table id r)) × (left ≡ putStep 32 s store table id r .store)
+unfolding after pushed
+putting-done s store table id r x left e q l =
+    let f = put-facts s store table id r e in
+    rw (
+      step-done 32 table 0 (put id r) s store e,
+      settled-same (after 32 (put id r) s) (sound-facts s (f .isSound) .choice),
+    )
+    (q, l)
+
+module _ (s : State) (store table : List ℕ) (id : ℕ) (r : List ℕ) where
+  -- an outcome's change is made to one of the 64 entries
+  pub putting-place : puttingOf s id r (putStep 32 s store table id r) .place < 64
+  putting-place = go (eqb (answer 32 table 0 (put id r) s store) done) refl
+    where
+      go : (b : Bool) → eqb (answer 32 table 0 (put id r) s store) done ≡ b → puttingOf s id r (putStep 32 s store table id r) .place < 64
+      go true q =
+          let e = eqb-true (answer 32 table 0 (put id r) s store) done q in
+          rw (step-done 32 table 0 (put id r) s store e) (put-facts s store table id r e .few)
+      go false q = rw (step-refused 32 table 0 (put id r) s store _ (eqb-false (answer 32 table 0 (put id r) s store) done q) refl, q) (omega arith)
+
+  -- the state with an outcome's change is the outcome's
+  pub putting-applied : _≡_ {A = Stepped}
+      (record {
+        answer = puttingOf s id r (putStep 32 s store table id r) .answer;
+        state = withPut s (puttingOf s id r (putStep 32 s store table id r));
+      })
+      (steppedOf (putStep 32 s store table id r))
+  unfolding after pushed
+  putting-applied = go (eqb (answer 32 table 0 (put id r) s store) done) refl
+    where
+      go : (b : Bool) → eqb (answer 32 table 0 (put id r) s store) done ≡ b → _≡_ {A = Stepped}
+          (record {
+            answer = puttingOf s id r (putStep 32 s store table id r) .answer;
+            state = withPut s (puttingOf s id r (putStep 32 s store table id r));
+          })
+          (steppedOf (putStep 32 s store table id r))
+      go true q =
+          let e = eqb-true (answer 32 table 0 (put id r) s store) done q in
+          let f = put-facts s store table id r e in
+          rw (
+            step-done 32 table 0 (put id r) s store e,
+            settled-same (after 32 (put id r) s) (sound-facts s (f .isSound) .choice),
+          )
+      go false q =
+          rw (
+            step-refused 32 table 0 (put id r) s store _ (eqb-false (answer 32 table 0 (put id r) s store) done q) refl,
+            q,
+            set-getD (s .queue .lengths) 0 0,
+            set-getD (s .queue .templates) 0 0,
+            set-getD (s .queue .receivers) 0 0,
+          )

@@ -2,14 +2,14 @@
 use mathlib.Core.Path.{_≡_, refl, sym, ap, _∙_}
 use mathlib.Core.Bool.{Bool, true, false, cond, not, _&&_}
 use mathlib.Core.List.{List, [], _∷_}
-use Prim.Native.Nat.{ℕ, _+_, _-_, _%_, _≤_, _<_}
+use Prim.Native.Nat.{ℕ, _+_, _-_, _%_, _≤_, _<_, max}
 use native.Mathlib.Nat.{mod-eq-of-lt, add-mod-right, mod-mod}
 use native.Mathlib.Omega.{arith}
-use borrow.Author.Tests.{not-false, eq-eqb, eqb-true, leb-false, lt-leb, le-ltb, lt-ltb, ltb-true, ltb-false}
+use borrow.Author.Tests.{not-false, eq-eqb, ne-eqb, eqb-true, eqb-false, leb-false, lt-leb, le-ltb, lt-ltb, ltb-true, ltb-false}
 use lib.Dec.{eqb, leb, ltb}
-use lib.ListN.{length, getD}
-use lib.Seq.{sets}
-use Rattle.octets.specs.Answers.{Check, _when_, judge, unsoundState, outputTooShort, noActiveServer, nothingToSend}
+use lib.ListN.{length, getD, set}
+use lib.Seq.{sets, set-getD}
+use Rattle.octets.specs.Answers.{Check, _when_, judge, done, unsoundState, outputTooShort, noActiveServer, nothingToSend}
 use Rattle.octets.proofs.Judging.{passed, judged-first}
 use Rattle.octets.proofs.Stores.{put-fits, put-short}
 use Rattle.wire.proofs.Each.{and-left, and-right}
@@ -18,15 +18,22 @@ use Rattle.wire.specs.declared.message.Message.the-variants.{Data}
 use Rattle.wire.specs.declared.message.DataHead.{DataHead}
 use Rattle.wire.specs.declared.message.Written.{Written}
 use Rattle.wire.specs.declared.message.Written.the-variants.{Octets, Refused}
-use Rattle.exporter.specs.Servers.{isNobody}
-use Rattle.exporter.specs.Queue.{ringRead, recordAt, octetsTo}
+use Rattle.exporter.specs.Servers.{isNobody, sentOne}
+use Rattle.exporter.specs.Queue.{ringRead, recordAt, octetsTo, marked}
 use Rattle.exporter.specs.Sound.{sound}
-use Rattle.exporter.specs.Steps.{headOf, nextData, answer, checks, after, settled, written, nextDataStep, wroteOf, outputAfter}
+use Rattle.exporter.specs.Steps.{Outcome, headOf, markedFor, nextData, answer, checks, soundFor, after, settled, written, nextDataStep, wroteOf, outputAfter}
+use Rattle.exporter.specs.Changes.{SendFacts, stateOf, markedSet, sendingOf, withSent}
+use Rattle.exporter.specs.declared.next_data.Sending.{Sending}
+use Rattle.exporter.specs.declared.state.Active.{Active}
+use Rattle.exporter.specs.declared.state.Active.the-variants.{Nobody, Server}
+use Rattle.exporter.specs.declared.state.Settings.{Settings}
+use Rattle.exporter.specs.declared.state.Delivery.{Delivery}
+use Rattle.exporter.specs.declared.state.Queue.{Queue}
 use Rattle.exporter.specs.declared.state.State.{State}
 use Rattle.exporter.specs.declared.state.Wrote.{Wrote}
 use Rattle.exporter.proofs.Rings.{read-same}
-use Rattle.exporter.proofs.SoundFacts.{parts-of}
-use Rattle.exporter.proofs.Changes.{partsIn, step-done, step-refused}
+use Rattle.exporter.proofs.SoundFacts.{sound-facts, parts-of}
+use Rattle.exporter.proofs.Changes.{partsIn, settled-same, step-done, step-refused}
 
 -- ---- writing a head for a record of at most 1,024 octets
 
@@ -66,13 +73,6 @@ place-back at room l h =
 
 -- ---- the call
 
--- where there is a record to send and a server to send it to, only the output's room is judged
-pub record SendFacts (s : State) (store : List ℕ) : Type 0 where
-  pub isSound : sound s ≡ true
-  pub stored : length store ≡ s .capacity
-  pub some : isNobody (s .delivery .active) ≡ false
-  pub more : s .delivery .sent < s .queue .count
-
 -- what is judged before the room
 abbrev sendChecks : State → List ℕ → List Check
 sendChecks s store =
@@ -101,6 +101,7 @@ pub send-refused : (s : State) (store out : List ℕ) → (sendAnswer s store �
 unfolding answer checks
 send-refused s store out n = sym (judged-first (sendChecks s store) ((outputTooShort when ltb (length out) (length (written 32 [] nextData s store))) ∷ []) n) ∙ rw (parts-of s)
 
+-- where there is a record to send and a server to send it to, only the output's room is judged
 answer-room : (s : State) (store out : List ℕ) → SendFacts s store
     → answer 32 [] (length out) nextData s store ≡ cond (ltb (length out) (length (written 32 [] nextData s store))) 12 0
 unfolding answer checks
@@ -150,3 +151,169 @@ sent-refused s store out after' octets r a f o q p = go (ltb (length out) (lengt
         let e = step-refused 32 [] (length out) nextData s store 12 (λ z. absurd (omega (arith, z))) v in
         let k : a ≡ 12 = cc in
         (rw (e, k), rw e (p .left ∙ put-short out 0 octets (omega (arith, ltb-true (length out) (length octets) t))))
+
+-- ---- what sending changes
+
+-- what sending changes, by what it hands back
+abbrev sendingBy : State → Wrote → Sending
+sendingBy s r =
+    let accepted = eqb (r .answer) done in
+    record {
+      answer = r .answer;
+      written = r .written;
+      place = cond accepted (s .delivery .sent) 0;
+      set = cond accepted (markedSet (s .delivery .active) (getD (s .queue .receivers) (s .delivery .sent) 0)) (getD (s .queue .receivers) 0 0);
+      sent = r .state .delivery .sent;
+      reached = r .state .delivery .reached;
+      due = r .state .due;
+    }
+
+-- the head does not depend on the store's length, the lengths and the start
+pub head-parts : (p : Settings) (capacity : ℕ) (d : Delivery) (due : Bool) (count : ℕ) (lengths templates receivers : List ℕ) (start next : ℕ)
+    → headOf 32 (stateOf p 0 d due count [] templates receivers 0 next) ≡ headOf 32 (stateOf p capacity d due count lengths templates receivers start next)
+unfolding headOf
+head-parts p capacity d due count lengths templates receivers start next = refl
+
+-- the change that a sending of n octets makes
+abbrev pub sentOctets : State → ℕ → Sending
+sentOctets s n =
+    record {
+      answer = done;
+      written = n;
+      place = s .delivery .sent;
+      set = markedSet (s .delivery .active) (getD (s .queue .receivers) (s .delivery .sent) 0);
+      sent = s .delivery .sent + 1;
+      reached = max (s .delivery .reached) (s .delivery .sent + 1);
+      due = false;
+    }
+
+advanced : (s : State) (n : ℕ) → sound s ≡ true
+    → sentOctets s n ≡ sendingBy s (record { answer = 0; written = n; state = settled (after 32 nextData s) })
+unfolding after sentOne
+advanced s n k = rw (settled-same (after 32 nextData s) (sound-facts s k .choice))
+
+-- a record was sent
+pub sending-done : (s : State) (store out after' octets : List ℕ) (r : Written) (n : ℕ) (x : Sending) → SendFacts s store
+    → octets ≡ written 32 [] nextData s store → r ≡ Octets n → Placed octets out r after'
+    → x ≡ sentOctets s n
+    → (x ≡ sendingOf s (nextDataStep 32 s store out)) × (after' ≡ outputAfter out (nextDataStep 32 s store out))
+sending-done s store out after' octets r n x f o q p e =
+    let d = sent-done s store out after' octets r n f o q p in
+    (e ∙ advanced s n (f .isSound) ∙ ap (sendingBy s) (d .0), d .1)
+
+-- none was: the output is too short
+pub sending-refused : (s : State) (store out after' octets : List ℕ) (r : Written) (a : ℕ) (x : Sending) → SendFacts s store
+    → octets ≡ written 32 [] nextData s store → r ≡ Refused a → Placed octets out r after'
+    → x ≡ record {
+      answer = a;
+      written = 0;
+      place = 0;
+      set = getD (s .queue .receivers) 0 0;
+      sent = s .delivery .sent;
+      reached = s .delivery .reached;
+      due = s .due;
+    }
+    → (x ≡ sendingOf s (nextDataStep 32 s store out)) × (after' ≡ outputAfter out (nextDataStep 32 s store out))
+sending-refused s store out after' octets r a x f o q p e =
+    let d = sent-refused s store out after' octets r a f o q p in
+    let t = number (ltb (length out) (length octets)) (sym q ∙ p .answered) in
+    (e ∙ kept t ∙ ap (sendingBy s) (d .0), d .1)
+  where
+    number : (b : Bool) → Refused a ≡ cond b (Refused 12) (Octets (length octets)) → a ≡ 12
+    number true k = cc
+    number false k = let z : _≡_ {A = ℕ} 0 1 = cc in absurd (omega arith)
+
+    kept : a ≡ 12 → _≡_ {A = Sending}
+        (record { answer = a; written = 0; place = 0; set = getD (s .queue .receivers) 0 0; sent = s .delivery .sent; reached = s .delivery .reached; due = s .due })
+        (sendingBy s (record { answer = a; written = 0; state = s }))
+    kept t = rw t
+
+-- a refusal before the room is judged
+pub sending-kept : (s : State) (store out : List ℕ) (a : ℕ) (x : Sending) → (a ≡ done → ⊥) → a ≡ sendAnswer s store
+    → x ≡ record {
+      answer = a;
+      written = 0;
+      place = 0;
+      set = getD (s .queue .receivers) 0 0;
+      sent = s .delivery .sent;
+      reached = s .delivery .reached;
+      due = s .due;
+    }
+    → (x ≡ sendingOf s (nextDataStep 32 s store out)) × (out ≡ outputAfter out (nextDataStep 32 s store out))
+sending-kept s store out a x h e q =
+    let j = e ∙ send-refused s store out (λ z. h (e ∙ z)) in
+    rw (step-refused 32 [] (length out) nextData s store a h (sym j), ne-eqb a done h) (q, refl)
+
+-- an accepted call found a record to send and a server to send it to
+next-facts : (s : State) (store out : List ℕ) → answer 32 [] (length out) nextData s store ≡ done → SendFacts s store
+unfolding answer checks
+next-facts s store out e =
+    let p = passed ((unsoundState when not (soundFor nextData s store)) ∷ checks 32 [] (length out) nextData s store) tt e in
+    let both = not-false (sound s && eqb (length store) (s .capacity)) (p .0) in
+    record {
+      isSound = and-left (sound s) _ both;
+      stored = eqb-true (length store) (s .capacity) (and-right (sound s) _ both);
+      some = p .1 .0;
+      more = leb-false (s .queue .count) (s .delivery .sent) (p .1 .1 .0);
+    }
+
+-- the entries after sending
+sent-entries : (a : Active) (q : Queue) (i : ℕ) → set (q .receivers) i (markedSet a (getD (q .receivers) i 0)) ≡ markedFor a q i .receivers
+unfolding marked
+sent-entries Nobody q i = set-getD (q .receivers) i 0
+sent-entries (Server v) q i = refl
+
+sent-queue : (a : Active) (q : Queue) (i : ℕ)
+    → _≡_ {A = Queue} (record { count = q .count; lengths = q .lengths; templates = q .templates; receivers = markedFor a q i .receivers }) (markedFor a q i)
+unfolding marked
+sent-queue Nobody q i = refl
+sent-queue (Server v) q i = refl
+
+module _ (s : State) (store out : List ℕ) where
+  -- an outcome's change is made to one of the 64 entries
+  pub sending-place : sendingOf s (nextDataStep 32 s store out) .place < 64
+  sending-place = go (eqb (answer 32 [] (length out) nextData s store) done) refl
+    where
+      go : (b : Bool) → eqb (answer 32 [] (length out) nextData s store) done ≡ b → sendingOf s (nextDataStep 32 s store out) .place < 64
+      go true q =
+          let e = eqb-true (answer 32 [] (length out) nextData s store) done q in
+          let f = next-facts s store out e in
+          let n = sound-facts s (f .isSound) .numbers in
+          rw (step-done 32 [] (length out) nextData s store e) (omega (arith, f .more, n .few))
+      go false q = rw (step-refused 32 [] (length out) nextData s store _ (eqb-false (answer 32 [] (length out) nextData s store) done q) refl, q) (omega arith)
+
+  -- the state with an outcome's change is the outcome's
+  pub sending-applied : _≡_ {A = Wrote}
+      (record {
+        answer = sendingOf s (nextDataStep 32 s store out) .answer;
+        written = sendingOf s (nextDataStep 32 s store out) .written;
+        state = withSent s (sendingOf s (nextDataStep 32 s store out));
+      })
+      (wroteOf (nextDataStep 32 s store out))
+  unfolding after sentOne
+  sending-applied = go (eqb (answer 32 [] (length out) nextData s store) done) refl
+    where
+      applied : Outcome → Wrote
+      applied o =
+          record {
+            answer = sendingOf s o .answer;
+            written = sendingOf s o .written;
+            state = withSent s (sendingOf s o);
+          }
+
+      go : (b : Bool) → eqb (answer 32 [] (length out) nextData s store) done ≡ b → applied (nextDataStep 32 s store out) ≡ wroteOf (nextDataStep 32 s store out)
+      go true q =
+          let e = eqb-true (answer 32 [] (length out) nextData s store) done q in
+          let k = next-facts s store out e .isSound in
+          rw (
+            step-done 32 [] (length out) nextData s store e,
+            settled-same (after 32 nextData s) (sound-facts s k .choice),
+            sent-entries (s .delivery .active) (s .queue) (s .delivery .sent),
+            sent-queue (s .delivery .active) (s .queue) (s .delivery .sent),
+          )
+      go false q =
+          rw (
+            step-refused 32 [] (length out) nextData s store _ (eqb-false (answer 32 [] (length out) nextData s store) done q) refl,
+            q,
+            set-getD (s .queue .receivers) 0 0,
+          )

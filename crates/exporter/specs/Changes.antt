@@ -1,18 +1,29 @@
--- What the code computes on the way to a step (01, "Exporter"): what a call changes of a state besides its queue, and what put judges.
--- Assumes nothing.
-use Prim.Native.Nat.{ℕ, _<_}
-use mathlib.Core.Bool.{Bool, _||_}
-use mathlib.Core.List.{[]}
-use lib.ListN.{length}
-use Rattle.octets.specs.Answers.{done}
-use Rattle.exporter.specs.Servers.{changed, settle}
+-- What the code computes on the way to a step (01, "Exporter"): what each call changes of a state, as a small value, and the state with
+-- that change. Assumes nothing.
+use mathlib.Core.Path.{_≡_}
+use Prim.Native.Nat.{ℕ, _+_, _<_}
+use mathlib.Core.Bool.{Bool, true, false, not, _||_, cond}
+use mathlib.Core.List.{List, []}
+use lib.Dec.{eqb, ltb}
+use lib.ListN.{length, getD, set}
+use Rattle.octets.specs.Answers.{done, unsoundState}
+use Rattle.exporter.specs.Servers.{server, choose, chosen, isNobody, changed, settle, withCounts}
+use Rattle.exporter.specs.Queue.{with}
+use Rattle.exporter.specs.Sound.{sound}
 use Rattle.exporter.specs.Steps.{Outcome}
 use Rattle.exporter.specs.declared.change.Change.{Change}
+use Rattle.exporter.specs.declared.next_data.Sending.{Sending}
+use Rattle.exporter.specs.declared.put.Putting.{Putting}
+use Rattle.exporter.specs.declared.tick.Clock.{Clock}
+use Rattle.exporter.specs.declared.state.Phase.the-variants.{Late}
+use Rattle.exporter.specs.declared.state.Server as serverOf
 use Rattle.exporter.specs.declared.state.Active.{Active}
 use Rattle.exporter.specs.declared.state.Active.the-variants as active
 use Rattle.exporter.specs.declared.state.Settings.{Settings}
 use Rattle.exporter.specs.declared.state.Delivery.{Delivery}
 use Rattle.exporter.specs.declared.state.State.{State}
+
+-- ---- calls that change a state's delivery and S
 
 -- The change of an accepted call: the choice made once more.
 abbrev pub settledChange : Settings → Delivery → Bool → ℕ → Change
@@ -37,3 +48,145 @@ appliedTo s c =
 abbrev pub Below : ℕ → Active → Type 0
 Below n active.Nobody = Unit {0}
 Below n (active.Server v) = v < n
+
+-- The active server's number, 0 for nobody.
+abbrev pub numberOf : Active → ℕ
+numberOf active.Nobody = 0
+numberOf (active.Server v) = v
+
+-- ---- ticks
+
+-- What a sound state's delivery is known by: its timer runs, and the active server is the one to be chosen.
+abbrev pub Steady : Bool → Settings → Delivery → Type 0
+Steady sound p d = sound ≡ true → (d .timer < p .duration) × (d .active ≡ chosen p d)
+
+-- The clock of an active server: 0 below the threshold, and again where the duration has passed.
+abbrev pub runningClock : Settings → Delivery → Clock
+runningClock p d =
+    cond (ltb (d .reached) (p .threshold)) (record { timer = 0; expired = false })
+    (cond (eqb (d .timer + 1) (p .duration)) (record { timer = 0; expired = true }) (record { timer = d .timer + 1; expired = false }))
+
+-- The clock after a tick of a sound state, by the server that is active.
+abbrev pub clockFor : Settings → Delivery → Active → Clock
+clockFor p d active.Nobody = record { timer = 0; expired = false }
+clockFor p d (active.Server v) = runningClock p d
+
+-- The clock after a tick.
+abbrev pub clockOf : Bool → Settings → Delivery → Clock
+clockOf sound p d = cond sound (clockFor p d (d .active)) (record { timer = d .timer; expired = false })
+
+-- What a tick changes by the clock after it, where `choice` is made among `late` servers.
+abbrev pub turnedTo : Bool → Delivery → Bool → Clock → List serverOf.Server → Active → Change
+turnedTo sound d due k late choice =
+    let switched = not (isNobody choice) in
+    record {
+      answer = cond sound done unsoundState;
+      written = 0;
+      delivery = record {
+        servers = cond switched late (d .servers);
+        active = cond switched choice (d .active);
+        sent = cond (k .expired) 0 (d .sent);
+        reached = cond switched 0 (d .reached);
+        timer = k .timer;
+      };
+      due = switched || due;
+    }
+
+-- The servers with the active one late.
+abbrev pub lateActive : Delivery → List serverOf.Server
+lateActive d = set (d .servers) (numberOf (d .active)) (server Late)
+
+-- What a tick changes by the clock after it: only where the timer has run out there is a choice to make.
+abbrev pub turnedBy : Bool → Settings → Delivery → Bool → Clock → Change
+turnedBy sound p d due k = turnedTo sound d due k (lateActive d) (choose (p .priorities) (lateActive d) (cond (k .expired) (p .servers) 0))
+
+-- ---- put and next data
+
+-- A state, by its parts.
+abbrev pub stateOf : Settings → ℕ → Delivery → Bool → ℕ → List ℕ → List ℕ → List ℕ → ℕ → ℕ → State
+stateOf p capacity d due count lengths templates receivers start next =
+    record {
+      settings = p;
+      capacity = capacity;
+      delivery = d;
+      due = due;
+      queue = record { count = count; lengths = lengths; templates = templates; receivers = receivers };
+      start = start;
+      next = next;
+    }
+
+-- What putting a record changes, of its outcome: where it is refused, what stood in the first entries stands there still.
+abbrev pub puttingOf : State → ℕ → List ℕ → Outcome → Putting
+puttingOf s id r o =
+    let accepted = eqb (o .answer) done in
+    record {
+      answer = o .answer;
+      place = cond accepted (s .queue .count) 0;
+      len = cond accepted (length r) (getD (s .queue .lengths) 0 0);
+      template = cond accepted id (getD (s .queue .templates) 0 0);
+      set = cond accepted 0 (getD (s .queue .receivers) 0 0);
+      count = o .state .queue .count;
+      next = o .state .next;
+    }
+
+-- The state with such a change.
+abbrev pub withPut : State → Putting → State
+withPut s c =
+    record {
+      settings = s .settings;
+      capacity = s .capacity;
+      delivery = s .delivery;
+      due = s .due;
+      queue = record {
+        count = c .count;
+        lengths = set (s .queue .lengths) (c .place) (c .len);
+        templates = set (s .queue .templates) (c .place) (c .template);
+        receivers = set (s .queue .receivers) (c .place) (c .set);
+      };
+      start = s .start;
+      next = c .next;
+    }
+
+-- A set of servers with the active one.
+abbrev pub markedSet : Active → ℕ → ℕ
+markedSet active.Nobody m = m
+markedSet (active.Server v) m = with m v
+
+-- There is a record to send and a server to send it to, and the lent store is that of the state.
+pub record SendFacts (s : State) (store : List ℕ) : Type 0 where
+  pub isSound : sound s ≡ true
+  pub stored : length store ≡ s .capacity
+  pub some : isNobody (s .delivery .active) ≡ false
+  pub more : s .delivery .sent < s .queue .count
+
+-- What sending the next record changes, of its outcome: where it is refused, the set of the first record stays.
+abbrev pub sendingOf : State → Outcome → Sending
+sendingOf s o =
+    let accepted = eqb (o .answer) done in
+    record {
+      answer = o .answer;
+      written = length (o .written);
+      place = cond accepted (s .delivery .sent) 0;
+      set = cond accepted (markedSet (s .delivery .active) (getD (s .queue .receivers) (s .delivery .sent) 0)) (getD (s .queue .receivers) 0 0);
+      sent = o .state .delivery .sent;
+      reached = o .state .delivery .reached;
+      due = o .state .due;
+    }
+
+-- The state with such a change.
+abbrev pub withSent : State → Sending → State
+withSent s c =
+    record {
+      settings = s .settings;
+      capacity = s .capacity;
+      delivery = withCounts (s .delivery) (c .sent) (c .reached) (s .delivery .timer);
+      due = c .due;
+      queue = record {
+        count = s .queue .count;
+        lengths = s .queue .lengths;
+        templates = s .queue .templates;
+        receivers = set (s .queue .receivers) (c .place) (c .set);
+      };
+      start = s .start;
+      next = s .next;
+    }

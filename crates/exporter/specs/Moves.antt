@@ -8,7 +8,7 @@ use Rattle.octets.specs.Answers.{done}
 use Rattle.wire.specs.Table.{tableSound}
 use Rattle.wire.specs.declared.message.Reading.{Reading}
 use Rattle.wire.specs.declared.message.Reading.the-variants as reading
-use Rattle.exporter.specs.Servers.{Transition, start, stop, negotiate, offer, down, agree, malformed}
+use Rattle.exporter.specs.Servers.{withCounts, Transition, start, stop, negotiate, offer, down, agree, malformed}
 use Rattle.exporter.specs.Steps.{Call, ack, move, callOfMessage, Outcome}
 use Rattle.exporter.specs.Queue.{dropFront}
 use Rattle.exporter.specs.declared.acknowledge.AckChange.{AckChange}
@@ -67,8 +67,9 @@ ackChangeOf n o =
       answer = o .answer;
       released = cond (eqb (o .answer) done) n 0;
       start = o .state .start;
-      delivery = o .state .delivery;
-      due = o .state .due;
+      sent = o .state .delivery .sent;
+      reached = o .state .delivery .reached;
+      timer = o .state .delivery .timer;
     }
 
 -- The state with such a change.
@@ -77,8 +78,8 @@ releasedFrom s c =
     record {
       settings = s .settings;
       capacity = s .capacity;
-      delivery = c .delivery;
-      due = c .due;
+      delivery = withCounts (s .delivery) (c .sent) (c .reached) (c .timer);
+      due = s .due;
       queue = dropFront (s .queue) (c .released);
       start = c .start;
       next = s .next;

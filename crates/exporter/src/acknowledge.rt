@@ -1,11 +1,10 @@
 // DATA ACK: a server acknowledges records, which are released from the front of the queue.
 ghost use mathlib.Core.Path.{_≡_};
-ghost use mathlib.Core.Bool.{_||_};
 ghost use mathlib.Core.List.{[]};
 ghost use Prim.Native.Nat.{_+_, _%_, _≤_, _<_};
 ghost use lib.ListN.{take};
 ghost use Rattle.octets.specs.Answers.{judge, done};
-ghost use Rattle.exporter.specs.Servers.{acknowledged, changed, settle};
+ghost use Rattle.exporter.specs.Servers.{acknowledged};
 ghost use Rattle.exporter.specs.Queue.{sumOf, dropFront};
 ghost use Rattle.exporter.specs.Sound.{partsOf};
 ghost use Rattle.exporter.specs.Steps.{ack, step, wroteOf, ackCountBy, ackChecks};
@@ -18,13 +17,14 @@ use crate::state::State;
 use crate::state::Wrote;
 use octets::Answer;
 
-// A DATA ACK's answer, how many records it releases, and what it leaves of the ring's start, the delivery and S.
+// A DATA ACK's answer, how many records it releases, and what it leaves of the ring's start and of the delivery's counters.
 pub(crate) struct AckChange {
     pub answer: u8,
     pub released: usize,
     pub start: usize,
-    pub delivery: Delivery,
-    pub due: bool,
+    pub sent: usize,
+    pub reached: usize,
+    pub timer: u16,
 }
 
 // How many records a DATA ACK of this DSN names from the front of the queue. The first held DSN is `count` before the next one; DSNs
@@ -59,46 +59,45 @@ fn ack_answer(p: Settings, d: Delivery, v: u8, config: u8, n: usize) -> u8
 }
 
 // What a refused DATA ACK changes: nothing.
-fn refuse_ack(answer: u8, d: Delivery, due: bool, start: usize) -> AckChange
-    ensures { λ r. ⌜ r ≡ record { answer = answer; released = 0; start = start; delivery = d; due = due } ⌝ }
+fn refuse_ack(answer: u8, d: Delivery, start: usize) -> AckChange
+    ensures { λ r. ⌜ r ≡ record { answer = answer; released = 0; start = start; sent = d .sent; reached = d .reached; timer = d .timer } ⌝ }
 {
     AckChange {
         answer,
         released: 0,
         start,
-        delivery: d,
-        due,
+        sent: d.sent,
+        reached: d.reached,
+        timer: d.timer,
     }
 }
 
-// What a DATA ACK changes that releases n records: their octets are free, and the choice is made once more.
+// What a DATA ACK changes that releases n records: their octets are free. The servers stay, and so does the choice.
 fn accept_ack(
-    p: Settings,
     capacity: usize,
     d: Delivery,
-    due: bool,
     lengths: &[u16; 64],
     start: usize,
     n: usize,
 ) -> AckChange
-    requires { ⌜ (n ≤ d .reached) × ((d .reached ≤ 64) × (start < capacity)) × (capacity ≤ 65536) ⌝ }
+    requires { ⌜ (n ≤ d .reached) × ((d .reached ≤ 64) × ((start < capacity) × ((capacity ≤ 65536) × (sumOf (take n (now lengths)) ≤ capacity)))) ⌝ }
     ensures { λ r. ⌜ r ≡ record {
       answer = done;
       released = n;
       start = (start + sumOf (take n (now (lengths .entry)))) % capacity;
-      delivery = settle p (acknowledged n d);
-      due = changed p (acknowledged n d) || due;
+      sent = acknowledged n d .sent;
+      reached = acknowledged n d .reached;
+      timer = acknowledged n d .timer;
     } ⌝ }
 {
     let moved = crate::servers::acknowledge_delivery(d, n);
-    let delivery = crate::servers::settle_delivery(p, moved);
-    let octets = crate::queue::octets_to(lengths, n) as usize;
     AckChange {
         answer: Answer::DONE,
         released: n,
-        start: (start + octets) % capacity,
-        delivery,
-        due: crate::servers::is_changed(p, moved) | due,
+        start: crate::next_data::place_of(capacity, start, lengths, n),
+        sent: moved.sent,
+        reached: moved.reached,
+        timer: moved.timer,
     }
 }
 
@@ -121,14 +120,14 @@ fn ack_change<'a>(
         (step 32 [] 0 (ack v dsn config) (withNext (partsOf p capacity d due count (now (lengths .entry)) (now (receivers .entry)) start) next) []) ⌝ }
 {
     if !crate::sound::parts_sound(p, capacity, d, due, count, lengths, receivers, start) {
-        return refuse_ack(Answer::UNSOUND_STATE, d, due, start);
+        return refuse_ack(Answer::UNSOUND_STATE, d, start);
     }
     let n = ack_count(next, count, dsn) as usize;
     let answer = ack_answer(p, d, v, config, n);
     if answer != Answer::DONE {
-        return refuse_ack(answer, d, due, start);
+        return refuse_ack(answer, d, start);
     }
-    accept_ack(p, capacity, d, due, lengths, start, n)
+    accept_ack(capacity, d, lengths, start, n)
 }
 
 // The queue without its first n records.
@@ -159,14 +158,17 @@ pub(crate) fn acknowledge(s: State, v: u8, dsn: u32, config: u8) -> Wrote
 {
     let p = s.settings;
     let d = s.delivery;
+    let lengths = s.queue.lengths;
+    let templates = s.queue.templates;
+    let receivers = s.queue.receivers;
     let change = ack_change(
         p,
         s.capacity,
         d,
         s.due,
         s.queue.count,
-        &s.queue.lengths,
-        &s.queue.receivers,
+        &lengths,
+        &receivers,
         s.start,
         s.next,
         v,
@@ -175,15 +177,15 @@ pub(crate) fn acknowledge(s: State, v: u8, dsn: u32, config: u8) -> Wrote
     );
     let queue = release_queue(
         s.queue.count,
-        &s.queue.lengths,
-        &s.queue.templates,
-        &s.queue.receivers,
+        &lengths,
+        &templates,
+        &receivers,
         change.released,
     );
-    let delivery = change.delivery;
     let mut state = s;
-    state.delivery = delivery;
-    state.due = change.due;
+    state.delivery.sent = change.sent;
+    state.delivery.reached = change.reached;
+    state.delivery.timer = change.timer;
     state.queue = queue;
     state.start = change.start;
     Wrote {

@@ -1,18 +1,18 @@
 // Sending the next record of the queue.
 ghost use mathlib.Core.Path.{_≡_};
 ghost use mathlib.Core.List.{[], _∷_};
-ghost use mathlib.Core.Bool.{true, false, not, _&&_};
-ghost use Prim.Native.Nat.{_+_, _-_, _%_, _≤_, _<_};
+ghost use mathlib.Core.Bool.{false, not, _&&_};
+ghost use Prim.Native.Nat.{_+_, _-_, _%_, _≤_, _<_, max};
 ghost use lib.Dec.{eqb, leb};
 ghost use lib.ListN.{length, take};
-ghost use Rattle.octets.specs.Answers.{_when_, judge, unsoundState, noActiveServer, nothingToSend};
+ghost use Rattle.octets.specs.Answers.{_when_, judge, done, unsoundState, noActiveServer, nothingToSend};
 ghost use Rattle.wire.specs.Messages.{Placed, layoutOf};
 ghost use Rattle.wire.specs.declared.message.Message.the-variants.{Data};
-ghost use Rattle.exporter.specs.Servers.{isNobody, sentOne};
+ghost use Rattle.exporter.specs.Servers.{isNobody};
 ghost use Rattle.exporter.specs.Queue.{sumOf, ringRead};
 ghost use Rattle.exporter.specs.Sound.{partsOf, sound};
-ghost use Rattle.exporter.specs.Changes.{Below};
-ghost use Rattle.exporter.specs.Steps.{isDuplicate, headOf, markedFor, nextData, after, settled, nextDataStep, wroteOf, outputAfter};
+ghost use Rattle.exporter.specs.Changes.{Below, markedSet, SendFacts, stateOf, sendingOf};
+ghost use Rattle.exporter.specs.Steps.{isDuplicate, headOf, nextDataStep, wroteOf, outputAfter};
 use crate::state::Active;
 use crate::state::Delivery;
 use crate::state::Queue;
@@ -22,6 +22,18 @@ use crate::state::Wrote;
 use octets::Answer;
 use wire::message::DataHead;
 use wire::message::Written;
+
+// A sending's answer, how many octets it wrote, the place of its record with the set of servers that this was sent to, and what it leaves
+// of the delivery's counters and S.
+pub(crate) struct Sending {
+    pub answer: u8,
+    pub written: usize,
+    pub place: usize,
+    pub set: u16,
+    pub sent: usize,
+    pub reached: usize,
+    pub due: bool,
+}
 
 // 0 where there is a record to send and a server to send it to, by the parts of the state that soundness looks at and the length of the
 // lent store; else 1, 13 or 14.
@@ -75,22 +87,27 @@ fn dsn_at(next: u32, count: usize, i: usize) -> u32
 }
 
 // The head of the next DATA.
-fn next_head(s: State) -> DataHead
-    requires { ⌜ (s .queue .count ≤ 64) × (s .delivery .sent < 64) ⌝ }
-    ensures { λ r. ⌜ r ≡ headOf 32 s ⌝ }
+fn next_head<'a>(
+    p: Settings,
+    d: Delivery,
+    due: bool,
+    count: usize,
+    templates: &'a [u16; 64],
+    receivers: &'a [u16; 64],
+    next: u32,
+) -> DataHead
+    requires { ⌜ (count ≤ 64) × (d .sent < 64) ⌝ }
+    ensures { λ r. ⌜ r ≡ headOf 32 (stateOf p 0 d due count [] (now (templates .entry)) (now (receivers .entry)) 0 next) ⌝ }
 {
-    let p = s.settings;
-    let d = s.delivery;
-    let q = s.queue;
     let active = d.active;
     let i = d.sent;
     DataHead {
         session: p.session,
-        template: q.templates[i],
+        template: templates[i],
         config: p.config,
-        first: s.due,
-        duplicate: is_duplicate(p, active, q.receivers[i]),
-        dsn: dsn_at(s.next, q.count, i),
+        first: due,
+        duplicate: is_duplicate(p, active, receivers[i]),
+        dsn: dsn_at(next, count, i),
     }
 }
 
@@ -109,38 +126,8 @@ fn write_record(head: DataHead, store: &[u8], at: usize, len: usize, out: &mut [
     }
 }
 
-// The queue with the record at a place sent to the active server.
-fn mark(q: Queue, active: Active, i: usize) -> Queue
-    requires { ⌜ (i < 64) × Below 8 active ⌝ }
-    ensures { λ r. ⌜ r ≡ markedFor active q i ⌝ }
-{
-    match active {
-        Active::Nobody => q,
-        Active::Server(v) => {
-            let mut sent = q;
-            let set = q.receivers[i];
-            sent.receivers[i] = crate::queue::with_server(set, v);
-            sent
-        }
-    }
-}
-
-// The delivery with one more record sent.
-fn send_one(d: Delivery) -> Delivery
-    requires { ⌜ d .sent < 64 ⌝ }
-    ensures { λ r. ⌜ r ≡ sentOne d ⌝ }
-{
-    let mut sent = d;
-    let n = d.sent + 1;
-    sent.sent = n;
-    if d.reached < n {
-        sent.reached = n;
-    }
-    sent
-}
-
 // The place in the store where the record at place i of the queue begins.
-fn place_of(capacity: usize, start: usize, lengths: &[u16; 64], i: usize) -> usize
+pub(crate) fn place_of(capacity: usize, start: usize, lengths: &[u16; 64], i: usize) -> usize
     requires { ⌜ (start < capacity) × ((capacity ≤ 65536) × ((i ≤ 64) × (sumOf (take i (now lengths)) ≤ capacity))) ⌝ }
     ensures { λ r. ⌜ r ≡ (start + sumOf (take i (now (lengths .entry)))) % capacity ⌝ }
 {
@@ -151,44 +138,144 @@ fn place_of(capacity: usize, start: usize, lengths: &[u16; 64], i: usize) -> usi
     at - capacity
 }
 
-// The state after the next record was sent.
-fn advance(s: State) -> State
-    requires { ⌜ (sound s ≡ true) × (s .delivery .sent < s .queue .count) ⌝ }
-    ensures { λ r. ⌜ r ≡ settled (after 32 nextData s) ⌝ }
+// A set of servers with the active one.
+fn marked_set(active: Active, set: u16) -> u16
+    requires { ⌜ Below 8 active ⌝ }
+    ensures { λ r. ⌜ r ≡ markedSet active set ⌝ }
 {
-    let d = s.delivery;
-    let active = d.active;
-    let mut next = s;
-    next.queue = mark(s.queue, active, d.sent);
-    next.delivery = send_one(d);
-    next.due = false;
-    next
+    match active {
+        Active::Nobody => set,
+        Active::Server(v) => crate::queue::with_server(set, v),
+    }
 }
 
-// Writes the next record as DATA to the output, if there is room for it.
-fn send(s: State, store: &[u8], out: &mut [u8]) -> Wrote
-    requires { ⌜ (sound s ≡ true) × ((length (now store) ≡ s .capacity) × ((isNobody (s .delivery .active) ≡ false) × (s .delivery .sent < s .queue .count))) ⌝ }
-    ensures { λ r. ⌜ (r ≡ wroteOf (nextDataStep 32 s (now (store .entry)) (now (out .entry))))
-        × (now (out .exit) ≡ outputAfter (now (out .entry)) (nextDataStep 32 s (now (store .entry)) (now (out .entry)))) ⌝ }
+// The larger of two numbers.
+fn larger(a: usize, b: usize) -> usize
+    ensures { λ r. ⌜ r ≡ max a b ⌝ }
 {
-    let q = s.queue;
-    let i = s.delivery.sent;
-    let at = place_of(s.capacity, s.start, &q.lengths, i);
-    let len = q.lengths[i] as usize;
-    let head = next_head(s);
+    if a < b {
+        return b;
+    }
+    a
+}
+
+// What a refused sending changes: nothing. The set of the first record stays as it is.
+fn refuse_sending(answer: u8, d: Delivery, due: bool, set: u16) -> Sending
+    ensures { λ r. ⌜ r ≡ record { answer = answer; written = 0; place = 0; set = set; sent = d .sent; reached = d .reached; due = due } ⌝ }
+{
+    Sending {
+        answer,
+        written: 0,
+        place: 0,
+        set,
+        sent: d.sent,
+        reached: d.reached,
+        due,
+    }
+}
+
+// What a sending of n octets changes: one more record was sent, and its set has the active server.
+fn accept_sending(d: Delivery, set: u16, n: usize) -> Sending
+    requires { ⌜ (d .sent < 64) × Below 8 (d .active) ⌝ }
+    ensures { λ r. ⌜ r ≡ record { answer = done; written = n; place = d .sent; set = markedSet (d .active) set; sent = d .sent + 1; reached = max (d .reached) (d .sent + 1); due = false } ⌝ }
+{
+    let active = d.active;
+    let i = d.sent;
+    Sending {
+        answer: Answer::DONE,
+        written: n,
+        place: i,
+        set: marked_set(active, set),
+        sent: i + 1,
+        reached: larger(d.reached, i + 1),
+        due: false,
+    }
+}
+
+// A length as a number of octets.
+fn octets_in(len: u16) -> usize
+    ensures { λ r. ⌜ r ≡ len ⌝ }
+{
+    len as usize
+}
+
+// Writes the record at place "sent" as DATA to the output, if there is room for it.
+fn send<'a, 'b>(
+    p: Settings,
+    capacity: usize,
+    d: Delivery,
+    due: bool,
+    count: usize,
+    lengths: &'a [u16; 64],
+    templates: &'a [u16; 64],
+    receivers: &'a [u16; 64],
+    start: usize,
+    next: u32,
+    store: &'b [u8],
+    out: &mut [u8],
+) -> Sending
+    requires { ⌜ SendFacts (stateOf p capacity d due count (now lengths) (now templates) (now receivers) start next) (now store) ⌝ }
+    ensures { λ r. ⌜ (r ≡ sendingOf (stateOf p capacity d due count (now (lengths .entry)) (now (templates .entry)) (now (receivers .entry)) start next) (nextDataStep 32 (stateOf p capacity d due count (now (lengths .entry)) (now (templates .entry)) (now (receivers .entry)) start next) (now (store .entry)) (now (out .entry))))
+        × (now (out .exit) ≡ outputAfter (now (out .entry)) (nextDataStep 32 (stateOf p capacity d due count (now (lengths .entry)) (now (templates .entry)) (now (receivers .entry)) start next) (now (store .entry)) (now (out .entry)))) ⌝ }
+{
+    let i = d.sent;
+    let at = place_of(capacity, start, lengths, i);
+    let len = octets_in(lengths[i]);
+    let head = next_head(p, d, due, count, templates, receivers, next);
     let written = write_record(head, store, at, len, out);
     match written {
-        Written::Octets(n) => Wrote {
-            answer: Answer::DONE,
-            written: n,
-            state: advance(s),
-        },
-        Written::Refused(a) => Wrote {
-            answer: a,
-            written: 0,
-            state: s,
-        },
+        Written::Octets(n) => accept_sending(d, receivers[i], n),
+        Written::Refused(a) => refuse_sending(a, d, due, receivers[0]),
     }
+}
+
+// What sending the next record answers and changes, by the parts of a state.
+fn next_change<'a, 'b>(
+    p: Settings,
+    capacity: usize,
+    d: Delivery,
+    due: bool,
+    count: usize,
+    lengths: &'a [u16; 64],
+    templates: &'a [u16; 64],
+    receivers: &'a [u16; 64],
+    start: usize,
+    next: u32,
+    store: &'b [u8],
+    out: &mut [u8],
+) -> Sending
+    ensures { λ r. ⌜ (r ≡ sendingOf (stateOf p capacity d due count (now (lengths .entry)) (now (templates .entry)) (now (receivers .entry)) start next) (nextDataStep 32 (stateOf p capacity d due count (now (lengths .entry)) (now (templates .entry)) (now (receivers .entry)) start next) (now (store .entry)) (now (out .entry))))
+        × (now (out .exit) ≡ outputAfter (now (out .entry)) (nextDataStep 32 (stateOf p capacity d due count (now (lengths .entry)) (now (templates .entry)) (now (receivers .entry)) start next) (now (store .entry)) (now (out .entry)))) ⌝ }
+{
+    let stored = store.len();
+    let answer = send_answer(
+        p,
+        capacity,
+        d,
+        due,
+        count,
+        lengths,
+        receivers,
+        start,
+        stored,
+    );
+    if answer != Answer::DONE {
+        return refuse_sending(answer, d, due, receivers[0]);
+    }
+    send(
+        p,
+        capacity,
+        d,
+        due,
+        count,
+        lengths,
+        templates,
+        receivers,
+        start,
+        next,
+        store,
+        out,
+    )
 }
 
 // Writes the record at place "sent" of the queue as DATA for the active server to the output. Refused with 1, 13, 14 or 12.
@@ -198,23 +285,39 @@ pub fn next_data(s: State, store: &[u8], out: &mut [u8]) -> Wrote
 {
     let p = s.settings;
     let d = s.delivery;
-    let answer = send_answer(
+    let lengths = s.queue.lengths;
+    let templates = s.queue.templates;
+    let mut receivers = s.queue.receivers;
+    let change = next_change(
         p,
         s.capacity,
         d,
         s.due,
         s.queue.count,
-        &s.queue.lengths,
-        &s.queue.receivers,
+        &lengths,
+        &templates,
+        &receivers,
         s.start,
-        store.len(),
+        s.next,
+        store,
+        out,
     );
-    if answer != Answer::DONE {
-        return Wrote {
-            answer,
-            written: 0,
-            state: s,
-        };
+    let place = change.place;
+    receivers[place] = change.set;
+    let queue = Queue {
+        count: s.queue.count,
+        lengths,
+        templates,
+        receivers,
+    };
+    let mut state = s;
+    state.delivery.sent = change.sent;
+    state.delivery.reached = change.reached;
+    state.due = change.due;
+    state.queue = queue;
+    Wrote {
+        answer: change.answer,
+        written: change.written,
+        state,
     }
-    send(s, store, out)
 }

@@ -1,14 +1,14 @@
 // Putting a record into the queue.
 ghost use mathlib.Core.Path.{_≡_};
 ghost use mathlib.Core.List.{[], _∷_, _++_};
-ghost use mathlib.Core.Bool.{true, not, _&&_};
-ghost use Prim.Native.Nat.{_≤_, _<_};
+ghost use mathlib.Core.Bool.{not, _&&_};
+ghost use Prim.Native.Nat.{_≤_};
 ghost use lib.Dec.{eqb};
 ghost use lib.ListN.{length};
 ghost use Rattle.octets.specs.Answers.{_when_, judge, unsoundState};
-ghost use Rattle.exporter.specs.Queue.{pushed};
 ghost use Rattle.exporter.specs.Sound.{partsOf, sound};
-ghost use Rattle.exporter.specs.Steps.{put, after, settled, storeAfter, putStep, steppedOf, recordChecks, roomChecks};
+ghost use Rattle.exporter.specs.Changes.{stateOf, puttingOf};
+ghost use Rattle.exporter.specs.Steps.{putStep, steppedOf, recordChecks, roomChecks};
 use crate::queue::MAX_HELD;
 use crate::queue::MAX_RECORD_OCTETS;
 use crate::state::Delivery;
@@ -17,6 +17,17 @@ use crate::state::Settings;
 use crate::state::State;
 use crate::state::Stepped;
 use octets::Answer;
+
+// A put's answer, the place of its entries and what stands there, and what it leaves of the count and the next DSN.
+pub(crate) struct Putting {
+    pub answer: u8,
+    pub place: usize,
+    pub len: u16,
+    pub template: u16,
+    pub set: u16,
+    pub count: usize,
+    pub next: u32,
+}
 
 // 0 for a valid record of at most 1,024 octets under the session's table, else 21, 15, 17 or 16.
 fn record_answer(p: Settings, table: &[u8], id: u16, r: &[u8]) -> u8
@@ -85,33 +96,70 @@ fn put_answer<'a, 'b, 'c>(
     room_answer(capacity, count, lengths, r)
 }
 
-// The queue with one more record, which nobody was sent.
-fn push(q: Queue, id: u16, len: u16) -> Queue
-    requires { ⌜ q .count < 64 ⌝ }
-    ensures { λ r. ⌜ r ≡ pushed q id len ⌝ }
+// What a refused put changes: nothing. The first entries stay as they are.
+fn refuse_put(answer: u8, count: usize, len: u16, template: u16, set: u16, next: u32) -> Putting
+    ensures { λ x. ⌜ x ≡ record { answer = answer; place = 0; len = len; template = template; set = set; count = count; next = next } ⌝ }
 {
-    let count = q.count;
-    let mut longer = q;
-    longer.lengths[count] = len;
-    longer.templates[count] = id;
-    longer.receivers[count] = 0;
-    longer.count = count + 1;
-    longer
+    Putting {
+        answer,
+        place: 0,
+        len,
+        template,
+        set,
+        count,
+        next,
+    }
 }
 
-// The state after a record that can be put, and its octets in the store.
-fn accept(s: State, store: &mut [u8], id: u16, r: &[u8]) -> State
-    requires { ⌜ (sound s ≡ true) × ((length (now store) ≡ s .capacity) × ((s .queue .count < 64) × (length (now r) ≤ 1024))) ⌝ }
-    ensures { λ x. ⌜ (x ≡ settled (after 32 (put id (now (r .entry))) s)) × (now (store .exit) ≡ storeAfter (put id (now (r .entry))) s (now (store .entry))) ⌝ }
+// What putting a record answers and changes, by the parts of a state; the octets of an accepted one follow the held ones in the store.
+fn put_change<'a, 'b, 'c>(
+    p: Settings,
+    capacity: usize,
+    d: Delivery,
+    due: bool,
+    count: usize,
+    lengths: &'a [u16; 64],
+    templates: &'a [u16; 64],
+    receivers: &'a [u16; 64],
+    start: usize,
+    next: u32,
+    store: &mut [u8],
+    table: &'b [u8],
+    id: u16,
+    r: &'c [u8],
+) -> Putting
+    ensures { λ x. ⌜ (x ≡ puttingOf (stateOf p capacity d due count (now (lengths .entry)) (now (templates .entry)) (now (receivers .entry)) start next) id (now (r .entry)) (putStep 32 (stateOf p capacity d due count (now (lengths .entry)) (now (templates .entry)) (now (receivers .entry)) start next) (now (store .entry)) (now (table .entry)) id (now (r .entry))))
+        × (now (store .exit) ≡ putStep 32 (stateOf p capacity d due count (now (lengths .entry)) (now (templates .entry)) (now (receivers .entry)) start next) (now (store .entry)) (now (table .entry)) id (now (r .entry)) .store) ⌝ }
 {
-    let count = s.queue.count;
-    let at = s.start + (crate::queue::octets_to(&s.queue.lengths, count) as usize);
+    let stored = store.len();
+    let answer = put_answer(
+        p,
+        capacity,
+        d,
+        due,
+        count,
+        lengths,
+        receivers,
+        start,
+        stored,
+        table,
+        id,
+        r,
+    );
+    if answer != Answer::DONE {
+        return refuse_put(answer, count, lengths[0], templates[0], receivers[0], next);
+    }
+    let at = start + (crate::queue::octets_to(lengths, count) as usize);
     crate::ring::ring_write(store, at, r);
-    let queue = push(s.queue, id, r.len() as u16);
-    let mut next = s;
-    next.queue = queue;
-    next.next = std::num::wrapping_add_u32(s.next, 1);
-    next
+    Putting {
+        answer,
+        place: count,
+        len: r.len() as u16,
+        template: id,
+        set: 0,
+        count: count + 1,
+        next: std::num::wrapping_add_u32(next, 1),
+    }
 }
 
 // Puts a record under a template ID of the lent table: it takes the next DSN, and its octets follow the held ones in the store. Refused with
@@ -122,23 +170,40 @@ pub fn put(s: State, store: &mut [u8], table: &[u8], id: u16, r: &[u8]) -> Stepp
 {
     let p = s.settings;
     let d = s.delivery;
-    let answer = put_answer(
+    let mut lengths = s.queue.lengths;
+    let mut templates = s.queue.templates;
+    let mut receivers = s.queue.receivers;
+    let change = put_change(
         p,
         s.capacity,
         d,
         s.due,
         s.queue.count,
-        &s.queue.lengths,
-        &s.queue.receivers,
+        &lengths,
+        &templates,
+        &receivers,
         s.start,
-        store.len(),
+        s.next,
+        store,
         table,
         id,
         r,
     );
-    if answer != Answer::DONE {
-        return Stepped { answer, state: s };
+    let place = change.place;
+    lengths[place] = change.len;
+    templates[place] = change.template;
+    receivers[place] = change.set;
+    let queue = Queue {
+        count: change.count,
+        lengths,
+        templates,
+        receivers,
+    };
+    let mut state = s;
+    state.queue = queue;
+    state.next = change.next;
+    Stepped {
+        answer: change.answer,
+        state,
     }
-    let state = accept(s, store, id, r);
-    Stepped { answer, state }
 }

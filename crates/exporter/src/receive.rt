@@ -14,6 +14,15 @@ pub fn receive(s: State, v: u8, message: &[u8], out: &mut [u8]) -> Wrote
     let request = crate::decode::decode(p, message);
     match request {
         Request::Ack(dsn, config) => crate::acknowledge::acknowledge(s, v, dsn, config),
-        Request::Move(m) => crate::transition::move_server(s, v, m, &[], out),
+        Request::Move(m) => {
+            let before = s;
+            let left = crate::transition::move_server(before, v, m, &[], out);
+            let state = left.state;
+            Wrote {
+                answer: left.answer,
+                written: left.written,
+                state,
+            }
+        }
     }
 }

@@ -1,10 +1,11 @@
 // Servers: their phases, the choice of the active one, and the steps of a delivery.
 ghost use mathlib.Core.Path.{_≡_};
 ghost use mathlib.Core.Bool.{cond, _&&_};
-ghost use Prim.Native.Nat.{_<_, _≤_};
+ghost use Prim.Native.Nat.{_≤_};
 ghost use mathlib.Core.List.{map};
 ghost use lib.ListN.{getD, set};
-ghost use Rattle.exporter.specs.Servers.{server, phaseAt, isClosed, isOffered, canOffer, isAgreed, restart, beats, choose, sameActive, isNobody, changed, settle, acknowledged, expired, tickedFor, ticked};
+ghost use Rattle.exporter.specs.Servers.{server, phaseAt, isClosed, isOffered, canOffer, isAgreed, restart, beats, choose, sameActive, isNobody, changed, settle, acknowledged};
+ghost use Rattle.exporter.specs.Changes.{numberOf};
 ghost use Rattle.exporter.specs.declared.state.Phase.the-variants.{Closed};
 use crate::state::Active;
 use crate::state::Delivery;
@@ -185,6 +186,16 @@ pub(crate) fn same_active(a: Active, b: Active) -> bool
     }
 }
 
+// The active server's number, 0 for nobody.
+pub(crate) fn number_of(a: Active) -> u8
+    ensures { λ r. ⌜ r ≡ numberOf a ⌝ }
+{
+    match a {
+        Active::Nobody => 0,
+        Active::Server(v) => v,
+    }
+}
+
 // Whether nobody is active.
 pub(crate) fn is_nobody(a: Active) -> bool
     ensures { λ r. ⌜ r ≡ isNobody a ⌝ }
@@ -222,57 +233,6 @@ pub(crate) fn settle_delivery(p: Settings, d: Delivery) -> Delivery
         };
     }
     d
-}
-
-// The timer of the active server has run out: it turns late if another server is agreed, else what was sent is sent again.
-fn expire(p: Settings, v: u8, d: Delivery) -> Delivery
-    ensures { λ r. ⌜ r ≡ expired p v d ⌝ }
-{
-    let priorities = p.priorities;
-    let servers = d.servers;
-    let late = with_phase(servers, v, Phase::Late);
-    let mut next = d;
-    next.timer = 0;
-    if is_nobody(choose_server(priorities, late, p.servers)) {
-        next.sent = 0;
-        return next;
-    }
-    next.servers = late;
-    next
-}
-
-// The delivery after a tick of the active server's timer.
-fn tick_active(p: Settings, v: u8, d: Delivery) -> Delivery
-    requires { ⌜ d .timer < p .duration ⌝ }
-    ensures { λ r. ⌜ r ≡ tickedFor p d (Active.Server v) ⌝ }
-{
-    let mut next = d;
-    if d.reached < p.threshold as usize {
-        next.timer = 0;
-        return next;
-    }
-    let timer = d.timer + 1;
-    if timer == p.duration {
-        return expire(p, v, d);
-    }
-    next.timer = timer;
-    next
-}
-
-// The delivery after a tick.
-pub(crate) fn tick_delivery(p: Settings, d: Delivery) -> Delivery
-    requires { ⌜ d .timer < p .duration ⌝ }
-    ensures { λ r. ⌜ r ≡ ticked p d ⌝ }
-{
-    let active = d.active;
-    match active {
-        Active::Nobody => {
-            let mut next = d;
-            next.timer = 0;
-            next
-        }
-        Active::Server(v) => tick_active(p, v, d),
-    }
 }
 
 // The delivery after a DATA ACK that releases n records.

@@ -1,33 +1,138 @@
 // A tick of the timer.
 ghost use mathlib.Core.Path.{_≡_};
-ghost use Rattle.exporter.specs.Sound.{partsOf};
+ghost use mathlib.Core.Bool.{cond};
+ghost use Prim.Native.Nat.{_<_};
 ghost use Rattle.exporter.specs.Steps.{tickStep, steppedOf};
-ghost use Rattle.exporter.specs.Changes.{changeOf};
+ghost use Rattle.exporter.specs.Changes.{Steady, runningClock, clockOf, turnedBy};
 use crate::change::Change;
+use crate::state::Active;
 use crate::state::Delivery;
+use crate::state::Phase;
+use crate::state::Server;
 use crate::state::Settings;
 use crate::state::State;
 use crate::state::Stepped;
 use octets::Answer;
 
-// What a tick changes, by the parts of a state that soundness looks at.
-fn tick_change<'a>(
-    p: Settings,
-    capacity: usize,
-    d: Delivery,
-    due: bool,
-    count: usize,
-    lengths: &'a [u16; 64],
-    receivers: &'a [u16; 64],
-    start: usize,
-) -> Change
-    ensures { λ r. ⌜ r ≡ changeOf (tickStep 32 (partsOf p capacity d due count (now (lengths .entry)) (now (receivers .entry)) start)) ⌝ }
+// The timer after a tick, and whether it has run out.
+pub(crate) struct Clock {
+    pub timer: u16,
+    pub expired: bool,
+}
+
+// The clock of an active server: 0 below the threshold of records reached, and again where the duration has passed.
+fn run_clock(p: Settings, d: Delivery) -> Clock
+    requires { ⌜ d .timer < p .duration ⌝ }
+    ensures { λ r. ⌜ r ≡ runningClock p d ⌝ }
 {
-    if !crate::sound::parts_sound(p, capacity, d, due, count, lengths, receivers, start) {
-        return crate::change::refuse_change(Answer::UNSOUND_STATE, d, due);
+    if d.reached < p.threshold as usize {
+        return Clock {
+            timer: 0,
+            expired: false,
+        };
     }
-    let ticked = crate::servers::tick_delivery(p, d);
-    crate::change::settle_change(p, ticked, due, 0)
+    let timer = d.timer + 1;
+    if timer == p.duration {
+        return Clock {
+            timer: 0,
+            expired: true,
+        };
+    }
+    Clock {
+        timer,
+        expired: false,
+    }
+}
+
+// The clock after a tick: as it was in a state that is not sound, and 0 while nobody is active.
+fn tick_clock(sound: bool, p: Settings, d: Delivery) -> Clock
+    requires { ⌜ Steady sound p d ⌝ }
+    ensures { λ r. ⌜ r ≡ clockOf sound p d ⌝ }
+{
+    if !sound {
+        return Clock {
+            timer: d.timer,
+            expired: false,
+        };
+    }
+    let active = d.active;
+    if crate::servers::is_nobody(active) {
+        return Clock {
+            timer: 0,
+            expired: false,
+        };
+    }
+    run_clock(p, d)
+}
+
+// One of two sets of servers.
+fn pick_servers(first: bool, x: [Server; 8], y: [Server; 8]) -> [Server; 8]
+    ensures { λ r. ⌜ r ≡ cond first x y ⌝ }
+{
+    if first {
+        return x;
+    }
+    y
+}
+
+// One of two choices.
+fn pick_active(first: bool, x: Active, y: Active) -> Active
+    ensures { λ r. ⌜ r ≡ cond first x y ⌝ }
+{
+    if first {
+        return x;
+    }
+    y
+}
+
+// One of two numbers.
+fn pick_place(first: bool, x: usize, y: usize) -> usize
+    ensures { λ r. ⌜ r ≡ cond first x y ⌝ }
+{
+    if first {
+        return x;
+    }
+    y
+}
+
+// One of two small numbers.
+fn pick_number(first: bool, x: u8, y: u8) -> u8
+    ensures { λ r. ⌜ r ≡ cond first x y ⌝ }
+{
+    if first {
+        return x;
+    }
+    y
+}
+
+// What a tick changes, by the clock after it. Where the timer has run out the active server turns late if another is agreed, which then
+// becomes active; else what was sent is sent again. Only then is there a choice to make: before, it is among no servers.
+fn turn(sound: bool, p: Settings, d: Delivery, due: bool, clock: Clock) -> Change
+    ensures { λ r. ⌜ r ≡ turnedBy sound p d due clock ⌝ }
+{
+    let priorities = p.priorities;
+    let servers = d.servers;
+    let active = d.active;
+    let late = crate::servers::with_phase(servers, crate::servers::number_of(active), Phase::Late);
+    let choice = crate::servers::choose_server(
+        priorities,
+        late,
+        pick_number(clock.expired, p.servers, 0),
+    );
+    let switched = !crate::servers::is_nobody(choice);
+    let delivery = Delivery {
+        servers: pick_servers(switched, late, servers),
+        active: pick_active(switched, choice, active),
+        sent: pick_place(clock.expired, 0, d.sent),
+        reached: pick_place(switched, 0, d.reached),
+        timer: clock.timer,
+    };
+    Change {
+        answer: pick_number(sound, Answer::DONE, Answer::UNSOUND_STATE),
+        written: 0,
+        delivery,
+        due: switched | due,
+    }
 }
 
 // One tick passes: 1 for an unsound state.
@@ -36,16 +141,20 @@ pub fn tick(s: State) -> Stepped
 {
     let p = s.settings;
     let d = s.delivery;
-    let change = tick_change(
+    let lengths = s.queue.lengths;
+    let receivers = s.queue.receivers;
+    let sound = crate::sound::parts_sound(
         p,
         s.capacity,
         d,
         s.due,
         s.queue.count,
-        &s.queue.lengths,
-        &s.queue.receivers,
+        &lengths,
+        &receivers,
         s.start,
     );
+    let clock = tick_clock(sound, p, d);
+    let change = turn(sound, p, d, s.due, clock);
     let state = crate::change::apply(s, change);
     Stepped {
         answer: change.answer,

@@ -2,6 +2,8 @@
 use mathlib.Core.Path.{sym, _∙_}
 use native.Mathlib.Omega.{arith}
 use borrow.Author.Tests.{not-true, not-false}
+use Prim.Native.Nat.{_≤_}
+use Rattle.exporter.proofs.Arrays.{sum-fewer}
 use Rattle.exporter.proofs.SoundFacts.{sound-facts}
 use Rattle.exporter.proofs.Acks.{sound-next, ack-unsound, ack-judged, refused-ack, accepted-ack, ack-reached}
 use borrow.Author.Needs.{needs}
@@ -39,16 +41,17 @@ returns-2 c =
 
 accept-ack-requires : tie.Need-accept-ack-requires
 accept-ack-requires c κs =
-    let f = sound-facts _ (sym (c .before .before .before .before .parts-sound .ensures) ∙ not-false _ (c .before .before .before .if1 .left)) .numbers in
+    let f = sound-facts _ (sym (c .before .before .before .before .parts-sound .ensures) ∙ not-false _ (c .before .before .before .if1 .left)) in
     let a = c .before .before .before .before .before .args in
     let g = ack-reached (a .p) (a .d) (a .v) (a .config) (c .before .before .ack-count .result) (sym (c .before .ack-answer .ensures) ∙ c .if2 .left) in
-    omega arith
+    let m : c .before .before .ack-count .result ≤ a .count = omega arith in
+    (g, (omega arith, (f .numbers .inside, (f .numbers .settings .smallRoom, omega (arith, sum-fewer (a .lengths .now) (c .before .before .ack-count .result) (a .count) m, f .fits)))))
 
 returns-3 : tie.Need-returns-3
 returns-3 c =
     let e = sound-next _ _ ∙ sym (c .before .before .before .before .before .parts-sound .ensures) ∙ not-false _ (c .before .before .before .before .if1 .left) in
     let a = rw (c .before .before .before .ack-count .ensures) at (c .before .before .ack-answer .ensures) in
-    accepted-ack _ _ _ _ _ _ (ack-judged _ _ _ _ _ e ∙ sym a ∙ c .before .if2 .left) (rw (c .before .before .before .ack-count .ensures) at (c .accept-ack .ensures))
+    accepted-ack _ _ _ _ _ _ e (ack-judged _ _ _ _ _ e ∙ sym a ∙ c .before .if2 .left) (rw (c .before .before .before .ack-count .ensures) at (c .accept-ack .ensures))
 
 pub ack-change-spec : {M : Type 1} → statement M
 ack-change-spec =

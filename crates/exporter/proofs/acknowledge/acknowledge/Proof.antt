@@ -8,10 +8,12 @@ ack-change-requires : tie.Need-ack-change-requires
 ack-change-requires c κs = search needs
 
 release-queue-requires : tie.Need-release-queue-requires
-release-queue-requires c κs = rw (c .before .before .before .before .ack-change .ensures) (released-few 32 _ _ _ (c .before .before .before .before .before .before .before .before .before .before .args .t1))
+release-queue-requires c κs = rw (c .before .before .before .ack-change .ensures) (released-few 32 _ _ _ (c .before .before .before .before .before .before .before .before .before .before .before .args .s))
 
 returns : tie.Need-returns
-returns c = rw (c .before .release-queue .ensures, c .before .before .before .before .before .before .ack-change .ensures) (ack-parts 32 _ _ _ (c .before .before .before .before .before .before .before .before .before .before .before .before .args .t1))
+returns c =
+    rw (c .before .before .before .release-queue .ensures, c .before .before .before .before .before .before .before .ack-change .ensures)
+    (ack-parts 32 _ _ _ (c .before .before .before .before .before .before .before .before .before .before .before .before .before .before .before .args .s))
 
 pub acknowledge-spec : {M : Type 1} → statement M
 acknowledge-spec = tie.close (tie.spec ack-change-requires release-queue-requires returns)

@@ -4,11 +4,11 @@ use borrow.Author.Needs.{needs}
 use Rattle.exporter.proofs.next_data.next_head.Statement.{statement}
 use Rattle.exporter.proofs.next_data.next_head.Tie as tie
 
-mul-t7 : tie.Need-mul-t7
-mul-t7 c = search needs
+mul-t10 : tie.Need-mul-t10
+mul-t10 c = search needs
 
-element-copy-out-t10 : tie.Need-element-copy-out-t10
-element-copy-out-t10 c = search needs
+element-copy-out-t13 : tie.Need-element-copy-out-t13
+element-copy-out-t13 c = search needs
 
 mul-is-duplicate : tie.Need-mul-is-duplicate
 mul-is-duplicate c = search needs
@@ -30,8 +30,8 @@ pub next-head-spec : {M : Type 1} → statement M
 next-head-spec =
     tie.close
     (tie.spec
-    mul-t7
-    element-copy-out-t10
+    mul-t10
+    element-copy-out-t13
     mul-is-duplicate
     element-copy-out-is-duplicate
     is-duplicate-requires

@@ -34,8 +34,8 @@ same-length c = search needs
 
 returns-2 : tie.Need-returns-2
 returns-2 c =
-    let v = c .before .before .before .before .before .before .before .before .before .before .before .before .args .v in
-    rw (sym (c .before .before .before .before .before .before .before .before .decode .ensures v) ∙ ap (callOfRequest v) (c .before .before .before .before .before .before .request2 .given .1)) (c .before .before .move-server .ensures)
+    let v = c .before .before .before .before .before .before .before .before .before .before .before .before .before .args .v in
+    rw (sym (c .before .before .before .before .before .before .before .before .before .decode .ensures v) ∙ ap (callOfRequest v) (c .before .before .before .before .before .before .before .request2 .given .1)) (c .before .before .before .move-server .ensures)
 
 pub receive-spec : {M : Type 1} → statement M
 receive-spec =

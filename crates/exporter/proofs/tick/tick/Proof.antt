@@ -1,17 +1,30 @@
--- `tick` meets its contract: what the tick changes by parts is applied to the state. Assumes nothing.
-use Rattle.exporter.proofs.Changes.{tick-parts}
+-- `tick` meets its contract: the clock and the choice give what a tick changes, and that is applied to the state. Whether the state is sound
+-- is judged once. Assumes nothing.
+use mathlib.Core.Path.{sym, _∙_}
+use Rattle.exporter.proofs.SoundFacts.{sound-facts, parts-of}
+use Rattle.exporter.proofs.Ticks.{tick-turned}
 use borrow.Author.Needs.{needs}
 use Rattle.exporter.proofs.tick.tick.Statement.{statement}
 use Rattle.exporter.proofs.tick.tick.Tie as tie
 
-tick-change-requires : tie.Need-tick-change-requires
-tick-change-requires c κs = search needs
+parts-sound-requires : tie.Need-parts-sound-requires
+parts-sound-requires c κs = search needs
+
+tick-clock-requires : tie.Need-tick-clock-requires
+tick-clock-requires c κs = λ e. let f = sound-facts _ (sym (c .parts-sound .ensures) ∙ e) in (f .numbers .running, f .choice)
+
+turn-requires : tie.Need-turn-requires
+turn-requires c κs = search needs
 
 apply-requires : tie.Need-apply-requires
 apply-requires c κs = search needs
 
 returns : tie.Need-returns
-returns c = rw (c .apply .ensures, c .before .tick-change .ensures) (tick-parts 32 _)
+returns c =
+    rw (c .apply .ensures, c .before .turn .ensures, c .before .before .tick-clock .ensures)
+    (tick-turned 32 _ _ (c .before .before .before .parts-sound .ensures ∙ parts-of _))
 
 pub tick-spec : {M : Type 1} → statement M
-tick-spec = tie.close (tie.spec tick-change-requires apply-requires returns)
+tick-spec =
+    tie.close
+    (tie.spec parts-sound-requires tick-clock-requires turn-requires apply-requires returns)

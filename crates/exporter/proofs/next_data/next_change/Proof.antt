@@ -1,0 +1,44 @@
+-- `next_change` meets its contract: what is refused before the output is looked at changes nothing, and the rest is sent. Assumes nothing.
+use mathlib.Core.Path.{sym, _∙_}
+use Rattle.exporter.proofs.Sends.{send-facts, sending-kept}
+use Rattle.exporter.specs.Changes.{stateOf}
+use borrow.Author.Needs.{needs}
+use Rattle.exporter.proofs.next_data.next_change.Statement.{statement}
+use Rattle.exporter.proofs.next_data.next_change.Tie as tie
+
+send-answer-requires : tie.Need-send-answer-requires
+send-answer-requires c κs = search needs
+
+element-copy-out-refuse-sending : tie.Need-element-copy-out-refuse-sending
+element-copy-out-refuse-sending c = search needs
+
+refuse-sending-requires : tie.Need-refuse-sending-requires
+refuse-sending-requires c κs = search needs
+
+returns : tie.Need-returns
+returns c =
+    let a = c .before .before .before .before .before .before .args in
+    sending-kept (stateOf (a .p) (a .capacity) (a .d) (a .due) (a .count) (a .lengths .now) (a .templates .now) (a .receivers .now) (a .start) (a .next)) (a .store .now) (a .out .now) _ _ (c .before .before .if1 .taken) (c .before .before .before .send-answer .ensures) (c .refuse-sending .ensures)
+
+send-requires : tie.Need-send-requires
+send-requires c κs =
+    let a = c .before .before .before .before .before .args in
+    send-facts (stateOf (a .p) (a .capacity) (a .d) (a .due) (a .count) (a .lengths .now) (a .templates .now) (a .receivers .now) (a .start) (a .next)) (a .store .now) (sym (c .before .before .send-answer .ensures) ∙ c .before .if1 .left)
+
+same-length : tie.Need-same-length
+same-length c = search needs
+
+returns-2 : tie.Need-returns-2
+returns-2 c = search needs
+
+pub next-change-spec : {M : Type 1} → statement M
+next-change-spec =
+    tie.close
+    (tie.spec
+    send-answer-requires
+    element-copy-out-refuse-sending
+    refuse-sending-requires
+    returns
+    send-requires
+    same-length
+    returns-2)
