@@ -1,0 +1,377 @@
+//! An exporter over a state that is changed in place, with the same checks on every call.
+
+use crate::answer::*;
+use crate::message::{self, DataHead, Message};
+use crate::table;
+
+pub const MAX_HELD: usize = 64;
+pub const MAX_RECORD_OCTETS: usize = 1024;
+
+#[derive(Clone, Copy, PartialEq)]
+pub enum Phase {
+    Closed,
+    Started,
+    Offered,
+    Agreed,
+    Late,
+}
+
+#[derive(Clone, Copy)]
+pub struct Settings {
+    pub session: u8,
+    pub config: u8,
+    pub boot: u32,
+    pub initial: u32,
+    pub servers: u8,
+    pub priorities: [u8; 8],
+    pub threshold: u8,
+    pub duration: u16,
+}
+
+pub struct State {
+    settings: Settings,
+    capacity: usize,
+    phases: [Phase; 8],
+    active: Option<u8>,
+    sent: usize,
+    reached: usize,
+    timer: u16,
+    due: bool,
+    count: usize,
+    lengths: [u16; MAX_HELD],
+    templates: [u16; MAX_HELD],
+    receivers: [u8; MAX_HELD],
+    start: usize,
+    next: u32,
+}
+
+/// An answer of 0, or the refusal.
+type Answer = Result<(), u8>;
+
+/// How many octets were written, or the refusal.
+type Wrote = Result<usize, u8>;
+
+fn settings_sound(p: &Settings, capacity: usize) -> bool {
+    (1..=8).contains(&p.servers)
+        && (1..=64).contains(&p.threshold)
+        && p.duration >= 1
+        && (1024..=65536).contains(&capacity)
+}
+
+impl State {
+    pub fn set_up(settings: Settings, store: &[u8]) -> Result<State, u8> {
+        if !settings_sound(&settings, store.len()) {
+            return Err(SETTINGS_OUTSIDE_LIMITS);
+        }
+        Ok(State {
+            settings,
+            capacity: store.len(),
+            phases: [Phase::Closed; 8],
+            active: None,
+            sent: 0,
+            reached: 0,
+            timer: 0,
+            due: true,
+            count: 0,
+            lengths: [0; MAX_HELD],
+            templates: [0; MAX_HELD],
+            receivers: [0; MAX_HELD],
+            start: 0,
+            next: settings.initial,
+        })
+    }
+
+    /// The agreed server of highest priority, the lowest number on ties.
+    fn chosen(&self, phases: &[Phase; 8]) -> Option<u8> {
+        let mut best: Option<(u8, u8)> = None;
+        for v in 0..self.settings.servers.min(8) {
+            let priority = self.settings.priorities[v as usize];
+            if phases[v as usize] == Phase::Agreed && best.is_none_or(|(_, p)| p < priority) {
+                best = Some((v, priority));
+            }
+        }
+        best.map(|(v, _)| v)
+    }
+
+    /// How many octets are held, if the state is sound.
+    fn held_if_sound(&self) -> Result<usize, u8> {
+        let p = &self.settings;
+        let numbers = settings_sound(p, self.capacity)
+            && self.count <= MAX_HELD
+            && self.start < self.capacity
+            && self.sent <= self.reached
+            && self.reached <= self.count
+            && self.timer < p.duration
+            && (!self.due || self.reached == 0);
+        if !numbers {
+            return Err(UNSOUND_STATE);
+        }
+        let lengths = &self.lengths[..self.count];
+        let receivers = &self.receivers[..self.count];
+        let others = !(((1u16 << p.servers) - 1) as u8);
+        let held: u32 = lengths.iter().map(|&n| n as u32).sum();
+        let long = lengths
+            .iter()
+            .fold(false, |any, &n| any | (n as usize > MAX_RECORD_OCTETS));
+        let union = receivers.iter().fold(0, |any, &set| any | set);
+        if long
+            || held as usize > self.capacity
+            || union & others != 0
+            || self.active != self.chosen(&self.phases)
+        {
+            return Err(UNSOUND_STATE);
+        }
+        let activation = match self.active {
+            None => self.reached == 0 && self.timer == 0,
+            Some(v) => {
+                receivers[..self.reached]
+                    .iter()
+                    .fold(u8::MAX, |all, &set| all & set)
+                    >> v
+                    & 1
+                    == 1
+            }
+        };
+        if activation {
+            Ok(held as usize)
+        } else {
+            Err(UNSOUND_STATE)
+        }
+    }
+
+    /// Makes the choice anew; a changed one begins an activation.
+    fn settle(&mut self) {
+        let active = self.chosen(&self.phases);
+        if active != self.active {
+            self.active = active;
+            self.sent = 0;
+            self.reached = 0;
+            self.timer = 0;
+            self.due = true;
+        }
+    }
+
+    pub fn put(&mut self, store: &mut [u8], t: &[u8], id: u16, record: &[u8]) -> Answer {
+        let held = self.held_if_sound()?;
+        if store.len() != self.capacity {
+            return Err(UNSOUND_STATE);
+        }
+        if !table::is_sound(t) || t[0] != self.settings.config {
+            return Err(UNSOUND_TABLE);
+        }
+        let keys = table::find(t, id).ok_or(TEMPLATE_NOT_FOUND)?;
+        if record.len() > MAX_RECORD_OCTETS {
+            return Err(RECORD_TOO_LONG);
+        }
+        if !table::fields_valid(keys, record) {
+            return Err(RECORD_INVALID);
+        }
+        if self.count >= MAX_HELD {
+            return Err(QUEUE_FULL);
+        }
+        if held + record.len() > self.capacity {
+            return Err(STORE_FULL);
+        }
+        let mut at = self.start + held;
+        if at >= self.capacity {
+            at -= self.capacity;
+        }
+        let first = record.len().min(self.capacity - at);
+        store[at..at + first].copy_from_slice(&record[..first]);
+        store[..record.len() - first].copy_from_slice(&record[first..]);
+        self.lengths[self.count] = record.len() as u16;
+        self.templates[self.count] = id;
+        self.receivers[self.count] = 0;
+        self.count += 1;
+        self.next = self.next.wrapping_add(1);
+        Ok(())
+    }
+
+    pub fn next_data(&mut self, store: &[u8], out: &mut [u8]) -> Wrote {
+        self.held_if_sound()?;
+        if store.len() != self.capacity {
+            return Err(UNSOUND_STATE);
+        }
+        let active = self.active.ok_or(NO_ACTIVE_SERVER)?;
+        let i = self.sent;
+        if i >= self.count {
+            return Err(NOTHING_TO_SEND);
+        }
+        let len = self.lengths[i] as usize;
+        let total = 16 + len;
+        let Some(out) = out.get_mut(..total) else {
+            return Err(OUTPUT_TOO_SHORT);
+        };
+        let before: u32 = self.lengths[..i].iter().map(|&n| n as u32).sum();
+        let mut at = self.start + before as usize;
+        if at >= self.capacity {
+            at -= self.capacity;
+        }
+        let head = DataHead {
+            session: self.settings.session,
+            template: self.templates[i],
+            config: self.settings.config,
+            first: self.due,
+            duplicate: self.receivers[i] & !(1 << active) != 0,
+            dsn: self
+                .next
+                .wrapping_sub(self.count as u32)
+                .wrapping_add(i as u32),
+        };
+        out[..16].copy_from_slice(&message::data_head(&head, len));
+        let first = len.min(self.capacity - at);
+        out[16..16 + first].copy_from_slice(&store[at..at + first]);
+        out[16 + first..].copy_from_slice(&store[..len - first]);
+        self.receivers[i] |= 1 << active;
+        self.sent = i + 1;
+        self.reached = self.reached.max(i + 1);
+        self.due = false;
+        Ok(total)
+    }
+
+    fn acknowledge(&mut self, v: u8, dsn: u32, config: u8) -> Answer {
+        if self.active != Some(v) {
+            return Err(OUT_OF_TURN);
+        }
+        if config != self.settings.config {
+            return Err(OTHER_CONFIGURATION);
+        }
+        let first = self.next.wrapping_sub(self.count as u32);
+        let n = dsn.wrapping_sub(first).wrapping_add(1) as usize;
+        if n > self.reached {
+            return Err(DSN_NOT_ACKNOWLEDGEABLE);
+        }
+        if n == 0 {
+            self.sent = 0;
+            return Ok(());
+        }
+        let octets: u32 = self.lengths[..n].iter().map(|&n| n as u32).sum();
+        self.start += octets as usize;
+        if self.start >= self.capacity {
+            self.start -= self.capacity;
+        }
+        self.lengths.copy_within(n..self.count, 0);
+        self.templates.copy_within(n..self.count, 0);
+        self.receivers.copy_within(n..self.count, 0);
+        self.count -= n;
+        self.reached -= n;
+        self.sent = self.sent.saturating_sub(n);
+        self.timer = 0;
+        Ok(())
+    }
+
+    pub fn receive(&mut self, v: u8, m: &[u8], out: &mut [u8]) -> Wrote {
+        self.held_if_sound()?;
+        if v >= self.settings.servers {
+            return Err(NO_SUCH_SERVER);
+        }
+        let (session, number) = message::read_header(m)?;
+        if session != self.settings.session {
+            return Err(OTHER_SESSION);
+        }
+        let accepted = [
+            message::START,
+            message::STOP,
+            message::FINAL_TMPL_DATA_ACK,
+            message::START_NEGOTIATE,
+            message::DATA_ACK,
+        ];
+        if !accepted.contains(&number) {
+            return Err(MESSAGE_NOT_ACCEPTED);
+        }
+        let phase = self.phases[v as usize];
+        let written = match message::read(m)? {
+            Message::DataAck(_, dsn, config) => {
+                self.acknowledge(v, dsn, config)?;
+                return Ok(0);
+            }
+            Message::Start(_) => {
+                let n = message::write(&Message::StartAck(session, self.settings.boot), out)?;
+                self.phases[v as usize] = Phase::Started;
+                n
+            }
+            Message::Stop(_) => {
+                let n = message::write(&Message::StopAck(session), out)?;
+                self.phases[v as usize] = Phase::Closed;
+                n
+            }
+            Message::StartNegotiate(_) => {
+                if phase == Phase::Closed {
+                    return Err(OUT_OF_TURN);
+                }
+                let n = message::write(&Message::StartNegotiateAck(session), out)?;
+                for phase in &mut self.phases {
+                    if *phase != Phase::Closed {
+                        *phase = Phase::Started;
+                    }
+                }
+                n
+            }
+            Message::FinalTmplDataAck(_, config) => {
+                if phase != Phase::Offered {
+                    return Err(OUT_OF_TURN);
+                }
+                if config != self.settings.config {
+                    return Err(OTHER_CONFIGURATION);
+                }
+                self.phases[v as usize] = Phase::Agreed;
+                0
+            }
+            _ => return Err(MESSAGE_NOT_ACCEPTED),
+        };
+        self.settle();
+        Ok(written)
+    }
+
+    pub fn offer_templates(&mut self, v: u8, t: &[u8], out: &mut [u8]) -> Wrote {
+        self.held_if_sound()?;
+        if v >= self.settings.servers {
+            return Err(NO_SUCH_SERVER);
+        }
+        if !table::is_sound(t) || t[0] != self.settings.config {
+            return Err(UNSOUND_TABLE);
+        }
+        if !matches!(self.phases[v as usize], Phase::Started | Phase::Offered) {
+            return Err(OUT_OF_TURN);
+        }
+        let n = message::write(&Message::TmplData(self.settings.session, t), out)?;
+        self.phases[v as usize] = Phase::Offered;
+        self.settle();
+        Ok(n)
+    }
+
+    pub fn line_down(&mut self, v: u8) -> Answer {
+        self.held_if_sound()?;
+        if v >= self.settings.servers {
+            return Err(NO_SUCH_SERVER);
+        }
+        self.phases[v as usize] = Phase::Closed;
+        self.settle();
+        Ok(())
+    }
+
+    pub fn tick(&mut self) -> Answer {
+        self.held_if_sound()?;
+        let Some(v) = self.active else {
+            self.timer = 0;
+            return Ok(());
+        };
+        if self.reached < self.settings.threshold as usize {
+            self.timer = 0;
+            return Ok(());
+        }
+        self.timer += 1;
+        if self.timer == self.settings.duration {
+            self.timer = 0;
+            let mut late = self.phases;
+            late[v as usize] = Phase::Late;
+            if self.chosen(&late).is_none() {
+                self.sent = 0;
+            } else {
+                self.phases = late;
+                self.settle();
+            }
+        }
+        Ok(())
+    }
+}

@@ -1,0 +1,257 @@
+//! Tables, records, messages and events to measure with.
+
+use crate::message;
+use crate::session::{self, Given, CONFIG, SESSION};
+use crate::table::{BLOB, BOOLEAN, STRING, TERMINATED};
+
+/// A key: its ID, its type, and whether it is enabled.
+#[derive(Clone, Copy)]
+pub struct Key(pub u32, pub u16, pub bool);
+
+fn block(id: u16, description: usize, keys: &[Key]) -> Vec<u8> {
+    let padded = description.next_multiple_of(4);
+    let mut b = Vec::new();
+    b.extend(id.to_be_bytes());
+    b.extend((keys.len() as u16).to_be_bytes());
+    b.extend([0, 0]);
+    b.extend((description as u16).to_be_bytes());
+    b.extend(((12 + padded + 12 * keys.len()) as u32).to_be_bytes());
+    b.extend(std::iter::repeat_n(b'd', description));
+    b.extend(std::iter::repeat_n(0, padded - description));
+    for key in keys {
+        b.extend(key.0.to_be_bytes());
+        b.extend(key.1.to_be_bytes());
+        b.extend([0, 0]);
+        b.extend((!key.2 as u32).to_be_bytes());
+    }
+    b
+}
+
+/// A table with a template for each list of keys, numbered from 1, and the lengths of their descriptions.
+pub fn table(templates: &[(usize, Vec<Key>)]) -> Vec<u8> {
+    let mut t = vec![CONFIG, 1];
+    t.extend((templates.len() as u16).to_be_bytes());
+    for (i, (description, keys)) in templates.iter().enumerate() {
+        t.extend(block(i as u16 + 1, *description, keys));
+    }
+    t
+}
+
+/// One template with four keys: 32 bits, 16 bits, a Boolean, a blob.
+pub fn small_table() -> Vec<u8> {
+    let keys = [(10, 6), (11, 4), (12, BOOLEAN), (13, BLOB)];
+    table(&[(
+        0,
+        keys.iter().map(|&(id, kind)| Key(id, kind, true)).collect(),
+    )])
+}
+
+/// A valid record of the small table's template, of n octets.
+pub fn small_record(n: usize) -> Vec<u8> {
+    let mut r = vec![0, 1, 2, 3, 4, 5, 1];
+    r.extend(blob(n - 7));
+    r
+}
+
+fn blob(n: usize) -> Vec<u8> {
+    let mut b = ((n - 4) as u32).to_be_bytes().to_vec();
+    b.extend((4..n).map(|i| (i * 7 % 120 + 1) as u8));
+    b
+}
+
+/// The largest table: 8 templates with 32 keys each, filled up to 16,384 octets by descriptions. Of the keys 12 are enabled: 11 of one
+/// octet and a blob. Their IDs rise, or fall.
+pub fn large_table(rising: bool) -> Vec<u8> {
+    let keys: Vec<Key> = (0..32u32)
+        .map(|k| {
+            let id = if rising { 1000 + k } else { 1000 - k };
+            match k {
+                31 => Key(id, BLOB, true),
+                _ if k % 3 == 0 => Key(id, 2, true),
+                _ => Key(id, 8, false),
+            }
+        })
+        .collect();
+    let t = table(
+        &(0..8)
+            .map(|i| (if i == 0 { 1647 } else { 1651 }, keys.clone()))
+            .collect::<Vec<_>>(),
+    );
+    assert_eq!(t.len(), 16384);
+    t
+}
+
+/// A valid record of the large table's templates, of n octets.
+pub fn large_record(n: usize) -> Vec<u8> {
+    let mut r: Vec<u8> = (0..11).collect();
+    r.extend(blob(n - 11));
+    r
+}
+
+/// A table whose one template has a single key of a type with a length of its own, and a valid record of n octets.
+pub fn text_table(kind: u16) -> Vec<u8> {
+    table(&[(0, vec![Key(1, kind, true)])])
+}
+
+pub fn text_record(kind: u16, n: usize) -> Vec<u8> {
+    match kind {
+        STRING | BLOB => blob(n),
+        TERMINATED => {
+            let mut r: Vec<u8> = (1..n).map(|i| (i % 250 + 1) as u8).collect();
+            r.push(0);
+            r
+        }
+        _ => unreachable!(),
+    }
+}
+
+/// A table whose one template has 32 keys of fixed widths, and a valid record.
+pub fn fixed_table() -> Vec<u8> {
+    table(&[(
+        20,
+        (0..32u32)
+            .map(|k| Key(k, FIXED[k as usize % FIXED.len()].0, true))
+            .collect(),
+    )])
+}
+
+const FIXED: [(u16, usize); 9] = [
+    (1, 1),
+    (2, 1),
+    (5, 2),
+    (6, 4),
+    (9, 8),
+    (0x0b, 8),
+    (0x10, 4),
+    (0x11, 16),
+    (0x12, 4),
+];
+
+pub fn fixed_record() -> Vec<u8> {
+    let n: usize = (0..32).map(|k| FIXED[k % FIXED.len()].1).sum();
+    (0..n).map(|i| (i % 2) as u8).collect()
+}
+
+// ---- messages
+
+fn header(number: u8, len: usize) -> Vec<u8> {
+    let mut m = vec![1, number, SESSION, 0];
+    m.extend((len as u32).to_be_bytes());
+    m
+}
+
+pub fn bare(number: u8) -> Vec<u8> {
+    header(number, 8)
+}
+
+pub fn tmpl_data(t: &[u8]) -> Vec<u8> {
+    let mut m = header(message::TMPL_DATA, 8 + t.len());
+    m.extend(t);
+    m
+}
+
+pub fn agreement() -> Vec<u8> {
+    let mut m = header(message::FINAL_TMPL_DATA_ACK, 12);
+    m.extend([CONFIG, 0, 0, 0]);
+    m
+}
+
+pub fn data_message(record: &[u8]) -> Vec<u8> {
+    let mut m = header(message::DATA, 16 + record.len());
+    m.extend([0, 1, CONFIG, 3, 0, 0, 1, 0]);
+    m.extend(record);
+    m
+}
+
+pub fn data_ack(dsn: u32) -> Vec<u8> {
+    let mut m = header(message::DATA_ACK, 16);
+    m.extend(dsn.to_be_bytes());
+    m.extend([CONFIG, 0, 0, 0]);
+    m
+}
+
+// ---- events
+
+/// Sixty-four records are held at most, so that a store of 65,536 octets holds them all.
+pub const STORE_OCTETS: usize = 65536;
+
+/// A timer that runs from the first record sent on, and does not run out while it is measured.
+pub const GIVEN: Given = Given {
+    servers: 2,
+    threshold: 1,
+    duration: 60000,
+    initial: 4294967000,
+};
+
+/// A list of events that knows the DSN of the last record released.
+#[derive(Clone)]
+pub struct Events {
+    pub octets: Vec<u8>,
+    released: u32,
+}
+
+impl Events {
+    fn push(&mut self, code: u8, server: u8, m: &[u8]) {
+        let mut event = [0; session::EVENT_OCTETS];
+        event[0] = code;
+        event[1] = server;
+        event[2] = m.len() as u8;
+        event[3..3 + m.len()].copy_from_slice(m);
+        self.octets.extend(event);
+    }
+
+    /// Server 0 agrees to the templates.
+    pub fn opening() -> Events {
+        let mut e = Events {
+            octets: Vec::new(),
+            released: GIVEN.initial.wrapping_sub(1),
+        };
+        e.receive(0, &bare(message::START));
+        e.offer(0);
+        e.receive(0, &agreement());
+        e
+    }
+
+    pub fn offer(&mut self, server: u8) {
+        self.push(session::OFFER, server, &[]);
+    }
+
+    pub fn receive(&mut self, server: u8, m: &[u8]) {
+        self.push(session::RECEIVE, server, m);
+    }
+
+    pub fn puts(mut self, n: usize) -> Events {
+        (0..n).for_each(|_| self.push(session::PUT, 0, &[]));
+        self
+    }
+
+    pub fn nexts(mut self, n: usize) -> Events {
+        (0..n).for_each(|_| self.push(session::NEXT_DATA, 0, &[]));
+        self
+    }
+
+    pub fn ticks(mut self, n: usize) -> Events {
+        (0..n).for_each(|_| self.push(session::TICK, 0, &[]));
+        self
+    }
+
+    /// A DATA ACK of server 0 that releases n records.
+    pub fn ack(mut self, n: u32) -> Events {
+        self.released = self.released.wrapping_add(n);
+        self.receive(0, &data_ack(self.released));
+        self
+    }
+
+    pub fn acks(self, times: usize, n: u32) -> Events {
+        (0..times).fold(self, |e, _| e.ack(n))
+    }
+
+    /// What `f` adds, again and again.
+    pub fn times(self, n: usize, f: impl Fn(Events) -> Events) -> Events {
+        (0..n).fold(self, |e, _| f(e))
+    }
+
+    pub fn len(&self) -> usize {
+        self.octets.len() / session::EVENT_OCTETS
+    }
+}

@@ -1,0 +1,76 @@
+//! The functions of the static libraries. Nothing checks these declarations against the Rattle source.
+
+use crate::session::Given;
+
+extern "C" {
+    fn crane_table_answer(table: *const u8, table_len: usize) -> u8;
+    fn crane_record_answer(
+        table: *const u8,
+        table_len: usize,
+        id: u16,
+        record: *const u8,
+        record_len: usize,
+    ) -> u8;
+    fn crane_read_again(message: *const u8, message_len: usize, out: *mut u8, out_len: usize)
+        -> u8;
+    #[allow(clippy::too_many_arguments)]
+    fn crane_session(
+        servers: u8,
+        threshold: u8,
+        duration: u16,
+        initial: u32,
+        store: *mut u8,
+        store_len: usize,
+        table: *const u8,
+        table_len: usize,
+        id: u16,
+        record: *const u8,
+        record_len: usize,
+        events: *const u8,
+        events_len: usize,
+        out: *mut u8,
+        out_len: usize,
+    ) -> u64;
+}
+
+pub fn table_answer(t: &[u8]) -> u8 {
+    unsafe { crane_table_answer(t.as_ptr(), t.len()) }
+}
+
+pub fn record_answer(t: &[u8], id: u16, record: &[u8]) -> u8 {
+    unsafe { crane_record_answer(t.as_ptr(), t.len(), id, record.as_ptr(), record.len()) }
+}
+
+pub fn read_again(m: &[u8], out: &mut [u8]) -> u8 {
+    unsafe { crane_read_again(m.as_ptr(), m.len(), out.as_mut_ptr(), out.len()) }
+}
+
+pub fn session(
+    g: Given,
+    store: &mut [u8],
+    table: &[u8],
+    id: u16,
+    record: &[u8],
+    events: &[u8],
+    out: &mut [u8],
+) -> u64 {
+    unsafe {
+        crane_session(
+            g.servers,
+            g.threshold,
+            g.duration,
+            g.initial,
+            store.as_mut_ptr(),
+            store.len(),
+            table.as_ptr(),
+            table.len(),
+            id,
+            record.as_ptr(),
+            record.len(),
+            events.as_ptr(),
+            events.len(),
+            out.as_mut_ptr(),
+            out.len(),
+        )
+    }
+}

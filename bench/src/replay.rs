@@ -1,0 +1,148 @@
+//! A whole replay: the Rust side's program, and a tape that both programs are run on.
+
+use crate::answer::UNSOUND_TABLE;
+use crate::exporter::{Settings, State};
+use crate::inputs;
+use crate::session::{CONFIG, SESSION};
+use crate::table::{self, u16_at, u32_at};
+use std::io::{Read, Write};
+
+const MAX_TAPE_OCTETS: usize = 32768;
+const OUTPUT_OCTETS: usize = 16392;
+
+/// An event of a tape: its kind, the server that it names and its body.
+type Event<'a> = (u8, u8, &'a [u8]);
+
+fn fits(i: usize, (kind, server, body): Event) -> bool {
+    let kind_fits = match i {
+        0 => kind == 0,
+        1 => kind == 1,
+        _ => (2..=7).contains(&kind),
+    };
+    let length_fits = match kind {
+        0 => body.len() == 24,
+        2 => body.len() >= 2,
+        1 | 3 => true,
+        _ => body.is_empty(),
+    };
+    kind_fits && length_fits && (server == 0 || matches!(kind, 3 | 4 | 7))
+}
+
+/// The events of a sound tape.
+fn events(tape: &[u8]) -> Option<Vec<Event<'_>>> {
+    if tape.len() < 2 || tape.len() > MAX_TAPE_OCTETS {
+        return None;
+    }
+    let count = u16_at(tape, 0) as usize;
+    if !(2..=512).contains(&count) || tape.len() < 2 + 4 * count {
+        return None;
+    }
+    let (contents, mut bodies) = tape[2..].split_at(4 * count);
+    let mut all = Vec::with_capacity(count);
+    for (i, entry) in contents.chunks_exact(4).enumerate() {
+        let (body, rest) = bodies.split_at_checked(u16_at(entry, 2) as usize)?;
+        let event = (entry[0], entry[1], body);
+        if !fits(i, event) {
+            return None;
+        }
+        bodies = rest;
+        all.push(event);
+    }
+    bodies.is_empty().then_some(all)
+}
+
+fn settings(b: &[u8]) -> Settings {
+    Settings {
+        session: b[0],
+        config: b[1],
+        boot: u32_at(b, 12),
+        initial: u32_at(b, 8),
+        servers: b[2],
+        priorities: b[16..24].try_into().expect("8 priorities"),
+        threshold: b[3],
+        duration: u16_at(b, 4),
+    }
+}
+
+fn line(text: &mut Vec<u8>, place: usize, answered: Result<usize, u8>, out: &[u8]) {
+    const DIGITS: &[u8; 16] = b"0123456789abcdef";
+    let (answer, written) = match answered {
+        Ok(n) => (0, &out[..n]),
+        Err(a) => (a, &out[..0]),
+    };
+    write!(text, "{place} {answer}").expect("room");
+    if !written.is_empty() {
+        text.push(b' ');
+        text.extend(written.iter().flat_map(|o| [DIGITS[(o >> 4) as usize], DIGITS[(o & 15) as usize]]));
+    }
+    text.push(b'\n');
+}
+
+fn call(state: &mut State, (kind, server, body): Event, table: &[u8], store: &mut [u8], out: &mut [u8]) -> Result<usize, u8> {
+    match kind {
+        2 => state.put(store, table, u16_at(body, 0), &body[2..]).map(|()| 0),
+        3 => state.receive(server, body, out),
+        4 => state.line_down(server).map(|()| 0),
+        5 => state.tick().map(|()| 0),
+        6 => state.next_data(store, out),
+        _ => state.offer_templates(server, table, out),
+    }
+}
+
+/// The program: a tape from standard input, its lines to standard output, each written by itself as the other program does.
+pub fn program() -> std::io::Result<()> {
+    let mut tape = Vec::new();
+    std::io::stdin().take(MAX_TAPE_OCTETS as u64 + 1).read_to_end(&mut tape)?;
+    let mut output = std::io::stdout().lock();
+    let Some(all) = events(&tape) else {
+        return output.write_all(b"tape refused\n");
+    };
+    let mut store = vec![0; u16_at(all[0].2, 6) as usize + 1];
+    let mut out = vec![0; OUTPUT_OCTETS];
+    let mut text = Vec::new();
+    let made = State::set_up(settings(all[0].2), &store);
+    line(&mut text, 0, made.as_ref().map(|_| 0).map_err(|a| *a), &out);
+    let Ok(mut state) = made else {
+        return output.write_all(&text);
+    };
+    let table = all[1].2;
+    let is_sessions = table::is_sound(table) && table[0] == all[0].2[1];
+    line(&mut text, 1, if is_sessions { Ok(0) } else { Err(UNSOUND_TABLE) }, &out);
+    output.write_all(&text)?;
+    if !is_sessions {
+        return Ok(());
+    }
+    for (i, event) in all.iter().enumerate().skip(2) {
+        let answered = call(&mut state, *event, table, &mut store, &mut out);
+        text.clear();
+        line(&mut text, i, answered, &out);
+        output.write_all(&text)?;
+    }
+    Ok(())
+}
+
+/// A session of 512 events: 169 records of 16 octets, each put, sent and acknowledged.
+pub fn tape() -> Vec<u8> {
+    let mut body = vec![SESSION, CONFIG, 1, 64, 0, 10, 255, 255];
+    body.extend(0u32.to_be_bytes());
+    body.extend(3600u32.to_be_bytes());
+    body.extend([0; 8]);
+    let put: Vec<u8> = [0, 1].into_iter().chain(inputs::small_record(16)).collect();
+    let mut all = vec![
+        (0, body),
+        (1, inputs::small_table()),
+        (3, inputs::bare(crate::message::START)),
+        (7, vec![]),
+        (3, inputs::agreement()),
+    ];
+    for dsn in 0..169 {
+        all.extend([(2, put.clone()), (6, vec![]), (3, inputs::data_ack(dsn))]);
+    }
+    let mut tape = (all.len() as u16).to_be_bytes().to_vec();
+    for (kind, body) in &all {
+        tape.extend([*kind, 0]);
+        tape.extend((body.len() as u16).to_be_bytes());
+    }
+    all.iter().for_each(|(_, body)| tape.extend(body));
+    tape
+}

@@ -1,0 +1,70 @@
+//! A session: an exporter is set up and makes one call after the other, as lent events ask for.
+
+use crate::answer::UNSOUND_STATE;
+use crate::exporter::{Settings, State};
+
+/// The octets of an event: its call, its server, the length of its message, and 16 octets with which the message begins.
+pub const EVENT_OCTETS: usize = 19;
+
+pub const PUT: u8 = 0;
+pub const NEXT_DATA: u8 = 1;
+pub const TICK: u8 = 2;
+pub const OFFER: u8 = 3;
+pub const RECEIVE: u8 = 4;
+
+/// What a session is set up with; session, Configuration ID, boot time and priorities are fixed.
+#[derive(Clone, Copy)]
+pub struct Given {
+    pub servers: u8,
+    pub threshold: u8,
+    pub duration: u16,
+    pub initial: u32,
+}
+
+pub const SESSION: u8 = 7;
+pub const CONFIG: u8 = 1;
+
+/// The sum of all answers and of the octets written.
+#[inline(never)]
+pub fn session(
+    g: Given,
+    store: &mut [u8],
+    table: &[u8],
+    id: u16,
+    record: &[u8],
+    events: &[u8],
+    out: &mut [u8],
+) -> u64 {
+    let settings = Settings {
+        session: SESSION,
+        config: CONFIG,
+        boot: 3600,
+        initial: g.initial,
+        servers: g.servers,
+        priorities: [0; 8],
+        threshold: g.threshold,
+        duration: g.duration,
+    };
+    let events = events.chunks_exact(EVENT_OCTETS);
+    let mut state = match State::set_up(settings, store) {
+        Ok(state) => state,
+        Err(a) => return a as u64 + events.len() as u64 * UNSOUND_STATE as u64,
+    };
+    let mut total = 0u64;
+    for event in events {
+        let server = event[1];
+        let len = (event[2] % 17) as usize;
+        let answered = match event[0] {
+            PUT => state.put(store, table, id, record).map(|()| 0),
+            NEXT_DATA => state.next_data(store, out),
+            TICK => state.tick().map(|()| 0),
+            OFFER => state.offer_templates(server, table, out),
+            _ => state.receive(server, &event[3..3 + len], out),
+        };
+        total = total.wrapping_add(match answered {
+            Ok(written) => written as u64,
+            Err(answer) => answer as u64,
+        });
+    }
+    total
+}

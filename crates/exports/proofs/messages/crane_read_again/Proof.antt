@@ -1,0 +1,47 @@
+-- `crane_read_again` meets its contract: what was read is written with the part that the message carries, and a message that cannot be
+-- read leaves the output. Assumes nothing.
+use mathlib.Core.Path.{sym, _∙_}
+use borrow.Author.Needs.{needs}
+use Rattle.exports.proofs.messages.crane_read_again.Statement.{statement}
+use Rattle.exports.proofs.messages.crane_read_again.Tie as tie
+
+read-message-requires : tie.Need-read-message-requires
+read-message-requires c κs = search needs
+
+enum-known-reading : tie.Need-enum-known-reading
+enum-known-reading c = search needs
+
+message-part-requires : tie.Need-message-part-requires
+message-part-requires c κs = search needs
+
+write-message-requires : tie.Need-write-message-requires
+write-message-requires c κs = search needs
+
+written-answer-requires : tie.Need-written-answer-requires
+written-answer-requires c κs = search needs
+
+enum-known-reading-2 : tie.Need-enum-known-reading-2
+enum-known-reading-2 c = search needs
+
+same-length : tie.Need-same-length
+same-length c = search needs
+
+returns : tie.Need-returns
+returns c = (rw (sym (c .before .before .before .before .before .before .before .before .before .read-message .ensures) ∙ c .before .before .before .before .before .before .before .reading .given .1, c .written-answer .ensures, c .before .before .before .write-message .ensures .0, c .before .before .before .before .before .message-part .ensures .0), rw (sym (c .before .before .before .before .before .before .before .before .before .read-message .ensures) ∙ c .before .before .before .before .before .before .before .reading .given .1, c .before .before .before .write-message .ensures .1, c .before .before .before .before .before .message-part .ensures .0))
+
+returns-2 : tie.Need-returns-2
+returns-2 c = (rw (sym (c .before .before .before .read-message .ensures) ∙ c .before .reading2 .given .1), rw (sym (c .before .before .before .read-message .ensures) ∙ c .before .reading2 .given .1))
+
+pub crane-read-again-spec : {M : Type 1} → statement M
+crane-read-again-spec =
+    tie.close
+    (tie.spec
+    read-message-requires
+    enum-known-reading
+    message-part-requires
+    write-message-requires
+    written-answer-requires
+    enum-known-reading-2
+    same-length
+    returns
+    returns-2)

@@ -1,0 +1,123 @@
+// The field walk and appending a field.
+ghost use mathlib.Core.Path.{_≡_};
+ghost use mathlib.Core.List.{[], _∷_};
+ghost use lib.ListN.{getD};
+ghost use Rattle.wire.specs.Walk.{stepOf};
+ghost use Rattle.wire.specs.Append.{appendOf, appendOut};
+ghost use Rattle.exports.specs.Numbers.{valueSort, valueSize, fieldParts, stepPart, valueOf, appendedNumber};
+use wire::append::Appended;
+use wire::walk::Cursor;
+use wire::walk::Field;
+use wire::walk::Step;
+use wire::walk::Value;
+
+// The answer that stands for the end of a walk.
+pub const END: u64 = 255;
+
+// 0 for a value that is octets, 1 for a number, 2 for a number below 0.
+fn value_sort(value: Value) -> u64
+    ensures { λ n. ⌜ n ≡ valueSort value ⌝ }
+{
+    match value {
+        Value::Octets => 0,
+        Value::Number(_) => 1,
+        Value::Negative(_) => 2,
+    }
+}
+
+// The size of a value that is a number, 0 for octets.
+fn value_size(value: Value) -> u64
+    ensures { λ n. ⌜ n ≡ valueSize value ⌝ }
+{
+    match value {
+        Value::Octets => 0,
+        Value::Number(n) => n,
+        Value::Negative(n) => n,
+    }
+}
+
+// A part of a field and the cursor after it, by its number.
+fn field_part(part: u8, f: Field, c: Cursor) -> u64
+    ensures { λ n. ⌜ n ≡ getD (fieldParts f c) part 0 ⌝ }
+{
+    let value = f.value;
+    let parts = [
+        0,
+        f.kind as u64,
+        f.at as u64,
+        f.len as u64,
+        value_sort(value),
+        value_size(value),
+        c.index as u64,
+        c.at as u64,
+    ];
+    let i = part as usize;
+    if i < 8 { parts[i] } else { 0 }
+}
+
+// The only part of an answer that has no field.
+fn sole_part(part: u8, answer: u64) -> u64
+    ensures { λ n. ⌜ n ≡ getD (answer ∷ []) part 0 ⌝ }
+{
+    if part == 0 { answer } else { 0 }
+}
+
+// A part of what a step of the field walk answers, by its number: 0 the answer, and of a field 1 its type, 2 its place, 3 its length, 4 and
+// 5 its value's sort and size, 6 and 7 the next cursor's index and place.
+#[no_mangle]
+pub extern "C" fn crane_step_part(
+    table: &[u8],
+    id: u16,
+    r: &[u8],
+    index: usize,
+    at: usize,
+    part: u8,
+) -> u64
+    ensures { λ n. ⌜ n ≡ stepPart part (stepOf (now (table .entry)) id (now (r .entry)) (record { index = index; at = at })) ⌝ }
+{
+    let step = wire::walk::step_walk(table, id, r, Cursor { index, at });
+    match step {
+        Step::Next(f, c) => field_part(part, f, c),
+        Step::End => sole_part(part, END),
+        Step::Refused(a) => sole_part(part, a as u64),
+    }
+}
+
+// The value that a sort and a number stand for: 1 the number, 2 minus the number, any other octets.
+fn value_of(sort: u8, number: u64) -> Value
+    ensures { λ v. ⌜ v ≡ valueOf sort number ⌝ }
+{
+    if sort == 1 {
+        return Value::Number(number);
+    }
+    if sort == 2 {
+        return Value::Negative(number);
+    }
+    Value::Octets
+}
+
+// The number of what appending answers: the place after the field plus 256, or the refusal.
+fn appended_number(appended: Appended) -> u64
+    ensures { λ n. ⌜ n ≡ appendedNumber appended ⌝ }
+{
+    match appended {
+        Appended::Next(place) => std::num::wrapping_add_u64(place as u64, 256),
+        Appended::Refused(a) => a as u64,
+    }
+}
+
+// Appends the field of a type that holds a value at a place of the output: the place after it plus 256, or 16 or 12.
+#[no_mangle]
+pub extern "C" fn crane_append(
+    kind: u16,
+    sort: u8,
+    number: u64,
+    octets: &[u8],
+    out: &mut [u8],
+    at: usize,
+) -> u64
+    ensures { λ n. ⌜ (n ≡ appendedNumber (appendOf kind (valueOf sort number) (now (octets .entry)) (now (out .entry)) at))
+        × (now (out .exit) ≡ appendOut kind (valueOf sort number) (now (octets .entry)) (now (out .entry)) at) ⌝ }
+{
+    appended_number(wire::append::append(kind, value_of(sort, number), octets, out, at))
+}

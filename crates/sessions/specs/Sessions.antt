@@ -1,0 +1,108 @@
+-- A session: the calls that a list of events asks for, one after the other, from a fresh exporter on. Assumes nothing.
+use Prim.Native.Nat.{ℕ, zero, suc, _+_, _*_, _/_, _%_, _^_}
+use mathlib.Core.Path.{_≡_}
+use mathlib.Core.Bool.{cond}
+use mathlib.Core.List.{List}
+use lib.Dec.{eqb}
+use lib.ListN.{length, getD, take, drop, replicate}
+use Rattle.exporter.specs.Steps.{setUp, noSettings, outputAfter}
+use Rattle.exporter.specs.Claim.{Event, Put, NextData, Receive, OfferTemplates, Tick, Session, Exporter, outcome, storeLeft, sessionOf32}
+use Rattle.exporter.specs.declared.state.Settings.{Settings}
+use Rattle.exporter.specs.declared.state.State.{State}
+
+-- Session 7, configuration 1, boot time 3,600 and priorities of 0; the rest is given.
+abbrev pub settingsOf : ℕ → ℕ → ℕ → ℕ → Settings
+settingsOf servers threshold duration initial =
+    record {
+      session = 7;
+      config = 1;
+      boot = 3600;
+      initial = initial;
+      servers = servers;
+      priorities = replicate 8 0;
+      threshold = threshold;
+      duration = duration;
+    }
+
+-- ---- events
+
+-- An event is 19 octets: its call, its server, the length of its message modulo 17, and 16 octets with which the message begins.
+abbrev pub eventOctets : ℕ
+eventOctets = 19
+
+-- How many events there are; octets behind the last whole one do not count.
+abbrev pub eventCount : List ℕ → ℕ
+eventCount events = length events / eventOctets
+
+-- The message of the event at a place.
+unfoldable pub messageAt : List ℕ → ℕ → List ℕ
+messageAt events at = take (getD events (at + 2) 0 % 17) (drop (at + 3) events)
+
+-- What every call of a session is lent besides store and output: the table, the template ID and the octets of the record that is put, and
+-- the events.
+pub record Lent : Type 0 where
+  pub table : List ℕ
+  pub template : ℕ
+  pub octets : List ℕ
+  pub events : List ℕ
+
+-- The event at a place, by the number of its call: 0 put, 1 next data, 2 tick, 3 an offer, any other a message that is received.
+unfoldable pub eventAt : Lent → ℕ → List ℕ → Event
+eventAt l at out =
+    let code = getD (l .events) at 0 in
+    let server = getD (l .events) (at + 1) 0 in
+    cond (eqb code 0) (Put (l .template) (l .octets))
+    (cond (eqb code 1) (NextData out)
+    (cond (eqb code 2) Tick
+    (cond (eqb code 3) (OfferTemplates server out)
+    (Receive server (messageAt (l .events) at) out))))
+
+-- ---- the calls, one after the other
+
+-- Where a session stands: state and store, the output, and the sum of all answers and octets written.
+pub record Progress : Type 0 where
+  pub state : State
+  pub store : List ℕ
+  pub out : List ℕ
+  pub total : ℕ
+
+-- The same by its four parts.
+abbrev pub progress : State → List ℕ → List ℕ → ℕ → Progress
+progress state store out total = record { state = state; store = store; out = out; total = total }
+
+-- A call looks at the session's table alone: the settings that count are the state's.
+abbrev pub under : List ℕ → Session
+under table = sessionOf32 noSettings table
+
+-- State and store.
+abbrev pub exporterOf : Progress → Exporter
+exporterOf p = record { state = p .state; store = p .store }
+
+-- A sum of 64 bits with an answer and a number of octets added.
+abbrev pub added : ℕ → ℕ → ℕ → ℕ
+added total answer written = ((total + answer) % 2 ^ 64 + written) % 2 ^ 64
+
+-- After one more event.
+unfoldable pub after : Lent → Event → Progress → Progress
+after l e p =
+    let o = outcome (under (l .table)) (exporterOf p) e in
+    progress (o .state) (storeLeft (exporterOf p) e o) (outputAfter (p .out) o) (added (p .total) (o .answer) (length (o .written)))
+
+-- After the first n events.
+unfoldable pub played : Lent → ℕ → Progress → Progress
+played l zero p = p
+played l (suc n) p = let q = played l n p in after l (eventAt l (eventOctets * n) (q .out)) q
+
+-- What set-up leaves and answers, before the first event.
+abbrev pub opened : Settings → List ℕ → List ℕ → Progress
+opened p store out = let made = setUp p (length store) in progress (made .state) store out (made .answer)
+
+-- A whole session.
+abbrev pub sessionEnd : Settings → Lent → List ℕ → List ℕ → Progress
+sessionEnd p l store out = played l (eventCount (l .events)) (opened p store out)
+
+-- What a session hands back: the sum, the store and the output where it ends.
+pub record PlayedTo (end : Progress) (total : ℕ) (store out : List ℕ) : Type 0 where
+  pub summed : total ≡ end .total
+  pub stored : store ≡ end .store
+  pub written : out ≡ end .out

@@ -1,0 +1,132 @@
+// A session, for benchmarks in Rust: an exporter is set up and makes one call after the other, as lent events ask for, since a state does
+// not cross the boundary to C. Each of the exporter's calls has one caller here, as in a program that uses the exporter: the compiler then
+// puts the call in its caller's place. So nothing else stands in this crate.
+ghost use mathlib.Core.Path.{_≡_};
+ghost use Prim.Native.Nat.{_+_, _≤_};
+ghost use lib.ListN.{length};
+ghost use Rattle.sessions.specs.Sessions.{settingsOf, messageAt, added, eventCount, progress, played, sessionEnd, PlayedTo};
+use exporter::state::Made;
+use exporter::state::Settings;
+
+// The octets of an event: its call, its server, the length of its message, and 16 octets with which the message begins.
+const EVENT_OCTETS: usize = 19;
+
+// The calls of events; any other number is a message that is received.
+const PUT: u8 = 0;
+
+const NEXT_DATA: u8 = 1;
+
+const TICK: u8 = 2;
+
+const OFFER: u8 = 3;
+
+// The settings of a session: all priorities are 0.
+fn settings(servers: u8, threshold: u8, duration: u16, initial: u32) -> Settings
+    ensures { λ p. ⌜ p ≡ settingsOf servers threshold duration initial ⌝ }
+{
+    let priorities = [0u8; 8];
+    Settings {
+        session: 7,
+        config: 1,
+        boot: 3600,
+        initial,
+        servers,
+        priorities,
+        threshold,
+        duration,
+    }
+}
+
+// The message of the event at a place.
+fn message_at(events: &[u8], at: usize) -> &[u8]
+    requires { ⌜ at + 19 ≤ length (now events) ⌝ }
+    ensures { λ m. ⌜ now m ≡ messageAt (now (events .entry)) at ⌝ }
+{
+    let start = at + 3;
+    let end = start + ((events[at + 2] % 17) as usize);
+    &events[start..end]
+}
+
+// A sum with an answer and a number of octets added, modulo 2 to the 64.
+fn add(total: u64, answer: u8, written: usize) -> u64
+    ensures { λ n. ⌜ n ≡ added total answer written ⌝ }
+{
+    let sum = std::num::wrapping_add_u64(total, answer as u64);
+    std::num::wrapping_add_u64(sum, written as u64)
+}
+
+// Makes the calls of all events, and sums up the answers and the octets written.
+fn play(
+    made: Made,
+    store: &mut [u8],
+    table: &[u8],
+    id: u16,
+    r: &[u8],
+    events: &[u8],
+    out: &mut [u8],
+) -> u64
+    ensures { λ n. ⌜ PlayedTo (played (record { table = now (table .entry); template = id; octets = now (r .entry); events = now (events .entry) }) (eventCount (now (events .entry)))
+        (progress (made .state) (now (store .entry)) (now (out .entry)) (made .answer))) n (now (store .exit)) (now (out .exit)) ⌝ }
+{
+    let mut state = made.state;
+    let mut total = made.answer as u64;
+    let n = events.len() / EVENT_OCTETS;
+    let mut i: usize = 0;
+    while i < n {
+        let at = EVENT_OCTETS * i;
+        let code = events[at];
+        let server = events[at + 1];
+        match code {
+            PUT => {
+                let left = exporter::put::put(state, store, table, id, r);
+                state = left.state;
+                total = add(total, left.answer, 0);
+            }
+            NEXT_DATA => {
+                let left = exporter::next_data::next_data(state, store, out);
+                state = left.state;
+                total = add(total, left.answer, left.written);
+            }
+            TICK => {
+                let left = exporter::tick::tick(state);
+                state = left.state;
+                total = add(total, left.answer, 0);
+            }
+            OFFER => {
+                let left = exporter::offer_templates::offer_templates(state, server, table, out);
+                state = left.state;
+                total = add(total, left.answer, left.written);
+            }
+            _ => {
+                let m = message_at(events, at);
+                let left = exporter::receive::receive(state, server, m, out);
+                state = left.state;
+                total = add(total, left.answer, left.written);
+            }
+        }
+        i += 1;
+    }
+    total
+}
+
+// Sets an exporter up over a store and makes the calls of all events, each put of the same record: the sum of the answers and of the
+// octets written, modulo 2 to the 64.
+#[no_mangle]
+pub extern "C" fn crane_session(
+    servers: u8,
+    threshold: u8,
+    duration: u16,
+    initial: u32,
+    store: &mut [u8],
+    table: &[u8],
+    id: u16,
+    r: &[u8],
+    events: &[u8],
+    out: &mut [u8],
+) -> u64
+    ensures { λ n. ⌜ PlayedTo (sessionEnd (settingsOf servers threshold duration initial)
+        (record { table = now (table .entry); template = id; octets = now (r .entry); events = now (events .entry) }) (now (store .entry)) (now (out .entry))) n (now (store .exit)) (now (out .exit)) ⌝ }
+{
+    let made = exporter::set_up::set_up(settings(servers, threshold, duration, initial), store);
+    play(made, store, table, id, r, events, out)
+}
