@@ -46,7 +46,7 @@ named m next count dsn first place hf hp hc ef ep =
 shifted-none : (xs : List ℕ) → shifted xs 0 ≡ xs
 shifted-none xs = append-nil xs
 
-dropped-none : (q : Queue) → dropFront q 0 ≡ q
+pub dropped-none : (q : Queue) → dropFront q 0 ≡ q
 unfolding dropFront
 dropped-none q = rw (shifted-none (q .lengths), shifted-none (q .templates), shifted-none (q .receivers), sub-zero (q .count))
 

@@ -1,15 +1,18 @@
 -- Laws of the queue's arrays: sums of lengths, sets of servers, entries moved to the front. Assumes nothing.
 use mathlib.Core.Path.{_≡_, refl, sym, ap, _∙_}
-use mathlib.Core.Bool.{false, not, _&&_, _||_}
+use mathlib.Core.Bool.{true, false, not, _&&_, _||_}
 use mathlib.Core.List.{List, [], _∷_, _++_, map, append-nil}
-use Prim.Native.Nat.{ℕ, zero, suc, _+_, _-_, _*_, _%_, _^_, _≤_, _<_}
-use native.Mathlib.Nat.{one-mul, mod-eq-of-lt, pow-le-pow-right, div-eq-of-lt, zero-lt-suc, lt-of-lt-of-le, not-suc-le-zero, le-of-suc-le-suc}
+use Prim.Native.Nat.{ℕ, zero, suc, _+_, _-_, _*_, _/_, _%_, _^_, _≤_, _<_}
+use native.Mathlib.Nat.{mod-lt, one-mul, mod-eq-of-lt, pow-le-pow-right, div-eq-of-lt, zero-lt-suc, lt-of-lt-of-le, not-suc-le-zero, le-of-suc-le-suc}
 use native.Mathlib.Numerals.{add-one}
 use native.Mathlib.Omega.{arith}
+use lib.Bits.{bitAnd, and-zero-l, and-zero-r, and-self, and-shr, and-mod}
 use lib.Dec.{eqb}
 use lib.Pow.{pow-lt}
 use lib.ListN.{length, getD, set, take, drop, replicate, length-drop, length-replicate, replicate-append-replicate, drop-of-length-le}
 use lib.Seq.{take-suc, take-all, drop-at, getD-drop}
+use Rattle.wire.specs.Each.{every}
+use Rattle.wire.proofs.Each.{every-at}
 use Rattle.exporter.specs.Queue.{sumOf, has, hasOther, shifted}
 
 -- ---- sums
@@ -90,3 +93,25 @@ map-suc {A = A} f z s i h = rw add-one (go s i h)
 -- all elements
 pub map-all : {A : Type 0} (f : A → A) (s : List A) (i : ℕ) → length s ≤ i → map f (take i s) ++ drop i s ≡ map f s
 map-all f s i h = rw (take-all i s h, drop-of-length-le s h, append-nil)
+
+-- ---- what sets have in common
+
+-- of two digits
+both-bits : (x y : ℕ) → x < 2 → y < 2 → eqb (bitAnd x y) 1 ≡ eqb x 1 && eqb y 1
+both-bits zero y h k = ap (λ (n : ℕ). eqb n 1) (and-zero-l y)
+both-bits (suc zero) zero h k = ap (λ (n : ℕ). eqb n 1) (and-zero-r 1)
+both-bits (suc zero) (suc zero) h k = ap (λ (n : ℕ). eqb n 1) (and-self 1)
+both-bits (suc zero) (suc (suc y)) h k = absurd (omega arith)
+both-bits (suc (suc x)) y h k = absurd (omega arith)
+
+-- a server is in what two sets have in common where it is in both
+pub has-both : (a b v : ℕ) → has (bitAnd a b) v ≡ has a v && has b v
+unfolding has
+has-both a b v =
+    ap (λ (n : ℕ). eqb n 1) (ap (λ (n : ℕ). n % 2) (and-shr a b v) ∙ and-mod (a / 2 ^ v) (b / 2 ^ v) 1)
+    ∙ both-bits (a / 2 ^ v % 2) (b / 2 ^ v % 2) (mod-lt (a / 2 ^ v) {m = 2} (omega arith)) (mod-lt (b / 2 ^ v) {m = 2} (omega arith))
+
+-- all 16 are in the largest set
+pub has-all : (v : ℕ) → v < 16 → has 65535 v ≡ true
+unfolding has every
+has-all v l = every-at 16 (λ u. has 65535 u) refl v l

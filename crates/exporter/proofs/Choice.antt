@@ -20,7 +20,7 @@ use Rattle.exporter.specs.declared.state.Settings.{Settings}
 use Rattle.exporter.specs.declared.state.Delivery.{Delivery}
 use Rattle.exporter.specs.declared.state.State.{State}
 use Rattle.exporter.proofs.QueueLaws.{last-cases}
-use Rattle.exporter.proofs.SoundFacts.{SoundFacts, same-active, sound-facts}
+use Rattle.exporter.proofs.SoundFacts.{same-active, sound-facts}
 
 -- the server to be active is as 01 says it
 pub choice : (priorities : List ℕ) (servers : List serverOf.Server) (n : ℕ) → IsChoice priorities servers n (choose priorities servers n)
@@ -135,13 +135,14 @@ all-closed priorities m n = nobody-none priorities (replicate m (server Closed))
     closed (suc m) zero = refl
     closed (suc m) (suc n) = closed m n
 
+-- an active server that is chosen among at most eight is one of eight
+pub choice-below : (p : Settings) (d : Delivery) → d .active ≡ chosen p d → p .servers ≤ 8 → Below 8 (d .active)
+choice-below p d e l = go (d .active) refl
+  where
+    go : (a : Active) → d .active ≡ a → Below 8 a
+    go Nobody k = tt
+    go (Server v) k = omega (arith, chosen-below (p .priorities) (d .servers) (p .servers) v (sym e ∙ k))
+
 -- a sound state's active server is one of eight
 pub active-below : (s : State) → sound s ≡ true → Below 8 (s .delivery .active)
-active-below s e = go (s .delivery .active) refl
-  where
-    f : SoundFacts s
-    f = sound-facts s e
-
-    go : (a : Active) → s .delivery .active ≡ a → Below 8 a
-    go Nobody k = tt
-    go (Server v) k = omega (arith, chosen-below (s .settings .priorities) (s .delivery .servers) (s .settings .servers) v (sym (f .choice) ∙ k), f .numbers .settings .fewServers)
+active-below s e = let f = sound-facts s e in choice-below (s .settings) (s .delivery) (f .choice) (f .numbers .settings .fewServers)

@@ -152,6 +152,20 @@ fn release_queue<'a>(
     }
 }
 
+// The queue without its first n records; the same one where none is released.
+fn queue_after(q: Queue, n: usize) -> Queue
+    requires { ⌜ (n ≤ q .count) × (n ≤ 64) ⌝ }
+    ensures { λ r. ⌜ r ≡ dropFront q n ⌝ }
+{
+    if n == 0 {
+        return q;
+    }
+    let lengths = q.lengths;
+    let templates = q.templates;
+    let receivers = q.receivers;
+    release_queue(q.count, &lengths, &templates, &receivers, n)
+}
+
 // A DATA ACK from server v: 1, 2, 9, 10 or 11.
 pub(crate) fn acknowledge(s: State, v: u8, dsn: u32, config: u8) -> Wrote
     ensures { λ r. ⌜ r ≡ wroteOf (step 32 [] 0 (ack v dsn config) s []) ⌝ }
@@ -159,7 +173,6 @@ pub(crate) fn acknowledge(s: State, v: u8, dsn: u32, config: u8) -> Wrote
     let p = s.settings;
     let d = s.delivery;
     let lengths = s.queue.lengths;
-    let templates = s.queue.templates;
     let receivers = s.queue.receivers;
     let change = ack_change(
         p,
@@ -175,13 +188,7 @@ pub(crate) fn acknowledge(s: State, v: u8, dsn: u32, config: u8) -> Wrote
         dsn,
         config,
     );
-    let queue = release_queue(
-        s.queue.count,
-        &lengths,
-        &templates,
-        &receivers,
-        change.released,
-    );
+    let queue = queue_after(s.queue, change.released);
     let mut state = s;
     state.delivery.sent = change.sent;
     state.delivery.reached = change.reached;

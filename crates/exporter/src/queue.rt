@@ -79,18 +79,18 @@ pub(crate) fn entries_sound<'a>(
     ok
 }
 
-// Whether each of the first n records was sent to a server.
+// Whether each of the first n records was sent to a server: it is in what their sets have in common.
 pub(crate) fn all_received(receivers: &[u16; 64], n: usize, v: u8) -> bool
-    requires { ⌜ n ≤ 64 ⌝ }
+    requires { ⌜ (n ≤ 64) × (v < 16) ⌝ }
     ensures { λ r. ⌜ r ≡ every n (λ i. has (getD (now (receivers .entry)) i 0) v) ⌝ }
 {
-    let mut ok = true;
+    let mut common: u16 = 65535;
     let mut i: usize = 0;
     while i < n {
-        ok = ok & has_server(receivers[i], v);
+        common = common & receivers[i];
         i += 1;
     }
-    ok
+    has_server(common, v)
 }
 
 // The entries from n on, moved to the front, with 0 in those that this frees.

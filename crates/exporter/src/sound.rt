@@ -1,6 +1,7 @@
 // The limits of the settings, and whether a state is sound.
 ghost use mathlib.Core.Path.{_≡_};
 ghost use Prim.Native.Nat.{_≤_};
+ghost use Rattle.exporter.specs.Changes.{Below};
 ghost use Rattle.exporter.specs.Sound.{settingsSound, numbersSound, activationSound, partsOf, sound};
 use crate::queue::MAX_HELD;
 use crate::servers::MAX_SERVERS;
@@ -48,7 +49,7 @@ fn numbers_sound(
 
 // Whether the activation is as the records have it.
 fn activation_sound(d: Delivery, receivers: &[u16; 64]) -> bool
-    requires { ⌜ d .reached ≤ 64 ⌝ }
+    requires { ⌜ (d .reached ≤ 64) × Below 8 (d .active) ⌝ }
     ensures { λ r. ⌜ r ≡ activationSound d (now (receivers .entry)) (d .active) ⌝ }
 {
     let active = d.active;

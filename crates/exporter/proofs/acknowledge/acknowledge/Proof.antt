@@ -7,13 +7,13 @@ use Rattle.exporter.proofs.acknowledge.acknowledge.Tie as tie
 ack-change-requires : tie.Need-ack-change-requires
 ack-change-requires c κs = search needs
 
-release-queue-requires : tie.Need-release-queue-requires
-release-queue-requires c κs = rw (c .before .before .before .ack-change .ensures) (released-few 32 _ _ _ (c .before .before .before .before .before .before .before .before .before .before .before .args .s))
+queue-after-requires : tie.Need-queue-after-requires
+queue-after-requires c κs = rw (c .ack-change .ensures) (released-few 32 _ _ _ (c .before .before .before .before .before .before .before .args .s))
 
 returns : tie.Need-returns
 returns c =
-    rw (c .before .before .before .release-queue .ensures, c .before .before .before .before .before .before .before .ack-change .ensures)
-    (ack-parts 32 _ _ _ (c .before .before .before .before .before .before .before .before .before .before .before .before .before .before .before .args .s))
+    rw (c .before .before .before .queue-after .ensures, c .before .before .before .before .ack-change .ensures)
+    (ack-parts 32 _ _ _ (c .before .before .before .before .before .before .before .before .before .before .before .args .s))
 
 pub acknowledge-spec : {M : Type 1} → statement M
-acknowledge-spec = tie.close (tie.spec ack-change-requires release-queue-requires returns)
+acknowledge-spec = tie.close (tie.spec ack-change-requires queue-after-requires returns)

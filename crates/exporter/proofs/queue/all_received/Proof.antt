@@ -1,33 +1,33 @@
--- `all_received` meets its contract. The loop's invariant: ok says whether the records passed were sent to the server. Assumes nothing.
-use mathlib.Core.Path.{_≡_, refl}
+-- `all_received` meets its contract. The loop's invariant: the server is in what the sets passed have in common where it is in each of
+-- them. It is in the set that the loop starts with, which has all 16. Assumes nothing.
+use mathlib.Core.Path.{_≡_, ap, _∙_}
+use mathlib.Core.Bool.{Bool, _&&_}
 use native.Mathlib.Omega.{arith}
 use Prim.Native.Nat.{_-_, _≤_}
 use lib.ListN.{getD}
 use Rattle.wire.specs.Each.{every}
 use Rattle.wire.proofs.Each.{every-more}
 use Rattle.exporter.specs.Queue.{has}
+use Rattle.exporter.proofs.Arrays.{has-both, has-all}
 use borrow.Author.Needs.{needs}
 use Rattle.exporter.proofs.queue.all_received.Statement.{statement}
 use Rattle.exporter.proofs.queue.all_received.Tie as tie
 
 abbrev Inv-loop : tie.InvT-loop
-Inv-loop receivers n v ok₀ i₀ ok i = (i ≤ n) × (ok ≡ every i (λ j. has (getD receivers j 0) v))
+Inv-loop receivers n v common₀ i₀ common i = (i ≤ n) × (has common v ≡ every i (λ j. has (getD receivers j 0) v))
 
 abbrev μ-loop : tie.MeasureT-loop
-μ-loop receivers n v ok₀ i₀ ok i = n - i
+μ-loop receivers n v common₀ i₀ common i = n - i
 
 loop-holds : tie.Need-loop-holds Inv-loop μ-loop
 unfolding every
-loop-holds c = (search needs, refl)
+loop-holds c = (search needs, has-all _ (c .pre .1))
 
-mul-has-server : tie.Need-mul-has-server Inv-loop μ-loop
-mul-has-server c = search needs
+mul-common : tie.Need-mul-common Inv-loop μ-loop
+mul-common c = search needs
 
-element-copy-out-has-server : tie.Need-element-copy-out-has-server Inv-loop μ-loop
-element-copy-out-has-server c = search needs
-
-has-server-requires : tie.Need-has-server-requires Inv-loop μ-loop
-has-server-requires c κs = search needs
+element-copy-out-common : tie.Need-element-copy-out-common Inv-loop μ-loop
+element-copy-out-common c = search needs
 
 add-i : tie.Need-add-i Inv-loop μ-loop
 add-i c = search needs
@@ -36,10 +36,20 @@ loop-less : tie.Need-loop-less Inv-loop μ-loop
 loop-less c = search needs
 
 loop-again : tie.Need-loop-again Inv-loop μ-loop
-loop-again c = (search needs, rw every-more (cc))
+loop-again c =
+    let l = c .before .before .loop in
+    let a = c .before .before .before .args in
+    let x = getD (a .receivers .now) (l .i) 0 in
+    (search needs, rw every-more (has-both (l .common) x (a .v) ∙ ap (λ (b : Bool). b && has x (a .v)) (l .inv .1)))
+
+has-server-requires : tie.Need-has-server-requires Inv-loop μ-loop
+has-server-requires c κs = search needs
 
 returns : tie.Need-returns Inv-loop μ-loop
-returns c = let e : c .before .loop .i ≡ c .before .before .args .n = omega arith in cc
+returns c =
+    let l = c .before .before .loop in
+    let e : l .i ≡ c .before .before .before .args .n = omega arith in
+    rw (← e) (c .has-server .ensures ∙ l .inv .1)
 
 pub all-received-spec : {M : Type 1} → statement M
 all-received-spec =
@@ -48,10 +58,10 @@ all-received-spec =
     Inv-loop
     μ-loop
     loop-holds
-    mul-has-server
-    element-copy-out-has-server
-    has-server-requires
+    mul-common
+    element-copy-out-common
     add-i
     loop-less
     loop-again
+    has-server-requires
     returns)

@@ -1,4 +1,7 @@
 -- `activation_sound` meets its contract, by whether somebody is active. Assumes nothing.
+use mathlib.Core.Path.{subst}
+use native.Mathlib.Omega.{arith}
+use Rattle.exporter.specs.Changes.{Below}
 use borrow.Author.Needs.{needs}
 use Rattle.exporter.proofs.sound.activation_sound.Statement.{statement}
 use Rattle.exporter.proofs.sound.activation_sound.Tie as tie
@@ -10,7 +13,9 @@ enum-known-active : tie.Need-enum-known-active
 enum-known-active c = search needs
 
 all-received-requires : tie.Need-all-received-requires
-all-received-requires c κs = search needs
+all-received-requires c κs =
+    let z = c .before .before .before in
+    (z .pre .0, omega (arith, subst (Below 8) (c .before .active .given .1) (z .pre .1)))
 
 returns : tie.Need-returns
 returns c = rw (c .before .before .before .enum-told .given .1)

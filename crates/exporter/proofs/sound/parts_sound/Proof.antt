@@ -5,7 +5,8 @@ use native.Mathlib.Omega.{arith}
 use borrow.Author.Tests.{not-true, not-false, le-leb, lt-leb}
 use Rattle.wire.proofs.Each.{clause-last}
 use Rattle.exporter.specs.Sound.{sound}
-use Rattle.exporter.proofs.SoundFacts.{numbers-facts, unsound}
+use Rattle.exporter.proofs.SoundFacts.{numbers-facts, unsound, same-active}
+use Rattle.exporter.proofs.Choice.{choice-below}
 use borrow.Author.Needs.{needs}
 use Rattle.exporter.proofs.sound.parts_sound.Statement.{statement}
 use Rattle.exporter.proofs.sound.parts_sound.Tie as tie
@@ -41,7 +42,12 @@ returns-4 : tie.Need-returns-4
 returns-4 c = unsound _ 3 (rw (← c .before .before .choose-server .ensures) (sym (c .before .same-active .ensures) ∙ not-true _ (c .if4 .taken)))
 
 activation-sound-requires : tie.Need-activation-sound-requires
-activation-sound-requires c κs = let f = numbers-facts _ _ _ _ _ _ (sym (c .before .before .before .before .before .before .before .before .before .before .numbers-sound .ensures) ∙ not-false _ (c .before .before .before .before .before .before .before .before .before .if1 .left)) in omega arith
+activation-sound-requires c κs =
+    let z = c .before .before .before .before .before .before .before .before .before .before .before in
+    let f = numbers-facts _ _ _ _ _ _ (sym (c .before .before .before .before .before .before .before .before .before .before .numbers-sound .ensures) ∙ not-false _ (c .before .before .before .before .before .before .before .before .before .if1 .left)) in
+    let a = z .args in
+    let e = same-active (a .d .active) _ (sym (c .before .same-active .ensures) ∙ not-false _ (c .if4 .left)) in
+    (omega arith, choice-below (a .p) (a .d) (e ∙ c .before .before .choose-server .ensures) (f .settings .fewServers))
 
 returns-5 : tie.Need-returns-5
 unfolding sound
