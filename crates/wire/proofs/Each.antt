@@ -8,6 +8,7 @@ use native.Mathlib.Numerals.{add-one}
 use native.Mathlib.Omega.{arith}
 use borrow.Author.Tests.{lt-ltb, le-ltb, ltb-true, ltb-false}
 use lib.Dec.{ltb, eqb}
+use Rattle.octets.proofs.Stores.{cond-cases}
 use Rattle.wire.specs.Each.{every, firstFrom, allOf}
 
 -- ---- bools
@@ -120,3 +121,9 @@ pub first-none : (i n : ℕ) (p : ℕ → Bool) → n ≤ 0 → firstFrom i n p 
 unfolding firstFrom
 first-none i zero p h = refl
 first-none i (suc n) p h = absurd (not-suc-le-zero h)
+
+-- it is not before the start
+pub first-least : (i n : ℕ) (p : ℕ → Bool) → i ≤ firstFrom i n p
+unfolding firstFrom
+first-least i zero p = le-refl i
+first-least i (suc n) p = cond-cases (λ (k : ℕ). i ≤ k) (p i) i (firstFrom (i + 1) n p) (λ e. le-refl i) (λ e. omega (arith, first-least (i + 1) n p))

@@ -1,10 +1,10 @@
 // Records: the length of a field, and whether octets are a valid record under a template.
 ghost use mathlib.Core.Path.{_≡_};
 ghost use mathlib.Core.Bool.{true};
-ghost use Prim.Native.Nat.{_+_, _*_, _≤_, _<_};
-ghost use lib.Dec.{ltb};
+ghost use Prim.Native.Nat.{_+_, _-_, _*_, _≤_, _<_};
+ghost use lib.Dec.{ltb, eqb};
 ghost use lib.ListN.{length, getD};
-ghost use Rattle.wire.specs.Each.{every};
+ghost use Rattle.wire.specs.Each.{every, firstFrom};
 ghost use Rattle.wire.specs.Table.{keyAt, isEnabled};
 ghost use Rattle.wire.specs.FieldTypes.{widthOf};
 ghost use Rattle.wire.specs.Record.{blobLength, stringLength, terminatedLength, fieldLength, lengthUnder, recordValid, recordAnswer};
@@ -72,16 +72,27 @@ fn string_length(r: &[u8], at: usize) -> usize
     0
 }
 
-// The length of the zero-terminated string at a place, 0 where none is valid there.
-fn terminated_length(r: &[u8], at: usize) -> usize
-    ensures { λ n. ⌜ n ≡ terminatedLength (now (r .entry)) at ⌝ }
+// The place of the first zero from a place on; the record's length or more where there is none.
+fn first_zero(r: &[u8], at: usize) -> usize
+    ensures { λ p. ⌜ p ≡ firstFrom at (length (now (r .entry)) - at) (λ p. eqb (getD (now (r .entry)) p 0) 0) ⌝ }
 {
     let mut p = at;
     while p < r.len() {
         if r[p] == 0 {
-            return p + 1 - at;
+            return p;
         }
         p += 1;
+    }
+    p
+}
+
+// The length of the zero-terminated string at a place, 0 where none is valid there.
+fn terminated_length(r: &[u8], at: usize) -> usize
+    ensures { λ n. ⌜ n ≡ terminatedLength (now (r .entry)) at ⌝ }
+{
+    let p = first_zero(r, at);
+    if p < r.len() {
+        return p + 1 - at;
     }
     0
 }

@@ -141,7 +141,8 @@ fn step_under(t: &[u8], m: Template, r: &[u8], c: Cursor) -> Step
 pub fn open_walk(t: &[u8], id: u16, r: &[u8]) -> Opened
     ensures { λ o. ⌜ o ≡ openOf (now (t .entry)) id (now (r .entry)) ⌝ }
 {
-    let answer = crate::record::record_valid(t, id, r);
+    // Both are lent anew, since to pass parameters on would copy them first.
+    let answer = crate::record::record_valid(&t[..], id, &r[..]);
     if answer == Answer::DONE {
         return Opened::At(Cursor { index: 0, at: 0 });
     }

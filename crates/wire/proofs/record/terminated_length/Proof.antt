@@ -1,77 +1,35 @@
--- `terminated_length` meets its contract. The loop's invariant: the first zero, if any, is not before p. Assumes nothing.
-use mathlib.Core.Path.{_≡_, refl, sym, _∙_}
+-- `terminated_length` meets its contract: the string ends with the first zero, where the record has one. Assumes nothing.
 use native.Mathlib.Omega.{arith}
-use Prim.Native.Nat.{_+_, _-_, _≤_}
-use mathlib.Core.Bool.{not}
+use Prim.Native.Nat.{_-_}
 use lib.Dec.{eqb}
 use lib.ListN.{length, getD}
-use borrow.Author.Tests.{eq-eqb, ne-eqb, le-ltb, lt-ltb}
-use Rattle.wire.specs.Each.{firstFrom}
-use Rattle.wire.proofs.Each.{first-here, first-on, first-none}
+use borrow.Author.Tests.{le-ltb, lt-ltb}
+use Rattle.wire.proofs.Each.{first-least}
 use Rattle.wire.specs.Record.{terminatedLength}
 use borrow.Author.Needs.{needs}
 use Rattle.wire.proofs.record.terminated_length.Statement.{statement}
 use Rattle.wire.proofs.record.terminated_length.Tie as tie
 
-abbrev Inv-loop : tie.InvT-loop
-Inv-loop r at p₀ p = (at ≤ p) × (firstFrom p (length r - p) (λ q. eqb (getD r q 0) 0) ≡ firstFrom at (length r - at) (λ q. eqb (getD r q 0) 0))
+first-zero-requires : tie.Need-first-zero-requires
+first-zero-requires c κs = search needs
 
-abbrev μ-loop : tie.MeasureT-loop
-μ-loop r at p₀ p = length r - p
-
-loop-holds : tie.Need-loop-holds Inv-loop μ-loop
-loop-holds c = (search needs, refl)
-
-shared-slice-read-if1 : tie.Need-shared-slice-read-if1 Inv-loop μ-loop
-shared-slice-read-if1 c = search needs
-
-add-result : tie.Need-add-result Inv-loop μ-loop
+add-result : tie.Need-add-result
 add-result c = search needs
 
-sub-result : tie.Need-sub-result Inv-loop μ-loop
-sub-result c = search needs
+sub-result : tie.Need-sub-result
+sub-result c =
+    let a = c .before .before .before .args in
+    let r = a .r .now in
+    omega (arith, first-least (a .at) (length r - a .at) (λ q. eqb (getD r q 0) 0))
 
-returns : tie.Need-returns Inv-loop μ-loop
+returns : tie.Need-returns
 unfolding terminatedLength
-returns c =
-    let l = c .before .before .before .loop in
-    let r = c .before .before .before .before .args .r .now in
-    let e = sym (l .inv .1) ∙ first-here (l .p) (length r - l .p) (λ q. eqb (getD r q 0) 0) (omega arith) (eq-eqb _ _ (c .if1 .taken)) in
-    rw (e, lt-ltb _ _ (c .before .before .loop-test .taken))
+returns c = rw (← c .before .first-zero .ensures, lt-ltb _ _ (c .if1 .taken))
 
-add-p : tie.Need-add-p Inv-loop μ-loop
-add-p c = search needs
-
-loop-less : tie.Need-loop-less Inv-loop μ-loop
-loop-less c = search needs
-
-loop-again : tie.Need-loop-again Inv-loop μ-loop
-loop-again c =
-    let l = c .before .before .before .loop in
-    let r = c .before .before .before .before .args .r .now in
-    let k : length r - (l .p + 1) ≡ length r - l .p - 1 = omega arith in
-    (omega arith, rw k (sym (first-on (l .p) (length r - l .p) (λ q. eqb (getD r q 0) 0) (omega arith) (ne-eqb _ _ (c .if1 .left))) ∙ l .inv .1))
-
-returns-2 : tie.Need-returns-2 Inv-loop μ-loop
+returns-2 : tie.Need-returns-2
 unfolding terminatedLength
-returns-2 c =
-    let l = c .before .loop in
-    let r = c .before .before .args .r .now in
-    let e = sym (l .inv .1) ∙ first-none (l .p) (length r - l .p) (λ q. eqb (getD r q 0) 0) (omega arith) in
-    rw (e, le-ltb _ _ (c .loop-test .left))
+returns-2 c = rw (← c .before .first-zero .ensures, le-ltb _ _ (c .if1 .left))
 
 pub terminated-length-spec : {M : Type 1} → statement M
 terminated-length-spec =
-    tie.close
-    (tie.spec
-    Inv-loop
-    μ-loop
-    loop-holds
-    shared-slice-read-if1
-    add-result
-    sub-result
-    returns
-    add-p
-    loop-less
-    loop-again
-    returns-2)
+    tie.close (tie.spec first-zero-requires add-result sub-result returns returns-2)
