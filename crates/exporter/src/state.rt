@@ -83,19 +83,19 @@ pub struct State {
 
 // What set-up answers.
 pub struct Made {
-    pub answer: u8,
     pub state: State,
+    pub answer: u8,
 }
 
 // What a call answers that writes no message.
 pub struct Stepped {
-    pub answer: u8,
     pub state: State,
+    pub answer: u8,
 }
 
 // What a call answers that may write a message: how many octets it wrote.
 pub struct Wrote {
+    pub state: State,
     pub answer: u8,
     pub written: usize,
-    pub state: State,
 }
