@@ -132,6 +132,52 @@ pub fn fixed_record() -> Vec<u8> {
     (0..n).map(|i| (i % 2) as u8).collect()
 }
 
+/// A valid record, with its table and its template's ID.
+#[derive(Clone)]
+pub struct Valid {
+    pub table: Vec<u8>,
+    pub id: u16,
+    pub record: Vec<u8>,
+}
+
+impl Valid {
+    /// Of the small table, of n octets.
+    pub fn small(n: usize) -> Valid {
+        Valid {
+            table: small_table(),
+            id: 1,
+            record: small_record(n),
+        }
+    }
+
+    /// Of the largest table's last template, of n octets.
+    pub fn large(n: usize) -> Valid {
+        Valid {
+            table: large_table(true),
+            id: 8,
+            record: large_record(n),
+        }
+    }
+
+    /// A single field of a type with a length of its own, of n octets.
+    pub fn text(kind: u16, n: usize) -> Valid {
+        Valid {
+            table: text_table(kind),
+            id: 1,
+            record: text_record(kind, n),
+        }
+    }
+
+    /// 32 fields of fixed widths.
+    pub fn fixed() -> Valid {
+        Valid {
+            table: fixed_table(),
+            id: 1,
+            record: fixed_record(),
+        }
+    }
+}
+
 // ---- messages
 
 fn header(number: u8, len: usize) -> Vec<u8> {
@@ -150,7 +196,7 @@ pub fn tmpl_data(t: &[u8]) -> Vec<u8> {
     m
 }
 
-pub fn agreement() -> Vec<u8> {
+pub fn final_tmpl_data_ack() -> Vec<u8> {
     let mut m = header(message::FINAL_TMPL_DATA_ACK, 12);
     m.extend([CONFIG, 0, 0, 0]);
     m
@@ -174,6 +220,9 @@ pub fn data_ack(dsn: u32) -> Vec<u8> {
 
 /// Sixty-four records are held at most, so that a store of 65,536 octets holds them all.
 pub const STORE_OCTETS: usize = 65536;
+
+/// The octets of the longest message, a TMPL DATA with the largest table.
+pub const OUTPUT_OCTETS: usize = 16392;
 
 /// A timer that runs from the first record sent on, and does not run out while it is measured.
 pub const GIVEN: Given = Given {
@@ -208,7 +257,7 @@ impl Events {
         };
         e.receive(0, &bare(message::START));
         e.offer(0);
-        e.receive(0, &agreement());
+        e.receive(0, &final_tmpl_data_ack());
         e
     }
 

@@ -1,8 +1,9 @@
 //! The speed of the proved code, called through two static libraries, against an exporter in Rust that makes the same checks.
 //!
-//! `bench` compares both sides and prints nanoseconds a call and their ratio; `bench count` makes each run once, to be counted by
-//! callgrind (see bench/count); `bench report FILE` prints the lines from the counts; `bench spin WORD RUN SIDE` makes one run of the first
-//! group whose title has the word again and again for three seconds, to be sampled by a profiler; `bench replay` is the Rust side's replay program.
+//! `bench` compares both sides and prints nanoseconds a call and their ratio; `bench WORD` measures only the groups whose title has the
+//! word; `bench count` makes each run once, to be counted by callgrind (see bench/count); `bench report FILE` prints the lines from the
+//! counts; `bench spin WORD RUN SIDE` makes one run of the first group whose title has the word again and again for three seconds, to be
+//! sampled by a profiler; `bench replay-program` is the Rust side's replay program.
 
 mod answer;
 mod exporter;
@@ -116,10 +117,12 @@ fn main() {
     match words.iter().map(String::as_str).collect::<Vec<_>>()[..] {
         ["count"] => count(),
         ["report", file] => report(file),
-        ["replay"] => replay::program().expect("an output"),
+        ["replay-program"] => replay::program().expect("an output"),
         [] => time(None),
         [word] => time(Some(word)),
         ["spin", word, run, side] => spin(word, run, side),
-        _ => eprintln!("usage: bench [WORD | count | report FILE | spin WORD RUN rattle|rust]"),
+        _ => eprintln!(
+            "usage: bench [WORD | count | report FILE | spin WORD RUN rattle|rust | replay-program]"
+        ),
     }
 }

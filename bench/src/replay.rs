@@ -2,13 +2,12 @@
 
 use crate::answer::UNSOUND_TABLE;
 use crate::exporter::{Settings, State};
-use crate::inputs;
+use crate::inputs::{self, OUTPUT_OCTETS};
 use crate::session::{CONFIG, SESSION};
 use crate::table::{self, u16_at, u32_at};
 use std::io::{Read, Write};
 
 const MAX_TAPE_OCTETS: usize = 32768;
-const OUTPUT_OCTETS: usize = 16392;
 
 /// An event of a tape: its kind, the server that it names and its body.
 type Event<'a> = (u8, u8, &'a [u8]);
@@ -133,7 +132,7 @@ pub fn tape() -> Vec<u8> {
         (1, inputs::small_table()),
         (3, inputs::bare(crate::message::START)),
         (7, vec![]),
-        (3, inputs::agreement()),
+        (3, inputs::final_tmpl_data_ack()),
     ];
     for dsn in 0..169 {
         all.extend([(2, put.clone()), (6, vec![]), (3, inputs::data_ack(dsn))]);

@@ -1,6 +1,6 @@
 //! Two sides timed in turn, many short rounds of each. A timed run follows an untimed one of the same side, so that its memory is at hand.
-//! All groups are timed in several passes, and of each group the quietest pass counts: a neighbour of the processor that is busy slows both
-//! sides down, and not by the same factor.
+//! All groups are timed in several passes, and of each group the quietest pass counts: other work on the machine slows both sides down, and
+//! not by the same factor.
 
 use crate::measures::{Group, Line, Run};
 use std::time::Instant;

@@ -1,8 +1,8 @@
 //! Both sides give the same numbers and octets, on what is measured and on damaged copies of it.
 
-use crate::inputs::{self, Events};
-use crate::session::{session, Given};
-use crate::{library, message, session as events, table};
+use crate::inputs::{self, Events, Valid, OUTPUT_OCTETS};
+use crate::session::{session, Given, EVENT_OCTETS};
+use crate::{library, message, table};
 
 /// A small random number generator with a fixed seed.
 struct Random(u64);
@@ -62,44 +62,28 @@ fn compare_message(m: &[u8], room: usize) {
     assert_eq!((a, &out[0]), (b, &out[1]), "message {m:x?}");
 }
 
-fn compare_session(
-    g: Given,
-    capacity: usize,
-    room: usize,
-    t: &[u8],
-    id: u16,
-    r: &[u8],
-    list: &[u8],
-) {
-    let mut store = [vec![0xaa; capacity], vec![0xaa; capacity]];
-    let mut out = [vec![0xaa; room], vec![0xaa; room]];
-    let a = library::session(g, &mut store[0], t, id, r, list, &mut out[0]);
-    let b = session(g, &mut store[1], t, id, r, list, &mut out[1]);
-    assert_eq!(a, b, "sums of {} events", list.len() / events::EVENT_OCTETS);
+/// The lengths of a session's store and of its output.
+#[derive(Clone, Copy)]
+struct Lent {
+    store: usize,
+    out: usize,
+}
+
+fn compare_session(g: Given, lent: Lent, v: &Valid, list: &[u8]) {
+    let mut store = [vec![0xaa; lent.store], vec![0xaa; lent.store]];
+    let mut out = [vec![0xaa; lent.out], vec![0xaa; lent.out]];
+    let (t, r) = (&v.table, &v.record);
+    let a = library::session(g, &mut store[0], t, v.id, r, list, &mut out[0]);
+    let b = session(g, &mut store[1], t, v.id, r, list, &mut out[1]);
+    assert_eq!(a, b, "sums of {} events", list.len() / EVENT_OCTETS);
     assert_eq!(store[0], store[1], "stores");
     assert_eq!(out[0], out[1], "outputs");
 }
 
 /// Every beginning of a list of events, so that what each call writes is compared.
-fn compare_beginnings(
-    g: Given,
-    capacity: usize,
-    room: usize,
-    t: &[u8],
-    id: u16,
-    r: &[u8],
-    list: &Events,
-) -> usize {
+fn compare_beginnings(g: Given, lent: Lent, v: &Valid, list: &Events) -> usize {
     for n in 0..=list.len() {
-        compare_session(
-            g,
-            capacity,
-            room,
-            t,
-            id,
-            r,
-            &list.octets[..n * events::EVENT_OCTETS],
-        );
+        compare_session(g, lent, v, &list.octets[..n * EVENT_OCTETS]);
     }
     list.len() + 1
 }
@@ -120,7 +104,7 @@ fn drawn(random: &mut Random, n: usize) -> Events {
                 let server = random.below(3) as u8;
                 list.receive(server, &inputs::bare(message::START));
                 list.offer(server);
-                list.receive(server, &inputs::agreement());
+                list.receive(server, &inputs::final_tmpl_data_ack());
                 list
             }
             22 => {
@@ -139,107 +123,122 @@ fn drawn(random: &mut Random, n: usize) -> Events {
     list
 }
 
-/// Compares all, and says how many comparisons there were.
+/// How many damaged copies are made of each table, record and message.
+const COPIES: usize = 3000;
+
+/// Compares all, and says how many comparisons of damaged copies and of sessions there were.
 pub fn all() -> usize {
     let mut random = Random(88172645463325252);
-    let mut n = 0;
-    let small = inputs::small_table();
+    tables(&mut random)
+        + records(&mut random)
+        + messages(&mut random)
+        + measured_sessions()
+        + drawn_sessions(&mut random)
+}
+
+fn tables(random: &mut Random) -> usize {
     let tables = [
-        small.clone(),
+        inputs::small_table(),
         inputs::fixed_table(),
         inputs::large_table(true),
         inputs::large_table(false),
     ];
     for t in &tables {
         compare_table(t);
-        for _ in 0..3000 {
-            compare_table(&damaged(t, &mut random));
-            n += 1;
-        }
+        (0..COPIES).for_each(|_| compare_table(&damaged(t, random)));
     }
+    tables.len() * COPIES
+}
+
+fn records(random: &mut Random) -> usize {
     let records = [
-        (small.clone(), 1, inputs::small_record(16)),
-        (small.clone(), 1, inputs::small_record(128)),
-        (
-            inputs::text_table(table::STRING),
-            1,
-            inputs::text_record(table::STRING, 40),
-        ),
-        (
-            inputs::text_table(table::TERMINATED),
-            1,
-            inputs::text_record(table::TERMINATED, 40),
-        ),
-        (inputs::fixed_table(), 1, inputs::fixed_record()),
-        (inputs::large_table(true), 8, inputs::large_record(16)),
+        Valid::small(16),
+        Valid::small(128),
+        Valid::text(table::STRING, 40),
+        Valid::text(table::TERMINATED, 40),
+        Valid::fixed(),
+        Valid::large(16),
     ];
-    for (t, id, r) in &records {
-        assert_eq!(table::record_answer(t, *id, r), 0);
-        compare_record(t, *id, r);
-        compare_record(t, 9, r);
-        for _ in 0..3000 {
-            compare_record(t, *id, &damaged(r, &mut random));
-            n += 1;
-        }
+    for Valid { table, id, record } in &records {
+        assert_eq!(table::record_answer(table, *id, record), 0);
+        compare_record(table, *id, record);
+        compare_record(table, 9, record);
+        (0..COPIES).for_each(|_| compare_record(table, *id, &damaged(record, random)));
     }
+    records.len() * COPIES
+}
+
+fn messages(random: &mut Random) -> usize {
     let messages = [
         inputs::bare(message::START),
         inputs::bare(message::STOP_ACK),
-        inputs::agreement(),
+        inputs::final_tmpl_data_ack(),
         inputs::data_ack(5),
         inputs::data_message(&inputs::small_record(16)),
         inputs::data_message(&inputs::small_record(1024)),
         inputs::data_message(&inputs::small_record(1025)),
-        inputs::tmpl_data(&small),
+        inputs::tmpl_data(&inputs::small_table()),
         inputs::tmpl_data(&inputs::large_table(true)),
     ];
     for m in &messages {
-        for number in 0..=255 {
-            let mut other = m.clone();
-            other[1] = number;
-            compare_message(&other, 16392);
-        }
-        for _ in 0..3000 {
-            let room = random.below(2 * m.len());
-            compare_message(&damaged(m, &mut random), room);
-            n += 1;
-        }
+        compare_numbers(m);
+        compare_copies(m, random);
     }
-    for (t, id, r) in [
-        (small.clone(), 1, inputs::small_record(16)),
-        (inputs::large_table(true), 8, inputs::large_record(128)),
-    ] {
-        let list = Events::opening()
-            .puts(65)
-            .nexts(65)
-            .ticks(2)
-            .ack(0)
-            .nexts(3)
-            .acks(3, 1)
-            .ack(61)
-            .nexts(1)
-            .ack(1);
-        n += compare_beginnings(
-            inputs::GIVEN,
-            inputs::STORE_OCTETS,
-            16392,
-            &t,
-            id,
-            &r,
-            &list,
-        );
+    messages.len() * COPIES
+}
+
+/// A message with each message number.
+fn compare_numbers(m: &[u8]) {
+    let mut other = m.to_vec();
+    for number in 0..=255 {
+        other[1] = number;
+        compare_message(&other, OUTPUT_OCTETS);
     }
-    for _ in 0..60 {
-        let g = Given {
-            servers: 1 + random.below(2) as u8,
-            threshold: 1 + random.below(3) as u8,
-            duration: 1 + random.below(4) as u16,
-            initial: inputs::GIVEN.initial,
-        };
-        let r = inputs::small_record(11 + random.below(300));
-        let room = if random.below(4) == 0 { 40 } else { 2000 };
-        let list = drawn(&mut random, 150);
-        n += compare_beginnings(g, 1024 + random.below(100), room, &small, 1, &r, &list);
+}
+
+/// Damaged copies of a message, each with an output of another length.
+fn compare_copies(m: &[u8], random: &mut Random) {
+    for _ in 0..COPIES {
+        let room = random.below(2 * m.len());
+        compare_message(&damaged(m, random), room);
     }
-    n
+}
+
+/// A list of the events that are measured.
+fn measured_sessions() -> usize {
+    let list = Events::opening()
+        .puts(65)
+        .nexts(65)
+        .ticks(2)
+        .ack(0)
+        .nexts(3)
+        .acks(3, 1)
+        .ack(61)
+        .nexts(1)
+        .ack(1);
+    let lent = Lent {
+        store: inputs::STORE_OCTETS,
+        out: OUTPUT_OCTETS,
+    };
+    compare_beginnings(inputs::GIVEN, lent, &Valid::small(16), &list)
+        + compare_beginnings(inputs::GIVEN, lent, &Valid::large(128), &list)
+}
+
+fn drawn_sessions(random: &mut Random) -> usize {
+    (0..60).map(|_| drawn_session(random)).sum()
+}
+
+/// A list of drawn events with drawn settings, a small store and in places a short output.
+fn drawn_session(random: &mut Random) -> usize {
+    let g = Given {
+        servers: 1 + random.below(2) as u8,
+        threshold: 1 + random.below(3) as u8,
+        duration: 1 + random.below(4) as u16,
+        initial: inputs::GIVEN.initial,
+    };
+    let v = Valid::small(11 + random.below(300));
+    let out = if random.below(4) == 0 { 40 } else { 2000 };
+    let list = drawn(random, 150);
+    let store = 1024 + random.below(100);
+    compare_beginnings(g, Lent { store, out }, &v, &list)
 }

@@ -1,4 +1,4 @@
-//! The example sessions: NAME.txt spells NAME.tape, the run of that tape prints NAME.out, and the comments in
+//! The example sessions: NAME.txt gives NAME.tape, the run of that tape prints NAME.out, and the comments in
 //! NAME.txt that show output show all of it and nothing else.
 //!
 //! Such a comment begins with `# => ` and holds one line of the output. A line that ends in `...` shows only the
@@ -43,7 +43,7 @@ fn check_one(path: &Path, program: &Program) -> Result<(), String> {
     let tape = read(path.with_extension("tape"))?;
     let expected = read(path.with_extension("out"))?;
     if text::encode(&text)? != tape {
-        return Err("the text does not spell the tape".to_string());
+        return Err("the text does not give the tape".to_string());
     }
     check_shown(&text, &String::from_utf8_lossy(&expected))?;
     compare("the model", &replay::replay(&tape), &expected)?;

@@ -147,7 +147,7 @@ mod tests {
     }
 
     #[test]
-    fn every_sound_tape_has_a_text_that_spells_it() {
+    fn every_sound_tape_has_a_text_that_gives_it() {
         for (number, profile) in PROFILES.iter().enumerate() {
             for seed in 0..40 {
                 let octets = tape(number, seed);

@@ -4,7 +4,7 @@
 //! the answers and every octet of the output must be the same.
 
 use crate::generate::{records, tables};
-use crate::letters::{self, Letter};
+use crate::messages::{self, MessageParts};
 use crate::model;
 use crate::model::walk::{Cursor, Step, Value};
 use crate::random::Random;
@@ -260,46 +260,46 @@ fn record_input(random: &mut Random) -> Input {
 }
 
 /// A message that reading accepts.
-fn sound_letter(random: &mut Random) -> Letter {
+fn sound_message(random: &mut Random) -> MessageParts {
     let session = random.octet();
     let flags = if random.once_in(2) { random.octet() } else { 0 };
-    let number = *random.pick(&letters::KNOWN);
+    let number = *random.pick(&messages::KNOWN);
     let body = match number {
-        letters::START_ACK | letters::FINAL_ACK => random.octets(4),
-        letters::DATA_ACK => random.octets(8),
-        letters::DATA => {
+        messages::START_ACK | messages::FINAL_TMPL_DATA_ACK => random.octets(4),
+        messages::DATA_ACK => random.octets(8),
+        messages::DATA => {
             let record = match random.below(8) {
                 0 => *random.pick(&[1_023, 1_024, 1_025, 1_026, 2_000]),
                 _ => random.below(40),
             };
             random.octets(8 + record)
         }
-        letters::TEMPLATE_DATA => sound_table(random).octets(),
+        messages::TMPL_DATA => sound_table(random).octets(),
         _ => Vec::new(),
     };
-    Letter { flags, ..Letter::new(number, session, body) }
+    MessageParts { flags, ..MessageParts::new(number, session, body) }
 }
 
 fn message_input(random: &mut Random) -> Input {
-    let mut letter = sound_letter(random);
-    let length = letter.octets().len() as u32;
+    let mut parts = sound_message(random);
+    let length = parts.octets().len() as u32;
     let mut cut = usize::MAX;
     match random.below(14) {
-        0 => letter.version = random.octet(),
-        1 => letter.length = Some(*random.pick(&[length + 1, length - 1, 0, length << 8, length | 1 << 31, u32::MAX])),
-        2 => letter.number = random.octet(),
-        3 => letter.number = *random.pick(&letters::KNOWN),
+        0 => parts.version = random.octet(),
+        1 => parts.length = Some(*random.pick(&[length + 1, length - 1, 0, length << 8, length | 1 << 31, u32::MAX])),
+        2 => parts.number = random.octet(),
+        3 => parts.number = *random.pick(&messages::KNOWN),
         4 => cut = random.below(9),
-        5 => letter.body.push(random.octet()),
-        6 => drop(letter.body.pop()),
-        7 => letter.body = flipped_if_any(random, letter.body),
-        8 if letter.number == letters::TEMPLATE_DATA => {
+        5 => parts.body.push(random.octet()),
+        6 => drop(parts.body.pop()),
+        7 => parts.body = flipped_if_any(random, parts.body),
+        8 if parts.number == messages::TMPL_DATA => {
             let table = sound_table(random);
-            letter.body = damaged_table(random, table);
+            parts.body = damaged_table(random, table);
         }
         _ => {}
     }
-    let mut message = letter.octets();
+    let mut message = parts.octets();
     message.truncate(cut);
     if random.once_in(40) {
         let count = random.below(40);

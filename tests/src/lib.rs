@@ -1,17 +1,17 @@
 //! Tests of the exporter from outside: an independent model of it, seeded tapes and inputs, and what compares the
 //! two.
 //!
-//! The model (`model`) is written from the scope paper alone and shares no code with what it is compared with.
-//! `generate` makes tapes and `inputs` makes arguments for the library's functions; `program` and `library` run what
-//! is tested. `tape` and `text` are the two forms of a tape.
+//! The model (`model`) rests on 01 alone and shares nothing with the code. `generate` makes tapes and `inputs` makes
+//! arguments for the library's functions; `program` and `library` run what is tested. `tape` and `text` are the two
+//! forms of a tape.
 
 pub mod coverage;
 pub mod difference;
 pub mod examples;
 pub mod generate;
 pub mod inputs;
-pub mod letters;
 pub mod library;
+pub mod messages;
 pub mod model;
 pub mod program;
 pub mod random;

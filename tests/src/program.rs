@@ -7,7 +7,7 @@ use std::sync::Mutex;
 use std::time::{Duration, Instant};
 
 /// How long one run may take.
-const PATIENCE: Duration = Duration::from_secs(30);
+const MOST_TIME: Duration = Duration::from_secs(30);
 
 /// The pause between the pieces of a tape that is not given at once.
 const PAUSE: Duration = Duration::from_millis(3);
@@ -85,7 +85,7 @@ impl Program {
     /// Ends runs that take too long; their output then ends, and the run is reported.
     pub fn watch(&self) {
         for running in self.lock().iter_mut() {
-            if running.since.elapsed() > PATIENCE {
+            if running.since.elapsed() > MOST_TIME {
                 let _ = running.child.kill();
             }
         }

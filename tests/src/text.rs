@@ -28,23 +28,23 @@ pub mod words;
 pub use decode::decode;
 pub use encode::encode;
 
-use crate::letters::{self, Letter};
+use crate::messages::{self, MessageParts};
 
 /// The messages that have a name, with their numbers.
 const MESSAGE_NAMES: [(&str, u8); 10] = [
-    ("start", letters::START),
-    ("start-ack", letters::START_ACK),
-    ("stop", letters::STOP),
-    ("stop-ack", letters::STOP_ACK),
-    ("template-data", letters::TEMPLATE_DATA),
-    ("final-template-data-ack", letters::FINAL_ACK),
-    ("start-negotiate", letters::NEGOTIATE),
-    ("start-negotiate-ack", letters::NEGOTIATE_ACK),
-    ("data", letters::DATA),
-    ("data-ack", letters::DATA_ACK),
+    ("start", messages::START),
+    ("start-ack", messages::START_ACK),
+    ("stop", messages::STOP),
+    ("stop-ack", messages::STOP_ACK),
+    ("template-data", messages::TMPL_DATA),
+    ("final-template-data-ack", messages::FINAL_TMPL_DATA_ACK),
+    ("start-negotiate", messages::START_NEGOTIATE),
+    ("start-negotiate-ack", messages::START_NEGOTIATE_ACK),
+    ("data", messages::DATA),
+    ("data-ack", messages::DATA_ACK),
 ];
 
-/// The message that the words after `message server=N` name, or spell in hex. `session` is that of the tape's settings.
+/// The message that the words after `message server=N` name, or give in hex. `session` is that of the tape's settings.
 fn message_of_words(words: &mut words::Words, session: u8) -> Result<Vec<u8>, String> {
     let named = MESSAGE_NAMES.iter().find(|(name, _)| words.first() == Some(*name));
     let Some((_, number)) = named else {
@@ -52,37 +52,39 @@ fn message_of_words(words: &mut words::Words, session: u8) -> Result<Vec<u8>, St
     };
     words.take_first();
     let session = words.optional("session", 255)?.unwrap_or(u64::from(session)) as u8;
-    let letter = match *number {
-        letters::START_ACK => Letter::start_ack(session, words.number("boot", u64::from(u32::MAX))? as u32),
-        letters::TEMPLATE_DATA => Letter::new(letters::TEMPLATE_DATA, session, words.take_hex()?),
-        letters::FINAL_ACK => Letter::final_ack(session, words.number("configuration", 255)? as u8),
-        letters::DATA => {
+    let parts = match *number {
+        messages::START_ACK => MessageParts::start_ack(session, words.number("boot", u64::from(u32::MAX))? as u32),
+        messages::TMPL_DATA => MessageParts::new(messages::TMPL_DATA, session, words.take_hex()?),
+        messages::FINAL_TMPL_DATA_ACK => {
+            MessageParts::final_tmpl_data_ack(session, words.number("configuration", 255)? as u8)
+        }
+        messages::DATA => {
             let template = words.number("template", 65_535)? as u16;
             let configuration = words.number("configuration", 255)? as u8;
             let flags = words.number("flags", 255)? as u8;
             let dsn = words.number("dsn", u64::from(u32::MAX))? as u32;
-            Letter::data(session, template, configuration, flags, dsn, &words.take_hex()?)
+            MessageParts::data(session, template, configuration, flags, dsn, &words.take_hex()?)
         }
-        letters::DATA_ACK => {
+        messages::DATA_ACK => {
             let dsn = words.number("dsn", u64::from(u32::MAX))? as u32;
-            Letter::data_ack(session, dsn, words.number("configuration", 255)? as u8)
+            MessageParts::data_ack(session, dsn, words.number("configuration", 255)? as u8)
         }
-        number => Letter::bare(number, session),
+        number => MessageParts::bare(number, session),
     };
-    Ok(letter.octets())
+    Ok(parts.octets())
 }
 
-/// The words that name a message, if there are any that spell exactly these octets.
+/// The words that name a message, if there are any that give exactly these octets.
 fn words_of_message(message: &[u8], session: u8) -> Option<String> {
-    let letter = Letter::from_octets(message)?;
-    let (name, _) = MESSAGE_NAMES.iter().find(|(_, number)| *number == letter.number)?;
-    let body = &letter.body;
+    let parts = MessageParts::from_octets(message)?;
+    let (name, _) = MESSAGE_NAMES.iter().find(|(_, number)| *number == parts.number)?;
+    let body = &parts.body;
     let number32 = |at: usize| Some(u32::from_be_bytes(body.get(at..at + 4)?.try_into().ok()?));
-    let parts = match letter.number {
-        letters::START_ACK => format!(" boot={}", number32(0)?),
-        letters::TEMPLATE_DATA => format!(" {}", words::hex(body)),
-        letters::FINAL_ACK => format!(" configuration={}", body.first()?),
-        letters::DATA => {
+    let fields = match parts.number {
+        messages::START_ACK => format!(" boot={}", number32(0)?),
+        messages::TMPL_DATA => format!(" {}", words::hex(body)),
+        messages::FINAL_TMPL_DATA_ACK => format!(" configuration={}", body.first()?),
+        messages::DATA => {
             let (head, record) = body.split_at_checked(8)?;
             let template = u16::from_be_bytes([head[0], head[1]]);
             format!(
@@ -93,11 +95,11 @@ fn words_of_message(message: &[u8], session: u8) -> Option<String> {
                 words::hex(record)
             )
         }
-        letters::DATA_ACK => format!(" dsn={} configuration={}", number32(0)?, body.get(4)?),
+        messages::DATA_ACK => format!(" dsn={} configuration={}", number32(0)?, body.get(4)?),
         _ => String::new(),
     };
-    let other_session = if letter.session == session { String::new() } else { format!(" session={}", letter.session) };
-    let line = format!("{name}{other_session}{parts}");
+    let other_session = if parts.session == session { String::new() } else { format!(" session={}", parts.session) };
+    let line = format!("{name}{other_session}{fields}");
     let mut again = words::Words::of_line(&line).ok()?;
     (message_of_words(&mut again, session).ok()? == message).then(|| line.trim_end().to_string())
 }
@@ -114,14 +116,14 @@ mod tests {
     key 9 type=unsigned16
     key 0x0a type=0x400c disabled";
 
-    /// The events after settings and table that a text spells.
+    /// The events after settings and table that a text gives.
     fn events(text: &str) -> Result<Vec<Event>, String> {
         let octets = encode(&format!("{SETTINGS}\n{TABLE}\n{text}"))?;
         Ok(tape::split(&octets)?[2..].to_vec())
     }
 
     #[test]
-    fn the_example_of_the_paper_is_spelt() {
+    fn the_example_of_the_paper_is_encoded() {
         let table = "table 01010001 0003 0001 0000 0000 00000018 00000009 0004 0000 00000000";
         let text = format!("{SETTINGS}\n{table}\nput template=3 0005\nnext\nmessage server=0 0101070000000008\n");
         let octets = encode(&text).expect("a sound tape");
@@ -132,7 +134,7 @@ mod tests {
     }
 
     #[test]
-    fn a_table_is_spelt_part_by_part() {
+    fn a_table_is_encoded_part_by_part() {
         let octets = encode(&format!("{SETTINGS}\n{TABLE}\nnext\n")).expect("a sound tape");
         let table = &tape::split(&octets).expect("a sound tape")[1].body;
         let description = b"a \"b\" \\ \0#";
@@ -143,7 +145,7 @@ mod tests {
     }
 
     #[test]
-    fn events_are_spelt_and_repeated() {
+    fn events_are_encoded_and_repeated() {
         let start = Event::message(2, vec![1, 1, 7, 0, 0, 0, 0, 8]);
         assert_eq!(events("tick 2\nnext\n"), Ok(vec![Event::tick(), Event::tick(), Event::next()]));
         assert_eq!(
@@ -160,7 +162,7 @@ mod tests {
     }
 
     #[test]
-    fn what_cannot_be_spelt_is_named() {
+    fn what_cannot_be_encoded_is_named() {
         let reason = |text: &str| events(text).expect_err("not a tape");
         assert_eq!(reason("jump"), "line 6: no event 'jump'");
         assert_eq!(reason("next\nput 00"), "line 7: 'template=' is missing");

@@ -11,10 +11,10 @@ const NUMBER_TABLE: [u8; 28] =
 const BLOB_TABLE: [u8; 28] =
     *b"\x01\x01\x00\x01\x00\x04\x00\x01\x00\x00\x00\x00\x00\x00\x00\x18\x00\x00\x00\x09\x40\x15\x00\x00\x00\x00\x00\x00";
 
-// The messages of server 0 in session 7: START, and the agreement to configuration 1.
+// The messages of server 0 in session 7: START, and FINAL TMPL DATA ACK of configuration 1.
 const START: [u8; 8] = [1, 1, 7, 0, 0, 0, 0, 8];
 
-const AGREEMENT: [u8; 12] = [1, 0x13, 7, 0, 0, 0, 0, 12, 1, 0, 0, 0];
+const FINAL_TMPL_DATA_ACK: [u8; 12] = [1, 0x13, 7, 0, 0, 0, 0, 12, 1, 0, 0, 0];
 
 // DATA ACK of DSN 0 under configuration 1.
 const ACK_OF_FIRST: [u8; 16] = [1, 0x21, 7, 0, 0, 0, 0, 16, 0, 0, 0, 0, 1, 0, 0, 0];
@@ -80,7 +80,7 @@ fn release_one(s: State, store: &[u8]) -> State {
     let mut out = [0u8; 64];
     let table = NUMBER_TABLE;
     let start = START;
-    let agreement = AGREEMENT;
+    let agreement = FINAL_TMPL_DATA_ACK;
     let ack = ACK_OF_FIRST;
     let started = exporter::receive::receive(s, 0, &start, &mut out);
     print(b"START: ", started.answer);

@@ -19,3 +19,4 @@ pub mod Demand
 pub mod Examples
 pub mod SoundKept
 pub mod HeldLaws
+pub mod Written

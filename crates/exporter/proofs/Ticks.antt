@@ -11,7 +11,7 @@ use Rattle.octets.specs.Answers.{done, unsoundState}
 use Rattle.exporter.specs.Servers.{choose, IsChoice, sameActive, isNobody, chosen, changed, settle, withServers, withCounts, lateServers, expired, tickedFor, ticked}
 use Rattle.exporter.specs.Sound.{sound}
 use Rattle.exporter.specs.Steps.{tick, answer, checks, after, settled, tickStep, steppedOf}
-use Rattle.exporter.specs.Changes.{settledChange, refusedChange, appliedTo, numberOf, runningClock, clockFor, clockOf, turnedTo, turnedBy}
+use Rattle.exporter.specs.Changes.{settledChange, refusedChange, appliedTo, numberOf, runningClock, clockFor, clockOf, tickChangeTo, tickChangeBy}
 use Rattle.exporter.specs.declared.change.Change.{Change}
 use Rattle.exporter.specs.declared.tick.Clock.{Clock}
 use Rattle.exporter.specs.declared.state.Active.{Active}
@@ -62,13 +62,13 @@ clock-running b p d e n = rw e (go (d .active) n)
 
 -- a tick of a sound state
 turned-settled : (p : Settings) (d : Delivery) (due : Bool) → d .active ≡ chosen p d
-    → turnedBy true p d due (clockFor p d (d .active)) ≡ settledChange p (ticked p d) due 0
+    → tickChangeBy true p d due (clockFor p d (d .active)) ≡ settledChange p (ticked p d) due 0
 unfolding choose ticked expired
 turned-settled p d due e = go (d .active) refl
   where
     -- the timer has run out: with the active server late another is chosen, or nobody
     out : (v : ℕ) → d .active ≡ Server v → (a : Active) → choose (p .priorities) (lateServers d v) (p .servers) ≡ a
-        → turnedTo true d due (record { timer = 0; expired = true }) (lateServers d v) a
+        → tickChangeTo true d due (record { timer = 0; expired = true }) (lateServers d v) a
         ≡ settledChange p (cond (not (isNobody a)) (withCounts (withServers d (lateServers d v)) (d .sent) (d .reached) 0) (withCounts d 0 (d .reached) 0)) due 0
     out v k Nobody q = sym (settle-kept p (withCounts d 0 (d .reached) 0) due e)
     out v k (Server w) q =
@@ -78,19 +78,19 @@ turned-settled p d due e = go (d .active) refl
 
     -- a server is active: below the threshold or not, run out or not
     run : (v : ℕ) → d .active ≡ Server v → (t u : Bool)
-        → turnedBy true p d due (cond t (record { timer = 0; expired = false }) (cond u (record { timer = 0; expired = true }) (record { timer = d .timer + 1; expired = false })))
+        → tickChangeBy true p d due (cond t (record { timer = 0; expired = false }) (cond u (record { timer = 0; expired = true }) (record { timer = d .timer + 1; expired = false })))
         ≡ settledChange p (cond t (withCounts d (d .sent) (d .reached) 0) (cond u (expired p v d) (withCounts d (d .sent) (d .reached) (d .timer + 1)))) due 0
     run v k true u = sym (settle-kept p (withCounts d (d .sent) (d .reached) 0) due e)
     run v k false false = sym (settle-kept p (withCounts d (d .sent) (d .reached) (d .timer + 1)) due e)
     run v k false true = rw (ap numberOf k) (out v k (choose (p .priorities) (lateServers d v) (p .servers)) refl)
 
-    go : (a : Active) → d .active ≡ a → turnedBy true p d due (clockFor p d a) ≡ settledChange p (tickedFor p d a) due 0
+    go : (a : Active) → d .active ≡ a → tickChangeBy true p d due (clockFor p d a) ≡ settledChange p (tickedFor p d a) due 0
     go Nobody k = sym (settle-kept p (withCounts d (d .sent) (d .reached) 0) due e)
     go (Server v) k = run v k (ltb (d .reached) (p .threshold)) (eqb (d .timer + 1) (p .duration))
 
 -- of any other
 turned-refused : (p : Settings) (d : Delivery) (due : Bool)
-    → turnedBy false p d due (record { timer = d .timer; expired = false }) ≡ refusedChange unsoundState d due
+    → tickChangeBy false p d due (record { timer = d .timer; expired = false }) ≡ refusedChange unsoundState d due
 unfolding choose
 turned-refused p d due = refl
 
@@ -107,7 +107,7 @@ abbrev tickedWith : State → Change → Stepped
 tickedWith s c = record { answer = c .answer; state = appliedTo s c }
 
 pub tick-turned : (w : ℕ) (s : State) (b : Bool) → b ≡ sound s
-    → tickedWith s (turnedBy b (s .settings) (s .delivery) (s .due) (clockOf b (s .settings) (s .delivery))) ≡ steppedOf (tickStep w s)
+    → tickedWith s (tickChangeBy b (s .settings) (s .delivery) (s .due) (clockOf b (s .settings) (s .delivery))) ≡ steppedOf (tickStep w s)
 unfolding after settled
 tick-turned w s true e =
     rw (step-done w [] 0 tick s [] (tick-done w s (sym e)))

@@ -56,7 +56,7 @@ numberOf (active.Server v) = v
 
 -- ---- ticks
 
--- What a sound state's delivery is known by: its timer runs, and the active server is the one to be chosen.
+-- What soundness says of a delivery: the timer is below the duration, and the active server is the chosen one.
 abbrev pub Steady : Bool → Settings → Delivery → Type 0
 Steady sound p d = sound ≡ true → (d .timer < p .duration) × (d .active ≡ chosen p d)
 
@@ -76,8 +76,8 @@ abbrev pub clockOf : Bool → Settings → Delivery → Clock
 clockOf sound p d = cond sound (clockFor p d (d .active)) (record { timer = d .timer; expired = false })
 
 -- What a tick changes by the clock after it, where `choice` is made among `late` servers.
-abbrev pub turnedTo : Bool → Delivery → Bool → Clock → List serverOf.Server → Active → Change
-turnedTo sound d due k late choice =
+abbrev pub tickChangeTo : Bool → Delivery → Bool → Clock → List serverOf.Server → Active → Change
+tickChangeTo sound d due k late choice =
     let switched = not (isNobody choice) in
     record {
       answer = cond sound done unsoundState;
@@ -97,8 +97,8 @@ abbrev pub lateActive : Delivery → List serverOf.Server
 lateActive d = set (d .servers) (numberOf (d .active)) (server Late)
 
 -- What a tick changes by the clock after it: only where the timer has run out there is a choice to make.
-abbrev pub turnedBy : Bool → Settings → Delivery → Bool → Clock → Change
-turnedBy sound p d due k = turnedTo sound d due k (lateActive d) (choose (p .priorities) (lateActive d) (cond (k .expired) (p .servers) 0))
+abbrev pub tickChangeBy : Bool → Settings → Delivery → Bool → Clock → Change
+tickChangeBy sound p d due k = tickChangeTo sound d due k (lateActive d) (choose (p .priorities) (lateActive d) (cond (k .expired) (p .servers) 0))
 
 -- ---- put and next data
 

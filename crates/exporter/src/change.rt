@@ -14,16 +14,21 @@ pub(crate) struct Change {
     pub due: bool,
 }
 
-// The change of an accepted call that wrote some octets: the choice is made once more.
+// The change of an accepted call that wrote some octets: the choice is made once more, and compared with the active server.
 pub(crate) fn settle_change(p: Settings, d: Delivery, due: bool, written: usize) -> Change
     ensures { λ r. ⌜ r ≡ settledChange p d due written ⌝ }
 {
-    let delivery = crate::servers::settle_delivery(p, d);
+    let priorities = p.priorities;
+    let servers = d.servers;
+    let active = d.active;
+    let choice = crate::servers::choose_server(priorities, servers, p.servers);
+    let same = crate::servers::same_active(choice, active);
+    let delivery = crate::servers::settle_delivery(d, choice, same);
     Change {
         answer: Answer::DONE,
         written,
         delivery,
-        due: crate::servers::is_changed(p, d) | due,
+        due: !same | due,
     }
 }
 

@@ -278,7 +278,7 @@ fn next_change<'a, 'b>(
     )
 }
 
-// Writes the record at place "sent" of the queue as DATA for the active server to the output. Refused with 1, 13, 14 or 12.
+// Sends the next unsent record as DATA to the active server, into the output. Refused with 1, 13, 14 or 12.
 pub fn next_data(s: State, store: &[u8], out: &mut [u8]) -> Wrote
     ensures { λ r. ⌜ (r ≡ wroteOf (nextDataStep 32 s (now (store .entry)) (now (out .entry))))
         × (now (out .exit) ≡ outputAfter (now (out .entry)) (nextDataStep 32 s (now (store .entry)) (now (out .entry)))) ⌝ }

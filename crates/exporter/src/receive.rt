@@ -14,6 +14,7 @@ pub fn receive(s: State, v: u8, message: &[u8], out: &mut [u8]) -> Wrote
     let request = crate::decode::decode(p, message);
     match request {
         Request::Ack(dsn, config) => crate::acknowledge::acknowledge(s, v, dsn, config),
+        // what is handed back is built anew, so that an acknowledgement copies no state
         Request::Move(m) => {
             let before = s;
             let left = crate::transition::move_server(before, v, m, &[], out);

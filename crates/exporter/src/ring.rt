@@ -1,9 +1,18 @@
 // Octets in the lent store, which is used as a ring.
 ghost use mathlib.Core.Path.{_≡_};
-ghost use Prim.Native.Nat.{_+_, _≤_, _<_};
+ghost use Prim.Native.Nat.{_+_, _%_, _≤_, _<_};
 ghost use lib.ListN.{length};
 ghost use lib.Seq.{sets};
 ghost use Rattle.exporter.specs.Queue.{ringRead, ringWrite};
+
+// The place behind one of a ring with this room.
+fn next_place(place: usize, room: usize) -> usize
+    requires { ⌜ place < room ⌝ }
+    ensures { λ r. ⌜ r ≡ (place + 1) % room ⌝ }
+{
+    let next = place + 1;
+    if next == room { 0 } else { next }
+}
 
 // Copies octets to the places from `at` on, modulo the store's length.
 pub(crate) fn ring_write(store: &mut [u8], at: usize, octets: &[u8])
@@ -11,9 +20,11 @@ pub(crate) fn ring_write(store: &mut [u8], at: usize, octets: &[u8])
     ensures { λ _. ⌜ now (store .exit) ≡ ringWrite (length (now (store .entry))) (now (store .entry)) at (now (octets .entry)) ⌝ }
 {
     let room = store.len();
+    let mut place = at % room;
     let mut i: usize = 0;
     while i < octets.len() {
-        store[(at + i) % room] = octets[i];
+        store[place] = octets[i];
+        place = next_place(place, room);
         i += 1;
     }
 }

@@ -1,17 +1,16 @@
 // Servers: their phases, the choice of the active one, and the steps of a delivery.
 ghost use mathlib.Core.Path.{_≡_};
-ghost use mathlib.Core.Bool.{cond, _&&_};
+ghost use mathlib.Core.Bool.{cond, not, _&&_};
 ghost use Prim.Native.Nat.{_≤_};
 ghost use mathlib.Core.List.{map};
 ghost use lib.ListN.{getD, set};
-ghost use Rattle.exporter.specs.Servers.{server, phaseAt, isClosed, isOffered, canOffer, isAgreed, restart, beats, choose, sameActive, isNobody, changed, settle, acknowledged};
+ghost use Rattle.exporter.specs.Servers.{server, phaseAt, isClosed, isOffered, canOffer, isAgreed, restart, beats, choose, sameActive, isNobody, acknowledged};
 ghost use Rattle.exporter.specs.Changes.{numberOf};
 ghost use Rattle.exporter.specs.declared.state.Phase.the-variants.{Closed};
 use crate::state::Active;
 use crate::state::Delivery;
 use crate::state::Phase;
 use crate::state::Server;
-use crate::state::Settings;
 
 // The most servers that an exporter has.
 pub const MAX_SERVERS: u8 = 8;
@@ -206,33 +205,21 @@ pub(crate) fn is_nobody(a: Active) -> bool
     }
 }
 
-// Whether the servers choose another than the active one.
-pub(crate) fn is_changed(p: Settings, d: Delivery) -> bool
-    ensures { λ r. ⌜ r ≡ changed p d ⌝ }
+// The delivery after the choice is made anew: another than the active server begins an activation.
+pub(crate) fn settle_delivery(d: Delivery, choice: Active, same: bool) -> Delivery
+    ensures { λ r. ⌜ r ≡ cond (not same) (record { servers = d .servers; active = choice; sent = 0; reached = 0; timer = 0 }) d ⌝ }
 {
-    let priorities = p.priorities;
-    let servers = d.servers;
-    let active = d.active;
-    !same_active(choose_server(priorities, servers, p.servers), active)
-}
-
-// The delivery after the choice is made anew: a changed one begins an activation.
-pub(crate) fn settle_delivery(p: Settings, d: Delivery) -> Delivery
-    ensures { λ r. ⌜ r ≡ settle p d ⌝ }
-{
-    if is_changed(p, d) {
-        let priorities = p.priorities;
-        let servers = d.servers;
-        let active = choose_server(priorities, servers, p.servers);
-        return Delivery {
-            servers,
-            active,
-            sent: 0,
-            reached: 0,
-            timer: 0,
-        };
+    if same {
+        return d;
     }
-    d
+    let servers = d.servers;
+    Delivery {
+        servers,
+        active: choice,
+        sent: 0,
+        reached: 0,
+        timer: 0,
+    }
 }
 
 // The delivery after a DATA ACK that releases n records.

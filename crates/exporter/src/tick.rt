@@ -3,7 +3,7 @@ ghost use mathlib.Core.Path.{_≡_};
 ghost use mathlib.Core.Bool.{cond};
 ghost use Prim.Native.Nat.{_<_};
 ghost use Rattle.exporter.specs.Steps.{tickStep, steppedOf};
-ghost use Rattle.exporter.specs.Changes.{Steady, runningClock, clockOf, turnedBy};
+ghost use Rattle.exporter.specs.Changes.{Steady, runningClock, clockOf, tickChangeBy};
 use crate::change::Change;
 use crate::state::Active;
 use crate::state::Delivery;
@@ -65,7 +65,7 @@ fn tick_clock(sound: bool, p: Settings, d: Delivery) -> Clock
     run_clock(p, d)
 }
 
-// One of two sets of servers.
+// One of two arrays of servers.
 fn pick_servers(first: bool, x: [Server; 8], y: [Server; 8]) -> [Server; 8]
     ensures { λ r. ⌜ r ≡ cond first x y ⌝ }
 {
@@ -105,10 +105,10 @@ fn pick_number(first: bool, x: u8, y: u8) -> u8
     y
 }
 
-// What a tick changes, by the clock after it. Where the timer has run out the active server turns late if another is agreed, which then
-// becomes active; else what was sent is sent again. Only then is there a choice to make: before, it is among no servers.
-fn turn(sound: bool, p: Settings, d: Delivery, due: bool, clock: Clock) -> Change
-    ensures { λ r. ⌜ r ≡ turnedBy sound p d due clock ⌝ }
+// What a tick changes, by the timer after it. Where that has run out the next agreed server takes over, or all is sent again if there is
+// none. Before, the choice is among no servers and so nobody: this way no memory is written on one path alone.
+fn tick_change(sound: bool, p: Settings, d: Delivery, due: bool, clock: Clock) -> Change
+    ensures { λ r. ⌜ r ≡ tickChangeBy sound p d due clock ⌝ }
 {
     let priorities = p.priorities;
     let servers = d.servers;
@@ -154,7 +154,7 @@ pub fn tick(s: State) -> Stepped
         s.start,
     );
     let clock = tick_clock(sound, p, d);
-    let change = turn(sound, p, d, s.due, clock);
+    let change = tick_change(sound, p, d, s.due, clock);
     let state = crate::change::apply(s, change);
     Stepped {
         answer: change.answer,

@@ -1,5 +1,5 @@
 // What tests and benchmarks in Rust call of the crate `wire`: functions of numbers and slices alone, since no struct or enum crosses the
-// boundary to C. Each makes one call and turns its answer into a number.
+// boundary to C. Each gives back as a number what the crate answers.
 pub mod fields;
 pub mod messages;
 pub mod tables;

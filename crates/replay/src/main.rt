@@ -3,9 +3,11 @@ ghost use Prim.Native.Nat.{_≤_};
 ghost use lib.ListN.{length};
 use libc::STDIN_FILENO;
 use libc::STDOUT_FILENO;
+use tape::replay::LINE_OCTETS;
+use tape::replay::OUTPUT_OCTETS;
 
 // Writes the first len octets of a text.
-fn print(text: &[u8; 32793], len: usize) {
+fn print(text: &[u8; LINE_OCTETS], len: usize) {
     let whole = &text[..];
     if len <= whole.len() {
         io::write_all(STDOUT_FILENO, &whole[..len]);
@@ -14,8 +16,8 @@ fn print(text: &[u8; 32793], len: usize) {
 
 // Replays a tape over a lent store, line by line. A refusal leaves no events, and a turn with none left has no line.
 fn replay(tape: &[u8], store: &mut [u8]) {
-    let mut out = [0u8; 16392];
-    let mut text = [0u8; 32793];
+    let mut out = [0u8; OUTPUT_OCTETS];
+    let mut text = [0u8; LINE_OCTETS];
     let mut turn = tape::replay::open_tape(tape, store, &mut text);
     print(&text, turn.len);
     let mut turns = turn.progress.left;

@@ -1,14 +1,12 @@
 -- Laws of a session: what one event is, what a call's answer leaves of a session, and one event more. Assumes nothing.
 use mathlib.Core.Path.{_≡_, refl, sym, ap, _∙_}
-use mathlib.Core.Bool.{Bool, true, false, cond}
 use mathlib.Core.List.{List, []}
 use Prim.Native.Nat.{ℕ, _+_, _*_}
 use native.Mathlib.Numerals.{add-one}
 use borrow.Author.Tests.{ne-eqb}
-use lib.Dec.{eqb}
 use lib.ListN.{getD}
-use Rattle.octets.specs.Answers.{done}
-use Rattle.exporter.specs.Steps.{Outcome, put, tick, answer, written, step, steppedOf, wroteOf, outputAfter}
+use Rattle.exporter.proofs.Written.{writes-nothing}
+use Rattle.exporter.specs.Steps.{put, tick, written, step, steppedOf, wroteOf, outputAfter}
 use Rattle.exporter.specs.Claim.{Event, Put, NextData, Receive, OfferTemplates, Tick, outcome, storeLeft}
 use Rattle.exporter.specs.declared.state.State.{State}
 use Rattle.exporter.specs.declared.state.Stepped.{Stepped}
@@ -42,17 +40,13 @@ module _ (l : Lent) (at : ℕ) (out : List ℕ) where
 -- ---- what a call's answer leaves
 
 -- a put and a tick write nothing, accepted or not
-silent : (b : Bool) (o p : Outcome) → o .written ≡ [] → p .written ≡ [] → (cond b o p) .written ≡ []
-silent true o p x y = x
-silent false o p x y = y
+pub put-writes-nothing : (table : List ℕ) (room id : ℕ) (r : List ℕ) (s : State) (store : List ℕ) → step 32 table room (put id r) s store .written ≡ []
+unfolding written
+put-writes-nothing table room id r s store = writes-nothing 32 table room (put id r) s store refl
 
-pub put-silent : (table : List ℕ) (room id : ℕ) (r : List ℕ) (s : State) (store : List ℕ) → step 32 table room (put id r) s store .written ≡ []
-unfolding step written
-put-silent table room id r s store = silent (eqb (answer 32 table room (put id r) s store) done) _ _ refl refl
-
-pub tick-silent : (table : List ℕ) (room : ℕ) (s : State) (store : List ℕ) → step 32 table room tick s store .written ≡ []
-unfolding step written
-tick-silent table room s store = silent (eqb (answer 32 table room tick s store) done) _ _ refl refl
+pub tick-writes-nothing : (table : List ℕ) (room : ℕ) (s : State) (store : List ℕ) → step 32 table room tick s store .written ≡ []
+unfolding written
+tick-writes-nothing table room s store = writes-nothing 32 table room tick s store refl
 
 module _ (l : Lent) (q : Progress) (e : Event) where
   -- a call that writes nothing
@@ -60,7 +54,7 @@ module _ (l : Lent) (q : Progress) (e : Event) where
       → x ≡ steppedOf (outcome (under (l .table)) (exporterOf q) e) → store ≡ storeLeft (exporterOf q) e (outcome (under (l .table)) (exporterOf q) e)
       → progress (x .state) store (q .out) (added (q .total) (x .answer) 0) ≡ after l e q
   unfolding after
-  stepped-after x store silent-so is left = rw (is, left, silent-so)
+  stepped-after x store none is left = rw (is, left, none)
 
   -- a call that may write a message, and leaves the store
   pub wrote-after : (x : Wrote) (out : List ℕ) → storeLeft (exporterOf q) e (outcome (under (l .table)) (exporterOf q) e) ≡ q .store

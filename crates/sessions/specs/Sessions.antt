@@ -26,7 +26,7 @@ settingsOf servers threshold duration initial =
 
 -- ---- events
 
--- An event is 19 octets: its call, its server, the length of its message modulo 17, and 16 octets with which the message begins.
+-- An event is 19 octets: its call, its server, the length of its message modulo 17, and 16 octets, the first of which are the message.
 abbrev pub eventOctets : ℕ
 eventOctets = 19
 

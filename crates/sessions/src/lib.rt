@@ -1,6 +1,6 @@
 // A session, for benchmarks in Rust: an exporter is set up and makes one call after the other, as lent events ask for, since a state does
-// not cross the boundary to C. Each of the exporter's calls has one caller here, as in a program that uses the exporter: the compiler then
-// puts the call in its caller's place. So nothing else stands in this crate.
+// not cross the boundary to C. Each call that it makes stands here once, as in a program that uses the exporter: the compiler then puts it in
+// its caller's place. So nothing else stands in this crate.
 ghost use mathlib.Core.Path.{_≡_};
 ghost use Prim.Native.Nat.{_+_, _≤_};
 ghost use lib.ListN.{length};
@@ -8,7 +8,7 @@ ghost use Rattle.sessions.specs.Sessions.{settingsOf, messageAt, added, 
 use exporter::state::Made;
 use exporter::state::Settings;
 
-// The octets of an event: its call, its server, the length of its message, and 16 octets with which the message begins.
+// The octets of an event: its call, its server, the length of its message modulo 17, and 16 octets, the first of which are the message.
 const EVENT_OCTETS: usize = 19;
 
 // The calls of events; any other number is a message that is received.

@@ -2,14 +2,12 @@
 use mathlib.Core.Path.{_≡_, refl, sym, ap, _∙_}
 use mathlib.Core.List.{List, []}
 use Prim.Native.Nat.{ℕ}
-use lib.Dec.{eqb}
 use lib.ListN.{length, drop}
 use borrow.Author.Tests.{ne-eqb}
-use Rattle.octets.specs.Answers.{done}
 use Rattle.octets.specs.Numbers.{uintAt}
-use Rattle.octets.proofs.Stores.{cond-cases}
 use Rattle.exporter.specs.Servers.{down}
-use Rattle.exporter.specs.Steps.{Call, put, tick, move, answer, after, settled, storeAfter, written, Outcome, step, steppedOf, wroteOf, outputAfter, putStep, tickStep, lineDownStep}
+use Rattle.exporter.specs.Steps.{put, tick, move, written, Outcome, steppedOf, wroteOf, outputAfter, putStep, tickStep, lineDownStep}
+use Rattle.exporter.proofs.Written.{writes-nothing}
 use Rattle.exporter.specs.Claim.{Event, Put, NextData, Receive, OfferTemplates, LineDown, Tick}
 use Rattle.exporter.specs.declared.state.State.{State}
 use Rattle.exporter.specs.declared.state.Stepped.{Stepped}
@@ -49,18 +47,6 @@ is-offer kind server b out p m d t n =
 
 -- ---- calls that write nothing
 
--- a step whose call writes nothing where it is accepted writes nothing
-pub silent : (w : ℕ) (table : List ℕ) (room : ℕ) (c : Call) (s : State) (store : List ℕ) → written w table c s store ≡ []
-    → step w table room c s store .written ≡ []
-unfolding step
-silent w table room c s store e =
-    let a = answer w table room c s store in
-    cond-cases (λ (o : Outcome). o .written ≡ []) (eqb a done)
-    (record { answer = done; state = settled (after w c s); store = storeAfter c s store; written = written w table c s store })
-    (record { answer = a; state = s; store = store; written = [] })
-    (λ h. e)
-    (λ h. refl)
-
 -- what such a call hands back
 pub stepped : (o : Outcome) (s : Stepped) (r : Wrote) → o .written ≡ [] → s ≡ steppedOf o
     → r ≡ record { answer = s .answer; written = 0; state = s .state } → r ≡ wroteOf o
@@ -73,7 +59,7 @@ pub put-called : (table : List ℕ) (s : State) (store out : List ℕ) (e : Even
     → x ≡ record { answer = st .answer; written = 0; state = st .state } → Called table s store out e x after out
 unfolding written
 put-called table s store out e id r st x after f g h k =
-    let q = silent 32 table 0 (put id r) s store refl in
+    let q = writes-nothing 32 table 0 (put id r) s store refl in
     rw f (stepped (putStep 32 s store table id r) st x q g k, (h, rw q refl))
 
 pub down-called : (table : List ℕ) (s : State) (store out : List ℕ) (e : Event) (v : ℕ) (st : Stepped) (x : Wrote)
@@ -81,7 +67,7 @@ pub down-called : (table : List ℕ) (s : State) (store out : List ℕ) (e : Eve
     → x ≡ record { answer = st .answer; written = 0; state = st .state } → Called table s store out e x store out
 unfolding written
 down-called table s store out e v st x f g k =
-    let q = silent 32 [] 0 (move v down) s [] refl in
+    let q = writes-nothing 32 [] 0 (move v down) s [] refl in
     rw f (stepped (lineDownStep 32 s v) st x q g k, (refl, rw q refl))
 
 pub tick-called : (table : List ℕ) (s : State) (store out : List ℕ) (e : Event) (st : Stepped) (x : Wrote)
@@ -89,7 +75,7 @@ pub tick-called : (table : List ℕ) (s : State) (store out : List ℕ) (e : Eve
     → x ≡ record { answer = st .answer; written = 0; state = st .state } → Called table s store out e x store out
 unfolding written
 tick-called table s store out e st x f g k =
-    let q = silent 32 [] 0 tick s [] refl in
+    let q = writes-nothing 32 [] 0 tick s [] refl in
     rw f (stepped (tickStep 32 s) st x q g k, (refl, rw q refl))
 
 -- a call that may write: its answer and its output are what the exporter ensures

@@ -1,19 +1,18 @@
 -- Laws of turns: what a call writes fits the output, and what opening, a table and a call give is what the definitions say. Assumes nothing.
 use mathlib.Core.Path.{_≡_, refl, sym, ap, _∙_}
-use mathlib.Core.Bool.{Bool, true, false, not, cond, _&&_}
-use mathlib.Core.List.{List, [], _∷_}
+use mathlib.Core.Bool.{cond, _&&_}
+use mathlib.Core.List.{List, []}
 use Prim.Native.Nat.{ℕ, _+_, _*_, _-_, _≤_}
 use native.Mathlib.Nat.{le-trans}
 use native.Mathlib.Omega.{arith}
-use borrow.Author.Tests.{ltb-false, eqb-true, eq-eqb, ne-eqb}
-use lib.Dec.{eqb, ltb}
+use borrow.Author.Tests.{eq-eqb, ne-eqb}
+use lib.Dec.{eqb}
 use lib.ListN.{length, take, length-take}
 use lib.Seq.{sets, sets-eq, take-append-seam}
-use Rattle.octets.specs.Answers.{Check, _when_, done, unsoundState}
-use Rattle.octets.proofs.Judging.{passed}
+use Rattle.octets.specs.Answers.{done}
 use Rattle.octets.proofs.Stores.{cond-cases}
-use Rattle.exporter.specs.Servers.{Transition, start, stop, negotiate, offer, down, agree, malformed}
-use Rattle.exporter.specs.Steps.{Call, put, nextData, tick, ack, move, answer, checks, soundFor, after, settled, storeAfter, written, Outcome, step, wroteOf, outputAfter, setUp}
+use Rattle.exporter.specs.Steps.{Outcome, wroteOf, outputAfter, setUp}
+use Rattle.exporter.proofs.Written.{step-fits}
 use Rattle.exporter.specs.Claim.{Event, Put, NextData, Receive, OfferTemplates, LineDown, Tick, roomOf}
 use Rattle.exporter.specs.declared.state.State.{State}
 use Rattle.exporter.specs.declared.state.Made.{Made}
@@ -26,36 +25,6 @@ use Rattle.tape.specs.declared.replay.Progress.{Progress}
 use Rattle.tape.specs.declared.replay.Turn.{Turn}
 
 -- ---- what a call writes fits
-
--- The checks of a call, 1 first.
-abbrev allChecks : ℕ → List ℕ → ℕ → Call → State → List ℕ → List Check
-allChecks w table room c s store = (unsoundState when not (soundFor c s store)) ∷ checks w table room c s store
-
--- an accepted call writes no more than the output has room for
-pub accepted-fits : (w : ℕ) (table : List ℕ) (room : ℕ) (c : Call) (s : State) (store : List ℕ) → answer w table room c s store ≡ done
-    → length (written w table c s store) ≤ room
-unfolding answer checks written
-accepted-fits w table room (put id r) s store e = omega arith
-accepted-fits w table room nextData s store e = let p = passed (allChecks w table room nextData s store) tt e in ltb-false _ _ (p .1 .1 .1 .0)
-accepted-fits w table room tick s store e = omega arith
-accepted-fits w table room (ack v d config) s store e = omega arith
-accepted-fits w table room (move v start) s store e = let p = passed (allChecks w table room (move v start) s store) tt e in ltb-false _ _ (p .1 .1 .0)
-accepted-fits w table room (move v stop) s store e = let p = passed (allChecks w table room (move v stop) s store) tt e in ltb-false _ _ (p .1 .1 .0)
-accepted-fits w table room (move v negotiate) s store e = let p = passed (allChecks w table room (move v negotiate) s store) tt e in ltb-false _ _ (p .1 .1 .1 .0)
-accepted-fits w table room (move v offer) s store e = let p = passed (allChecks w table room (move v offer) s store) tt e in ltb-false _ _ (p .1 .1 .1 .1 .0)
-accepted-fits w table room (move v down) s store e = omega arith
-accepted-fits w table room (move v (agree config)) s store e = omega arith
-accepted-fits w table room (move v (malformed a)) s store e = omega arith
-
-pub step-fits : (w : ℕ) (table : List ℕ) (room : ℕ) (c : Call) (s : State) (store : List ℕ) → length (step w table room c s store .written) ≤ room
-unfolding step
-step-fits w table room c s store =
-    let a = answer w table room c s store in
-    cond-cases (λ (o : Outcome). length (o .written) ≤ room) (eqb a done)
-    (record { answer = done; state = settled (after w c s); store = storeAfter c s store; written = written w table c s store })
-    (record { answer = a; state = s; store = store; written = [] })
-    (λ h. accepted-fits w table room c s store (eqb-true a done h))
-    (λ h. omega arith)
 
 pub effect-fits : (table : List ℕ) (s : State) (store : List ℕ) (e : Event) → length (effect table s store e .written) ≤ roomOf e
 effect-fits table s store (Put id r) = step-fits _ _ _ _ _ _

@@ -59,7 +59,8 @@ abbrev pub outputBuffer : List ℕ
 outputBuffer = replicate outputBufferOctets 0
 
 -- The call of an event of a kind, with the server that it names, its body and the output that is lent; `Event` is the exporter's name for a
--- call with its arguments. A put's body is the template ID and the record. Asked only of the kinds 2 to 7, so that the last case is an offer.
+-- call with its arguments. A put's body is the template ID and the record. A sound tape has only the kinds 2 to 7 here; any other counts as
+-- an offer.
 unfoldable pub eventCall : ℕ → ℕ → List ℕ → List ℕ → Event
 eventCall kind server b out =
     cond (eqb kind putKind) (Put (uintAt b 0 2) (drop 2 b))

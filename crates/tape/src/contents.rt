@@ -98,7 +98,7 @@ pub(crate) fn part(tape: &[u8], at: usize, n: usize) -> &[u8]
     &tape[at..at + n]
 }
 
-// The body of one of the first two events.
+// The body of an event.
 pub(crate) fn body(tape: &[u8], i: usize) -> &[u8]
     requires { ⌜ i ≤ 512 ⌝ }
     ensures { λ r. ⌜ now r ≡ bodyOf (now (tape .entry)) i ⌝ }

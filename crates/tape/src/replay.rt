@@ -31,7 +31,7 @@ pub struct Turn {
 }
 
 // Opens a tape over a lent store and writes its first line: `tape refused`, or that of the settings. After a refusal no event is left.
-pub fn open_tape(tape: &[u8], store: &[u8], text: &mut [u8; 32793]) -> Turn
+pub fn open_tape(tape: &[u8], store: &[u8], text: &mut [u8; LINE_OCTETS]) -> Turn
     ensures { λ r. ⌜ (r ≡ turnOf (opened (now (tape .entry)) (now (store .entry)))) × (now (text .exit) ≡ sets (now (text .entry)) 0 (opened (now (tape .entry)) (now (store .entry)) .line)) ⌝ }
 {
     let settings = crate::event::settings_of(crate::contents::body(tape, 0));
@@ -113,8 +113,8 @@ pub fn take_event(
     r: Progress,
     tape: &[u8],
     store: &mut [u8],
-    out: &mut [u8; 16392],
-    text: &mut [u8; 32793],
+    out: &mut [u8; OUTPUT_OCTETS],
+    text: &mut [u8; LINE_OCTETS],
 ) -> Turn
     ensures { λ x. ⌜ Turned (played (now (tape .entry)) r (now (store .entry)) (now (out .entry))) (now (out .entry)) (now (text .entry)) x (now (store .exit)) (now (out .exit)) (now (text .exit)) ⌝ }
 {

@@ -3,7 +3,7 @@
 
 use super::records;
 use super::session::Session;
-use crate::letters::{self, Letter};
+use crate::messages::{self, MessageParts};
 use crate::model::exporter::ServerState;
 use crate::tape::Event;
 
@@ -87,8 +87,8 @@ pub fn step(session: &mut Session, mix: &Mix) {
         4 => odd_ack(session),
         5 => step_up_one(session),
         6 => bring_up_one(session),
-        7 => bare(session, letters::START),
-        8 => bare(session, letters::STOP),
+        7 => bare(session, messages::START),
+        8 => bare(session, messages::STOP),
         9 => down(session),
         10 => negotiate(session),
         11 => out_of_turn(session),
@@ -179,8 +179,8 @@ pub fn odd_ack(session: &mut Session) {
         }
         1 => {
             let other = session.settings.configuration ^ (1 << session.random.below(8));
-            let letter = Letter::data_ack(session.settings.session, dsn, other);
-            session.message(server, &letter);
+            let parts = MessageParts::data_ack(session.settings.session, dsn, other);
+            session.message(server, &parts);
         }
         _ => session.ack(server, dsn),
     }
@@ -204,8 +204,8 @@ fn bring_up_one(session: &mut Session) {
 /// A message without a body from any server, the active one included.
 fn bare(session: &mut Session, number: u8) {
     let server = session.any_server();
-    let letter = Letter::bare(number, session.settings.session);
-    session.message(server, &letter);
+    let parts = MessageParts::bare(number, session.settings.session);
+    session.message(server, &parts);
 }
 
 fn down(session: &mut Session) {
@@ -223,8 +223,8 @@ fn negotiate(session: &mut Session) {
         1 => late.or(open).unwrap_or(any),
         _ => open.unwrap_or(any),
     };
-    let letter = Letter::bare(letters::NEGOTIATE, session.settings.session);
-    session.message(server, &letter);
+    let parts = MessageParts::bare(messages::START_NEGOTIATE, session.settings.session);
+    session.message(server, &parts);
 }
 
 fn out_of_turn(session: &mut Session) {
@@ -232,8 +232,8 @@ fn out_of_turn(session: &mut Session) {
     if session.random.once_in(2) {
         session.add(Event::offer(server));
     } else {
-        let letter = Letter::final_ack(session.settings.session, session.settings.configuration);
-        session.message(server, &letter);
+        let parts = MessageParts::final_tmpl_data_ack(session.settings.session, session.settings.configuration);
+        session.message(server, &parts);
     }
 }
 

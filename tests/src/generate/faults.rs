@@ -2,7 +2,7 @@
 
 use super::records;
 use super::session::Session;
-use crate::letters::{self, Letter};
+use crate::messages::{self, MessageParts};
 use crate::model::exporter::ServerState;
 use crate::tables::{Template, BLOB, STRING};
 use crate::tape::Event;
@@ -37,54 +37,60 @@ pub const FAULTS: [Fault; 10] = [
 
 /// A message with the given faults, and with no other where the exporter's state allows.
 pub fn faulty_message(session: &mut Session, faults: &[Fault]) {
-    let number = letter_number(session, faults);
+    let number = message_number(session, faults);
     let mut server = sender(session, number, faults.contains(&Fault::Turn));
-    let mut letter = sound_letter(session, number);
+    let mut parts = sound_message(session, number);
     let mut cut = None;
     for fault in faults {
         match fault {
             Fault::Server => server = session.no_server(),
-            Fault::Short => cut = Some(session.random.below(letters::HEADER_OCTETS)),
-            Fault::Version => letter.version = *session.random.pick(&[0, 2, 255, 129]),
-            Fault::Length => letter.length = Some(wrong_length(session, &letter)),
-            Fault::Session => letter.session ^= *session.random.pick(&[1, 128, 255, 6]),
+            Fault::Short => cut = Some(session.random.below(messages::HEADER_OCTETS)),
+            Fault::Version => parts.version = *session.random.pick(&[0, 2, 255, 129]),
+            Fault::Length => parts.length = Some(wrong_length(session, &parts)),
+            Fault::Session => parts.session ^= *session.random.pick(&[1, 128, 255, 6]),
             Fault::Number => {
-                letter.number =
+                parts.number =
                     *session.random.pick(&[0x02, 0x04, 0x10, 0x19, 0x20, 0x00, 0x11, 0x12, 0x14, 0x22, 0x81, 0xff])
             }
-            Fault::Body => damage_body(session, &mut letter),
-            Fault::Configuration => damage_configuration(session, &mut letter),
-            Fault::Dsn => spoil_dsn(session, &mut letter),
+            Fault::Body => damage_body(session, &mut parts),
+            Fault::Configuration => damage_configuration(session, &mut parts),
+            Fault::Dsn => spoil_dsn(session, &mut parts),
             // The sender was chosen for it.
             Fault::Turn => {}
         }
     }
-    let mut octets = letter.octets();
+    let mut octets = parts.octets();
     octets.truncate(cut.unwrap_or(octets.len()));
     session.add(Event::message(server, octets));
 }
 
 /// The message on which the faults can show.
-fn letter_number(session: &mut Session, faults: &[Fault]) -> u8 {
+fn message_number(session: &mut Session, faults: &[Fault]) -> u8 {
     if faults.contains(&Fault::Dsn) {
-        return letters::DATA_ACK;
+        return messages::DATA_ACK;
     }
     if faults.contains(&Fault::Configuration) {
-        return *session.random.pick(&[letters::DATA_ACK, letters::FINAL_ACK]);
+        return *session.random.pick(&[messages::DATA_ACK, messages::FINAL_TMPL_DATA_ACK]);
     }
     if faults.contains(&Fault::Turn) {
-        return *session.random.pick(&[letters::DATA_ACK, letters::FINAL_ACK, letters::NEGOTIATE]);
+        return *session.random.pick(&[messages::DATA_ACK, messages::FINAL_TMPL_DATA_ACK, messages::START_NEGOTIATE]);
     }
-    *session.random.pick(&[letters::START, letters::STOP, letters::FINAL_ACK, letters::NEGOTIATE, letters::DATA_ACK])
+    *session.random.pick(&[
+        messages::START,
+        messages::STOP,
+        messages::FINAL_TMPL_DATA_ACK,
+        messages::START_NEGOTIATE,
+        messages::DATA_ACK,
+    ])
 }
 
 /// A server whose turn it is to send that message, or one whose turn it is not; any, if there is no such server.
 fn sender(session: &mut Session, number: u8, out_of_turn: bool) -> u8 {
     let active = session.exporter().active;
     let in_turn: Vec<u8> = match number {
-        letters::DATA_ACK => active.into_iter().collect(),
-        letters::FINAL_ACK => session.servers_where(|state| state == ServerState::Offered),
-        letters::NEGOTIATE => session.servers_where(|state| state != ServerState::Closed),
+        messages::DATA_ACK => active.into_iter().collect(),
+        messages::FINAL_TMPL_DATA_ACK => session.servers_where(|state| state == ServerState::Offered),
+        messages::START_NEGOTIATE => session.servers_where(|state| state != ServerState::Closed),
         _ => session.servers_where(|_| true),
     };
     let wanted: Vec<u8> =
@@ -97,21 +103,21 @@ fn sender(session: &mut Session, number: u8, out_of_turn: bool) -> u8 {
 }
 
 /// The message as its sender should send it.
-fn sound_letter(session: &mut Session, number: u8) -> Letter {
+fn sound_message(session: &mut Session, number: u8) -> MessageParts {
     let (own, configuration) = (session.settings.session, session.settings.configuration);
     match number {
-        letters::FINAL_ACK => Letter::final_ack(own, configuration),
-        letters::DATA_ACK => {
+        messages::FINAL_TMPL_DATA_ACK => MessageParts::final_tmpl_data_ack(own, configuration),
+        messages::DATA_ACK => {
             let reached = session.exporter().reached;
             let count = session.random.between(0, reached);
-            Letter::data_ack(own, session.dsn_releasing(count as u32), configuration)
+            MessageParts::data_ack(own, session.dsn_releasing(count as u32), configuration)
         }
-        _ => Letter::bare(number, own),
+        _ => MessageParts::bare(number, own),
     }
 }
 
-fn wrong_length(session: &mut Session, letter: &Letter) -> u32 {
-    let length = letter.octets().len() as u32;
+fn wrong_length(session: &mut Session, parts: &MessageParts) -> u32 {
+    let length = parts.octets().len() as u32;
     *session.random.pick(&[
         length + 1,
         length - 1,
@@ -125,34 +131,34 @@ fn wrong_length(session: &mut Session, letter: &Letter) -> u32 {
 }
 
 /// A body that is longer or shorter than it should be.
-fn damage_body(session: &mut Session, letter: &mut Letter) {
+fn damage_body(session: &mut Session, parts: &mut MessageParts) {
     let few = *session.random.pick(&[1, 1, 2, 4, 8]);
-    let length = letter.body.len();
+    let length = parts.body.len();
     if length == 0 || session.random.once_in(2) {
-        letter.body.extend(session.random.octets(few));
+        parts.body.extend(session.random.octets(few));
     } else {
-        letter.body.truncate(length - few.min(length));
+        parts.body.truncate(length - few.min(length));
     }
 }
 
 /// Another Configuration ID in the body, wherever it stands there.
-fn damage_configuration(session: &mut Session, letter: &mut Letter) {
-    let place = if letter.number == letters::FINAL_ACK { 0 } else { 4 };
+fn damage_configuration(session: &mut Session, parts: &mut MessageParts) {
+    let place = if parts.number == messages::FINAL_TMPL_DATA_ACK { 0 } else { 4 };
     let bit = 1 << session.random.below(8);
-    if let Some(octet) = letter.body.get_mut(place) {
+    if let Some(octet) = parts.body.get_mut(place) {
         *octet ^= bit;
     }
 }
 
 /// A DSN that cannot be acknowledged.
-fn spoil_dsn(session: &mut Session, letter: &mut Letter) {
+fn spoil_dsn(session: &mut Session, parts: &mut MessageParts) {
     let exporter = session.exporter();
     let (reached, held) = (exporter.reached as u32, exporter.queue.len() as u32);
     let most = if held > reached { held } else { reached + 1 };
     let count = *session.random.pick(&[reached + 1, most, reached + 64, u32::MAX, 1 << 31]);
-    if letter.body.len() >= 4 {
+    if parts.body.len() >= 4 {
         let dsn = session.dsn_releasing(count);
-        letter.body[..4].copy_from_slice(&dsn.to_be_bytes());
+        parts.body[..4].copy_from_slice(&dsn.to_be_bytes());
     }
 }
 
@@ -209,8 +215,8 @@ pub fn faulty_server(session: &mut Session) {
         0 => session.add(Event::offer(server)),
         1 => session.add(Event::down(server)),
         2 => {
-            let letter = Letter::bare(letters::START, session.settings.session);
-            session.message(server, &letter);
+            let parts = MessageParts::bare(messages::START, session.settings.session);
+            session.message(server, &parts);
         }
         _ => {
             let busy = session.server_where(|state| !matches!(state, ServerState::Started | ServerState::Offered));

@@ -1,7 +1,7 @@
 //! Messages that no honest server sends: random octets, and sound messages with a few octets changed.
 
 use super::session::Session;
-use crate::letters::{self, Letter};
+use crate::messages::{self, MessageParts};
 use crate::random::Random;
 use crate::tape::Event;
 
@@ -25,10 +25,10 @@ fn random_octets(random: &mut Random) -> Vec<u8> {
 /// A sound header before a body without plan, also of message numbers that are not known.
 fn random_body(session: &mut Session) -> Vec<u8> {
     let random = &mut session.random;
-    let number = if random.once_in(3) { random.octet() } else { *random.pick(&letters::KNOWN) };
+    let number = if random.once_in(3) { random.octet() } else { *random.pick(&messages::KNOWN) };
     let count = *random.pick(&[0, 1, 3, 4, 5, 7, 8, 9, 12, 16, 40]);
     let body = random.octets(count);
-    Letter { flags: random.octet(), ..Letter::new(number, session.settings.session, body) }.octets()
+    MessageParts { flags: random.octet(), ..MessageParts::new(number, session.settings.session, body) }.octets()
 }
 
 /// A sound message with a few bits flipped, octets lost, doubled or added. Flags and reserved octets are free, so
@@ -45,7 +45,7 @@ fn changed(session: &mut Session) -> Vec<u8> {
         4 => octets.insert(place, octets[place]),
         _ => octets[3] = random.octet(),
     }
-    if random.once_in(3) && octets.len() >= letters::HEADER_OCTETS {
+    if random.once_in(3) && octets.len() >= messages::HEADER_OCTETS {
         let length = (octets.len() as u32).to_be_bytes();
         octets[4..8].copy_from_slice(&length);
     }
@@ -56,13 +56,13 @@ fn changed(session: &mut Session) -> Vec<u8> {
 fn honest(session: &mut Session) -> Vec<u8> {
     let (own, configuration) = (session.settings.session, session.settings.configuration);
     let dsn = session.dsn_releasing(session.exporter().reached as u32);
-    let letter = match session.random.below(6) {
-        0 => Letter::bare(letters::START, own),
-        1 => Letter::bare(letters::STOP, own),
-        2 => Letter::bare(letters::NEGOTIATE, own),
-        3 => Letter::final_ack(own, configuration),
-        4 => Letter::data(own, 3, configuration, 1, dsn, &[0, 5]),
-        _ => Letter::data_ack(own, dsn, configuration),
+    let parts = match session.random.below(6) {
+        0 => MessageParts::bare(messages::START, own),
+        1 => MessageParts::bare(messages::STOP, own),
+        2 => MessageParts::bare(messages::START_NEGOTIATE, own),
+        3 => MessageParts::final_tmpl_data_ack(own, configuration),
+        4 => MessageParts::data(own, 3, configuration, 1, dsn, &[0, 5]),
+        _ => MessageParts::data_ack(own, dsn, configuration),
     };
-    letter.octets()
+    parts.octets()
 }

@@ -1,7 +1,7 @@
 //! A session while it is being made up: the events so far, and the model's exporter after them, which tells what
 //! would be meaningful next.
 
-use crate::letters::{self, Letter};
+use crate::messages::{self, MessageParts};
 use crate::model::exporter::{Exporter, ServerState};
 use crate::model::replay::Replay;
 use crate::random::Random;
@@ -66,8 +66,8 @@ impl Session {
         self.events.push(event);
     }
 
-    pub fn message(&mut self, server: u8, letter: &Letter) {
-        self.add(Event::message(server, letter.octets()));
+    pub fn message(&mut self, server: u8, parts: &MessageParts) {
+        self.add(Event::message(server, parts.octets()));
     }
 
     pub fn events(self) -> Vec<Event> {
@@ -137,8 +137,8 @@ impl Session {
     }
 
     pub fn ack(&mut self, server: u8, dsn: u32) {
-        let letter = Letter::data_ack(self.settings.session, dsn, self.settings.configuration);
-        self.message(server, &letter);
+        let parts = MessageParts::data_ack(self.settings.session, dsn, self.settings.configuration);
+        self.message(server, &parts);
     }
 
     /// Takes a server one step nearer to being agreed; an agreed one begins anew.
@@ -146,8 +146,10 @@ impl Session {
         let session = self.settings.session;
         match self.exporter().state(server) {
             ServerState::Started => self.add(Event::offer(server)),
-            ServerState::Offered => self.message(server, &Letter::final_ack(session, self.settings.configuration)),
-            _ => self.message(server, &Letter::bare(letters::START, session)),
+            ServerState::Offered => {
+                self.message(server, &MessageParts::final_tmpl_data_ack(session, self.settings.configuration))
+            }
+            _ => self.message(server, &MessageParts::bare(messages::START, session)),
         }
     }
 

@@ -15,8 +15,7 @@ pub fn append(kind: u16, value: Value, octets: &[u8], out: &mut [u8], at: usize)
     Ok(end)
 }
 
-/// The field's octets; `None` for a type not listed, a value not of it, or one too long for its
-/// 32-bit length.
+/// The field's octets, or None where the value cannot be one of that type.
 fn field_octets(kind: u16, value: Value, octets: &[u8]) -> Option<Vec<u8>> {
     let layout = field_type(kind)?;
     match value {

@@ -101,8 +101,8 @@ fn require(holds: bool, refusal: u8) -> Result<(), u8> {
 
 /// Set-up, the calls and what they are judged by.
 impl Exporter {
-    /// Set-up: 20 for a store or setting outside limits. A fresh exporter holds nothing, has every
-    /// server closed, counters and ring start 0 and S due; the store is left untouched.
+    /// Set-up, judged 20 for the settings and the store's length. At first no record is held, all
+    /// servers are closed, the counters are 0, and S is to be set. The store is not written.
     pub fn set_up(settings: Settings, store: &[u8]) -> Result<Exporter, u8> {
         let store_fits = (SMALLEST_STORE..=LARGEST_STORE).contains(&store.len());
         require(store_fits && settings.in_limits(), answer::SETTINGS_OUT_OF_LIMITS)?;
@@ -145,13 +145,13 @@ impl Exporter {
         require(self.held_octets() + r.len() <= self.store_length, answer::STORE_FULL)
     }
 
-    /// Next data: 1, 13, 14, 12. Writes the record at place "sent" of the queue as DATA.
+    /// Next data, judged 1, 13, 14, 12: the record behind those already sent goes out as DATA.
     pub fn next_data(&mut self, store: &[u8], out: &mut [u8]) -> Reply {
         Reply::of(self.try_next_data(store, out))
     }
 
-    /// S is set on the first DATA of an activation only; D exactly if this record was ever written
-    /// to another server. Sent grows by 1; reached becomes the larger of itself and sent.
+    /// S marks the activation's first DATA, D a record that some other server was sent before. One
+    /// more counts as sent, and reached keeps the highest count.
     fn try_next_data(&mut self, store: &[u8], out: &mut [u8]) -> Result<usize, u8> {
         require(self.is_sound() && store.len() == self.store_length, answer::UNSOUND_STATE)?;
         let server = self.active.ok_or(answer::NO_ACTIVE_SERVER)?;
@@ -244,7 +244,8 @@ impl Exporter {
         }
     }
 
-    /// Offer templates: 1, 2, 21, 9, 12. From started or offered, writes TMPL DATA, then offered.
+    /// Offer templates, judged 1, 2, 21, 9, 12: a started or offered server gets the table and is
+    /// then offered.
     pub fn offer_templates(&mut self, server: u8, t: &[u8], out: &mut [u8]) -> Reply {
         Reply::of(self.try_offer_templates(server, t, out))
     }
@@ -295,7 +296,7 @@ impl Exporter {
         answer::DONE
     }
 
-    /// The active server turns late if another is agreed; else sent is 0.
+    /// With another server agreed the active one is now late; otherwise sending starts over.
     fn time_up(&mut self, server: u8) {
         let another =
             (0..self.settings.servers).any(|other| other != server && self.state(other) == ServerState::Agreed);
@@ -315,13 +316,13 @@ impl Exporter {
         }
     }
 
-    /// The ack DSN minus the first held DSN plus 1, modulo 4,294,967,296.
+    /// How many records an ack names, counted from the first held DSN with wrapping.
     pub fn acknowledged_count(&self, dsn: u32) -> u32 {
         dsn.wrapping_sub(self.first_held_dsn()).wrapping_add(1)
     }
 
-    /// DATA ACK: n records go from the front, reached falls by n, sent falls by n but not below 0.
-    /// If n is above 0, timer is 0; if n is 0, sent is 0.
+    /// Releases n records: all counters move down with them, sent no further than 0. A release
+    /// resets the timer, an empty one sends all again.
     fn acknowledge(&mut self, n: usize) {
         for _ in 0..n {
             self.release();
@@ -342,8 +343,8 @@ impl Exporter {
         }
     }
 
-    /// After every call the active server is chosen anew. A changed choice begins a new
-    /// activation: sent, reached and timer become 0 and S is due.
+    /// Makes the choice once more; where it differs from before, the counters start at 0 and S is
+    /// to be set.
     fn settle(&mut self) {
         let chosen = self.choose();
         if chosen != self.active {
@@ -368,7 +369,7 @@ impl Exporter {
         best.map(|(server, _)| server)
     }
 
-    /// The DSN of the first held record; with an empty queue the next DSN stands for it.
+    /// The DSN of the oldest held record, or the next DSN where none is held.
     pub fn first_held_dsn(&self) -> u32 {
         self.next_dsn.wrapping_sub(self.queue.len() as u32)
     }
@@ -445,8 +446,7 @@ impl Exporter {
         self.settings.in_limits() && (SMALLEST_STORE..=LARGEST_STORE).contains(&self.store_length)
     }
 
-    /// Count at most 64; lengths at most 1,024, summing to at most the store; ring start below the
-    /// store's length.
+    /// The queue is within its limits.
     fn queue_sound(&self) -> bool {
         self.queue.len() <= MOST_RECORDS
             && self.queue.iter().all(|held| held.length <= message::LONGEST_RECORD)
@@ -454,8 +454,7 @@ impl Exporter {
             && self.ring_start < self.store_length
     }
 
-    /// Sent at most reached at most count; timer below duration; the active choice as it is made;
-    /// with none active, sent, reached and timer 0; if S is due, reached 0.
+    /// The counters are in order, and the choice is the one that would be made.
     fn counters_sound(&self) -> bool {
         let at_rest = self.sent == 0 && self.reached == 0 && self.timer == 0;
         self.sent <= self.reached
@@ -466,8 +465,7 @@ impl Exporter {
             && (!self.s_due || self.reached == 0)
     }
 
-    /// Sent-to sets name existing servers, and the first "reached" records were sent to the active
-    /// one.
+    /// The sets hold only servers that exist, and the active one in each record reached.
     fn sets_sound(&self) -> bool {
         let existing = |held: &Held| held.sent_to.iter().all(|server| *server < self.settings.servers);
         let reached_active = |held: &Held| self.active.is_some_and(|server| held.sent_to.contains(&server));

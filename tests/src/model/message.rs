@@ -86,8 +86,8 @@ fn split_header(m: &[u8]) -> Option<(u8, Header, u32)> {
     Some((version, Header { number, session }, length))
 }
 
-/// Reading alone: 3, 4, 5, 7, 8, then 21 for the table rules. The part handed back is a DATA's
-/// record or a TMPL DATA's table; else the empty part at the message's start.
+/// Reads a message, judged 3, 4, 5, 7, 8, 21. Beside the message stands the record of a DATA or the
+/// table of a TMPL DATA; all others have no part, and get the empty one at the front of `m`.
 pub fn read(m: &[u8]) -> Result<(Message, &[u8]), u8> {
     let header = read_header(m)?;
     let body = m.get(HEADER_LENGTH..).ok_or(answer::SHORT_MESSAGE)?;
@@ -158,9 +158,8 @@ fn read_body(header: Header, reader: &mut Reader) -> Option<Message> {
     })
 }
 
-/// Writing alone: 21 (TMPL DATA's table), 17 (DATA's record), 12. The message is written from the
-/// output's first octet and no octet after it changes; its length is answered. The part is looked
-/// at for DATA and TMPL DATA only.
+/// Writes a message to the front of the output and answers its length; the rest of the output
+/// stays. Judged 21 (table), 17 (record), 12.
 pub fn write(message: &Message, part: &[u8], out: &mut [u8]) -> Result<usize, u8> {
     match message {
         Message::TmplData { .. } if !table::is_sound(part) => return Err(answer::UNSOUND_TABLE),

@@ -1,5 +1,5 @@
-//! An independent model of the exporter, written from the scope paper: tables, records, messages,
-//! the exporter's seven calls and the replay of a tape. It is plain rather than fast.
+//! An independent model of the exporter that rests on 01 alone: tables, records, messages, the
+//! exporter's calls and the replay of a tape. It is plain rather than fast.
 
 pub mod answer;
 pub mod append;

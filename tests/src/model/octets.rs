@@ -1,6 +1,6 @@
 //! Reading octets from front to back; numbers are most significant octet first.
 
-/// The number that the octets spell, most significant octet first (at most 8 octets are meant).
+/// The number that the octets hold, most significant octet first (at most 8 octets are meant).
 pub fn number(octets: &[u8]) -> u64 {
     octets.iter().fold(0, |value, octet| (value << 8) | u64::from(*octet))
 }

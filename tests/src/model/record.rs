@@ -64,8 +64,8 @@ pub fn find_template(t: &[u8], id: u16) -> Result<Template, u8> {
     table.template(id).cloned().ok_or(answer::NO_SUCH_TEMPLATE)
 }
 
-/// A record is valid when the fields of the enabled keys, in order and unpadded, use up exactly
-/// its octets. With all keys disabled only the empty record is valid.
+/// Whether the enabled keys' fields follow each other through the record without rest; with none
+/// enabled, only no octets do.
 fn is_valid(template: &Template, r: &[u8]) -> bool {
     let mut reader = Reader::new(r);
     let enabled = template.keys.iter().filter(|key: &&Key| !key.disabled);

@@ -67,8 +67,7 @@ pub fn read_tape(tape: &[u8]) -> Option<Vec<Event>> {
     reader.rest.is_empty().then_some(events)
 }
 
-/// Settings always and only first, the table always and only second, no other kinds; the server is
-/// 0 for kinds 0, 1, 2, 5, 6; kind 0 has 24 octets, kind 2 at least 2, kinds 4 to 7 none.
+/// Whether kind, server and body length go together at this place.
 fn is_sound_event(place: usize, event: &Event) -> bool {
     let kind_in_place = match place {
         0 => event.kind == SETTINGS,
@@ -170,8 +169,7 @@ impl Replay {
     }
 }
 
-/// An event's line: its place from 0, a space, its answer and, if octets were written, a space and
-/// lower-case hex.
+/// The line of an event: place and answer in decimal, and what was written in hex.
 pub fn line(place: usize, outcome: &Outcome) -> String {
     let mut line = format!("{place} {}", outcome.answer);
     if !outcome.written.is_empty() {

@@ -57,7 +57,7 @@ impl History {
         }
     }
 
-    /// Place p, also 0, has the DSN first DSN + p - 1 modulo 4,294,967,296.
+    /// The DSN of a place: the first DSN belongs to place 1, and place 0 has the one before it; all wrap.
     fn dsn(&self, place: usize) -> u32 {
         ((u64::from(self.settings.first_dsn) + place as u64 + u64::from(u32::MAX)) % (1 << 32)) as u32
     }

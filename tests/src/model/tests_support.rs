@@ -4,7 +4,7 @@ use super::answer;
 use super::exporter::{Exporter, Reply, ServerState, Settings};
 use super::message::{write, Message};
 
-/// The octets that a text of hex digits spells; spaces are skipped.
+/// The octets of a text of hex digits; spaces are skipped.
 pub fn hex(text: &str) -> Vec<u8> {
     let digits: Vec<u8> = text.chars().filter_map(|c| c.to_digit(16)).map(|d| d as u8).collect();
     digits.chunks(2).map(|pair| (pair[0] << 4) | pair[1]).collect()

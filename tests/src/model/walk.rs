@@ -42,8 +42,8 @@ pub fn open(t: &[u8], id: u16, r: &[u8]) -> u8 {
     judge(t, id, r)
 }
 
-/// A step judges 21, 15, then 16 over the next enabled key's field at its place alone; with no
-/// such key it answers the end.
+/// One step, judged 21 and 15, then 16 for the field of the next enabled key; the end where there
+/// is none.
 pub fn step(t: &[u8], id: u16, r: &[u8], c: Cursor) -> Step {
     let template = match find_template(t, id) {
         Ok(template) => template,

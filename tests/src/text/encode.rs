@@ -5,7 +5,7 @@ use super::words::{number, Words};
 use crate::tables::{Key, Table, Template, FIELD_TYPES};
 use crate::tape::{self, Event, Settings};
 
-/// The tape that a text spells, or the line that does not and why. Only sound tapes are spelt.
+/// The tape that a text gives, or the line that is at fault and why. Only sound tapes have a text.
 pub fn encode(text: &str) -> Result<Vec<u8>, String> {
     let mut encoder = Encoder::default();
     for (place, line) in text.lines().enumerate() {
@@ -26,7 +26,7 @@ struct Encoder {
     events: Vec<Event>,
     /// The session of the settings, which named messages carry.
     session: u8,
-    /// The table that is being spelt part by part; it becomes the body of the last event.
+    /// The table that is being given part by part; it becomes the body of the last event.
     table: Option<Table>,
     /// How often the last event was repeated.
     times: u64,
@@ -82,7 +82,7 @@ impl Encoder {
         Ok(Event::settings(&settings))
     }
 
-    /// A table in hex, or the first line of one that is spelt part by part.
+    /// A table in hex, or the first line of one that is given part by part.
     fn begin_table(&mut self, words: &mut Words) -> Result<Event, String> {
         if let Some(configuration) = words.optional("configuration", 255)? {
             self.table = Some(Table { configuration: configuration as u8, templates: Vec::new() });
@@ -108,7 +108,7 @@ impl Encoder {
         words.end()
     }
 
-    /// Gives the table that was being spelt to its event.
+    /// Puts the table that was given part by part into its event.
     fn close_table(&mut self) {
         if let (Some(table), Some(last)) = (self.table.take(), self.events.last_mut()) {
             last.body = table.octets();

@@ -124,7 +124,7 @@ fn quoted_value(text: &str) -> Result<(Vec<u8>, &str), String> {
     }
 }
 
-/// The octet of an escape and the number of characters that spell it.
+/// The octet of an escape and the number of its characters.
 fn escaped(mark: &str) -> Result<(u8, usize), String> {
     match mark.as_bytes() {
         [_, c @ (b'"' | b'\\'), ..] => Ok((*c, 2)),
@@ -146,7 +146,7 @@ pub fn number(text: &str, most: u64) -> Result<u64, String> {
     value.filter(|value| *value <= most).ok_or_else(|| format!("'{text}' is not a number from 0 to {most}"))
 }
 
-/// The octets that pairs of hex digits spell.
+/// The octets of pairs of hex digits.
 pub fn octets_of_hex(digits: &str) -> Result<Vec<u8>, String> {
     let values: Option<Vec<u8>> = digits.chars().map(|c| c.to_digit(16).map(|value| value as u8)).collect();
     match values {

@@ -9,7 +9,7 @@ use lib.ListN.{length, getD}
 use Rattle.exporter.specs.Claim.{Event, Put, NextData, Receive, OfferTemplates, Tick}
 use borrow.Author.Needs.{needs}
 use Rattle.sessions.specs.Sessions.{Lent, messageAt, Progress, progress, played}
-use Rattle.sessions.proofs.Turns.{event-put, event-next, event-tick, event-offer, event-receive, put-silent, tick-silent, stepped-after, wrote-after, same-progress, played-more, played-to}
+use Rattle.sessions.proofs.Turns.{event-put, event-next, event-tick, event-offer, event-receive, put-writes-nothing, tick-writes-nothing, stepped-after, wrote-after, same-progress, played-more, played-to}
 use Rattle.sessions.proofs.play.Statement.{statement}
 use Rattle.sessions.proofs.play.Tie as tie
 
@@ -99,7 +99,7 @@ loop-again c =
           ap length (w .8) ∙ h .inv .1 .1 .0,
           played-more l _ q _ (h .i) e (h .inv .1 .1 .1) (event-put l at (h .out) (w .0 .keys1))
               (same-progress (w .9) (w .7) (w .8) (w .10 ∙ w .6 .ensures)
-              ∙ stepped-after l q e (w .2 .result) _ (put-silent _ _ _ _ _ _) (w .2 .ensures .0) (w .2 .ensures .1)),
+              ∙ stepped-after l q e (w .2 .result) _ (put-writes-nothing _ _ _ _ _ _) (w .2 .ensures .0) (w .2 .ensures .1)),
         ),
       ),
     ))
@@ -128,7 +128,7 @@ loop-again c =
           ap length (w .5) ∙ h .inv .1 .1 .0,
           played-more l _ q _ (h .i) Tick (h .inv .1 .1 .1) (event-tick l at (h .out) (w .0 .keys3))
               (same-progress (w .6) (w .4) (w .5) (w .7 ∙ w .3 .ensures)
-              ∙ stepped-after l q Tick (w .1 .result) _ (tick-silent _ _ _ _) (w .1 .ensures) refl),
+              ∙ stepped-after l q Tick (w .1 .result) _ (tick-writes-nothing _ _ _ _) (w .1 .ensures) refl),
         ),
       ),
     ))

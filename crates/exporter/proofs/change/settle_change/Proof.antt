@@ -1,16 +1,23 @@
--- `settle_change` meets its contract: the choice is made, and compared, as the definition says. Assumes nothing.
+-- `settle_change` meets its contract: one choice is made, and whether it differs from the active server decides both the delivery and S.
+-- Assumes nothing.
+use Rattle.exporter.specs.Servers.{changed, settle, server}
 use borrow.Author.Needs.{needs}
 use Rattle.exporter.proofs.change.settle_change.Statement.{statement}
 use Rattle.exporter.proofs.change.settle_change.Tie as tie
 
+choose-server-requires : tie.Need-choose-server-requires
+choose-server-requires c κs = search needs
+
+same-active-requires : tie.Need-same-active-requires
+same-active-requires c κs = search needs
+
 settle-delivery-requires : tie.Need-settle-delivery-requires
 settle-delivery-requires c κs = search needs
 
-is-changed-requires : tie.Need-is-changed-requires
-is-changed-requires c κs = search needs
-
 returns : tie.Need-returns
-returns c = simp (c .is-changed .ensures, c .before .settle-delivery .ensures)
+unfolding settle changed
+returns c = simp (c .settle-delivery .ensures, c .before .same-active .ensures, c .before .before .choose-server .ensures)
 
 pub settle-change-spec : {M : Type 1} → statement M
-settle-change-spec = tie.close (tie.spec settle-delivery-requires is-changed-requires returns)
+settle-change-spec =
+    tie.close (tie.spec choose-server-requires same-active-requires settle-delivery-requires returns)

@@ -13,18 +13,18 @@ parts-sound-requires c κs = search needs
 tick-clock-requires : tie.Need-tick-clock-requires
 tick-clock-requires c κs = λ e. let f = sound-facts _ (sym (c .parts-sound .ensures) ∙ e) in (f .numbers .running, f .choice)
 
-turn-requires : tie.Need-turn-requires
-turn-requires c κs = search needs
+tick-change-requires : tie.Need-tick-change-requires
+tick-change-requires c κs = search needs
 
 apply-requires : tie.Need-apply-requires
 apply-requires c κs = search needs
 
 returns : tie.Need-returns
 returns c =
-    rw (c .apply .ensures, c .before .turn .ensures, c .before .before .tick-clock .ensures)
+    rw (c .apply .ensures, c .before .tick-change .ensures, c .before .before .tick-clock .ensures)
     (tick-turned 32 _ _ (c .before .before .before .parts-sound .ensures ∙ parts-of _))
 
 pub tick-spec : {M : Type 1} → statement M
 tick-spec =
     tie.close
-    (tie.spec parts-sound-requires tick-clock-requires turn-requires apply-requires returns)
+    (tie.spec parts-sound-requires tick-clock-requires tick-change-requires apply-requires returns)

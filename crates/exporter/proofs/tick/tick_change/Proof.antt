@@ -1,8 +1,8 @@
--- `turn` meets its contract: each part of the change is computed as the definition has it, in one line without a branch. Assumes nothing.
+-- `tick_change` meets its contract: each part of the change is computed as the definition has it, in one line without a branch. Assumes nothing.
 use Rattle.exporter.specs.Servers.{server}
 use borrow.Author.Needs.{needs}
-use Rattle.exporter.proofs.tick.turn.Statement.{statement}
-use Rattle.exporter.proofs.tick.turn.Tie as tie
+use Rattle.exporter.proofs.tick.tick_change.Statement.{statement}
+use Rattle.exporter.proofs.tick.tick_change.Tie as tie
 
 number-of-requires : tie.Need-number-of-requires
 number-of-requires c κs = search needs
@@ -49,8 +49,8 @@ returns c =
       c .before .before .before .before .before .before .before .before .before .number-of .ensures,
     )
 
-pub turn-spec : {M : Type 1} → statement M
-turn-spec =
+pub tick-change-spec : {M : Type 1} → statement M
+tick-change-spec =
     tie.close
     (tie.spec
     number-of-requires
