@@ -1,16 +1,9 @@
 //! Messages as structures, sound or not: each part of a message can be damaged on its own.
 
-/// The message numbers.
-pub const START: u8 = 0x01;
-pub const START_ACK: u8 = 0x02;
-pub const STOP: u8 = 0x03;
-pub const STOP_ACK: u8 = 0x04;
-pub const TMPL_DATA: u8 = 0x10;
-pub const FINAL_TMPL_DATA_ACK: u8 = 0x13;
-pub const START_NEGOTIATE: u8 = 0x18;
-pub const START_NEGOTIATE_ACK: u8 = 0x19;
-pub const DATA: u8 = 0x20;
-pub const DATA_ACK: u8 = 0x21;
+/// The message numbers are the model's.
+pub use crate::model::message::{
+    DATA, DATA_ACK, FINAL_TMPL_DATA_ACK, START, START_ACK, START_NEGOTIATE, START_NEGOTIATE_ACK, STOP, STOP_ACK, TMPL_DATA,
+};
 
 /// All message numbers that reading knows.
 pub const KNOWN: [u8; 10] = [

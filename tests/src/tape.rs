@@ -14,15 +14,8 @@ pub const ENTRY_OCTETS: usize = 4;
 /// The length of a settings body.
 pub const SETTINGS_OCTETS: usize = 24;
 
-/// The kinds of events.
-pub const SETTINGS: u8 = 0;
-pub const TABLE: u8 = 1;
-pub const PUT: u8 = 2;
-pub const MESSAGE: u8 = 3;
-pub const DOWN: u8 = 4;
-pub const TICK: u8 = 5;
-pub const NEXT: u8 = 6;
-pub const OFFER: u8 = 7;
+/// The kinds of events are the model's.
+pub use crate::model::replay::{DOWN, MESSAGE, NEXT_DATA as NEXT, OFFER, PUT, SETTINGS, TABLE, TICK};
 
 /// What each kind is called, in reports and in the text form.
 pub const KIND_NAMES: [&str; 8] = ["settings", "table", "put", "message", "down", "tick", "next", "offer"];
