@@ -10,4 +10,3 @@ pub mod ReadBack
 pub mod WalkLaws
 pub mod Messages
 pub mod RoundTrip
-pub mod Examples
