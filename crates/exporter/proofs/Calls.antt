@@ -175,8 +175,8 @@ held-entry a i g = a .core .stock .same i g
 -- ---- a call
 
 -- the session that a state belongs to
-abbrev pub sessionAt : ℕ → List ℕ → State → Session
-sessionAt w table s = record { width = w; settings = s .settings; table = table }
+abbrev pub sessionAt : ℕ → State → Session
+sessionAt w s = record { width = w; settings = s .settings }
 
 module _ (w : ℕ) (table : List ℕ) (room : ℕ) (h : History) (s : State) (store : List ℕ) (wide : 64 < modulus w) (a : Agrees w h s store) where
   -- an accepted call
@@ -233,7 +233,7 @@ module _ (w : ℕ) (table : List ℕ) (room : ℕ) (h : History) (s : State) (st
       (λ u. a .core .stock .marks (s .delivery .sent) u g)
       (a .core .stock .existing (h .ledger .released + (s .delivery .sent + 1)))
 
-  next-written : s .delivery .sent < s .queue .count → written w table nextData s store ≡ dueMessage (sessionAt w table s) h nextData
+  next-written : s .delivery .sent < s .queue .count → written w table nextData s store ≡ dueMessage (sessionAt w s) table h nextData
   unfolding written headOf
   next-written g =
       let e = next-entry g in
@@ -251,12 +251,12 @@ module _ (w : ℕ) (table : List ℕ) (room : ℕ) (h : History) (s : State) (st
       let n : ℕ = s .queue .count in
       sym (zero-add (octetsIn (held s store))) ∙ held-octets s store 0 n (omega (arith, a .core .stock .lengths, a .core .stock .few)) ∙ ap (λ (i : ℕ). sumOf (take i (s .queue .lengths))) (zero-add n)
 
-  due-put : isSessions (s .settings) table ≡ true → (id : ℕ) (r : List ℕ)
-      → judge (checks w table room (put id r) s store) ≡ judge (dueChecks (sessionAt w table s) (length store) room h (held s store) (put id r))
+  due-put : (id : ℕ) (r : List ℕ)
+      → judge (checks w table room (put id r) s store) ≡ judge (dueChecks (sessionAt w s) (length store) room table h (held s store) (put id r))
   unfolding checks
-  due-put t id r = rw (t, count-held, octets-held, a .core .stock .stored) refl
+  due-put id r = rw (count-held, octets-held, a .core .stock .stored) refl
 
-  due-next : judge (checks w table room nextData s store) ≡ judge (dueChecks (sessionAt w table s) (length store) room h (held s store) nextData)
+  due-next : judge (checks w table room nextData s store) ≡ judge (dueChecks (sessionAt w s) (length store) room table h (held s store) nextData)
   unfolding checks
   due-next = go (decLt (s .delivery .sent) (s .queue .count))
     where
@@ -267,7 +267,7 @@ module _ (w : ℕ) (table : List ℕ) (room : ℕ) (h : History) (s : State) (st
       active = ap (λ (d : Delivery). d .active) (a .delivery)
 
       go : Dec (s .delivery .sent < s .queue .count)
-          → judge (checks w table room nextData s store) ≡ judge (dueChecks (sessionAt w table s) (length store) room h (held s store) nextData)
+          → judge (checks w table room nextData s store) ≡ judge (dueChecks (sessionAt w s) (length store) room table h (held s store) nextData)
       go (yes g) =
           rw (
             next-written g,
@@ -283,7 +283,7 @@ module _ (w : ℕ) (table : List ℕ) (room : ℕ) (h : History) (s : State) (st
           ) refl
 
   due-ack : (v d config : ℕ) → d < modulus w
-      → judge (checks w table room (ack v d config) s store) ≡ judge (dueChecks (sessionAt w table s) (length store) room h (held s store) (ack v d config))
+      → judge (checks w table room (ack v d config) s store) ≡ judge (dueChecks (sessionAt w s) (length store) room table h (held s store) (ack v d config))
   unfolding checks
   due-ack v d config r =
       let c = a .core in
@@ -294,14 +294,14 @@ module _ (w : ℕ) (table : List ℕ) (room : ℕ) (h : History) (s : State) (st
             (ack-below w l s store wide c d) (ack-dsn w l s store wide c d r),
       ) refl
 
-  due-answer : isSessions (s .settings) table ≡ true → (k : Call) → InRange w k
-      → judge (checks w table room k s store) ≡ judge (dueChecks (sessionAt w table s) (length store) room h (held s store) k)
+  due-answer : (k : Call) → InRange w k
+      → judge (checks w table room k s store) ≡ judge (dueChecks (sessionAt w s) (length store) room table h (held s store) k)
   unfolding checks
-  due-answer t (put id r) i = due-put t id r
-  due-answer t nextData i = due-next
-  due-answer t tick i = refl
-  due-answer t (ack v d config) i = due-ack v d config i
-  due-answer t (move v m) i = rw (a .delivery) refl
+  due-answer (put id r) i = due-put id r
+  due-answer nextData i = due-next
+  due-answer tick i = refl
+  due-answer (ack v d config) i = due-ack v d config i
+  due-answer (move v m) i = rw (a .delivery) refl
 
   -- ---- what is claimed of an accepted call
 
@@ -309,7 +309,7 @@ module _ (w : ℕ) (table : List ℕ) (room : ℕ) (h : History) (s : State) (st
   unfolding checks
   sent-held e = leb-false _ _ (passed (checks w table room nextData s store) tt e .1 .0)
 
-  due-written : (k : Call) → judge (checks w table room k s store) ≡ done → written w table k s store ≡ dueMessage (sessionAt w table s) h k
+  due-written : (k : Call) → judge (checks w table room k s store) ≡ done → written w table k s store ≡ dueMessage (sessionAt w s) table h k
   unfolding written
   due-written (put id r) e = refl
   due-written nextData e = next-written (sent-held e)
@@ -363,11 +363,11 @@ module _ (w : ℕ) (table : List ℕ) (room : ℕ) (h : History) (s : State) (st
         wasWritten = a .core .since v q active lo (omega (arith, ack-named w (h .ledger) s store wide (a .core) d i n));
       }
 
-  due-putting : isSessions (s .settings) table ≡ true → (id : ℕ) (r : List ℕ) → isMissing table id ≡ false
+  due-putting : (id : ℕ) (r : List ℕ) → isSessions (s .settings) table ≡ true → isMissing table id ≡ false
       → recordValid table (templateOf table id) r ≡ true → length r ≤ maxRecordOctets
       → not (eqb (judge (checks w table room (put id r) s store)) done) ≡ (leb maxHeld (length (held s store)) || ltb (length store) (octetsIn (held s store) + length r))
-  due-putting t id r m v b =
-      rw (due-put t id r, m, v, le-ltb maxRecordOctets (length r) b)
+  due-putting id r t m v b =
+      rw (due-put id r, t, m, v, le-ltb maxRecordOctets (length r) b)
       (go (leb maxHeld (length (held s store))) (ltb (length store) (octetsIn (held s store) + length r)))
     where
       go : (x y : Bool) → not (eqb (cond x 18 (cond y 19 0)) 0) ≡ x || y
@@ -381,7 +381,7 @@ module _ (w : ℕ) (table : List ℕ) (room : ℕ) (h : History) (s : State) (st
   call-answer k = step-answer w table room k s store ∙ answer-checks a table room k
 
   step-writes : (k : Call)
-      → let o = step w table room k s store in o .written ≡ cond (eqb (o .answer) done) (dueMessage (sessionAt w table s) h k) []
+      → let o = step w table room k s store in o .written ≡ cond (eqb (o .answer) done) (dueMessage (sessionAt w s) table h k) []
   unfolding step
   step-writes k = go (eqb (answer w table room k s store) done) refl
     where
@@ -389,7 +389,7 @@ module _ (w : ℕ) (table : List ℕ) (room : ℕ) (h : History) (s : State) (st
       b₀ = answer w table room k s store
 
       go : (b : Bool) → eqb b₀ done ≡ b
-          → let o = cond b (accepted w table k s store) (refused b₀ s store) in o .written ≡ cond (eqb (o .answer) done) (dueMessage (sessionAt w table s) h k) []
+          → let o = cond b (accepted w table k s store) (refused b₀ s store) in o .written ≡ cond (eqb (o .answer) done) (dueMessage (sessionAt w s) table h k) []
       go true e = due-written k (sym (answer-checks a table room k) ∙ eqb-true b₀ done e)
       go false e = rw e refl
 
@@ -404,24 +404,24 @@ module _ (w : ℕ) (table : List ℕ) (room : ℕ) (h : History) (s : State) (st
           (rw (begun-released (changed (s .settings) (deliveryAfter w (s .settings) k (h .ledger) (h .delivery))) (ledgerAfter w (s .settings) k (h .delivery) (h .ledger))) at y)
       go false x y = let f : ⊥ = omega arith in absurd f
 
-  pub call-claim : isSessions (s .settings) table ≡ true → (k : Call) → InRange w k → Fair k
-      → CallClaim (sessionAt w table s) (length store) room h (held s store) k (step w table room k s store)
-  call-claim t k i f =
+  pub call-claim : (k : Call) → InRange w k → Fair k
+      → CallClaim (sessionAt w s) (length store) room table h (held s store) k (step w table room k s store)
+  call-claim k i f =
       let o = step w table room k s store in
       let checked : (j : Call) → k ≡ j → o .answer ≡ done → judge (checks w table room j s store) ≡ done =
       λ j e x. subst (λ (j : Call). judge (checks w table room j s store) ≡ done) e (sym (call-answer k) ∙ x) in
       record {
-        answered = call-answer k ∙ due-answer t k i;
+        answered = call-answer k ∙ due-answer k i;
         neverUnsound = λ x. eqb-false (judge (checks w table room k s store)) unsoundState (never-unsound w table room k s store f) (sym (call-answer k) ∙ x);
         writes = step-writes k;
         standsFor = λ e x. stands-for (checked nextData e x);
         accepted = λ e x. next-accepted (checked nextData e x);
         names = λ v d config e x. names-one v d config (subst (InRange w) e i) (checked (ack v d config) e x);
         releases = step-releases k i (o .answer) (sym (call-answer k));
-        putting = λ id r e m v b.
+        putting = λ id r e t m v b.
             ap (λ (n : ℕ). not (eqb n done)) (call-answer k)
             ∙ ap (λ (j : Call). not (eqb (judge (checks w table room j s store)) done)) e
-            ∙ due-putting t id r m v b;
+            ∙ due-putting id r t m v b;
       }
 
 -- the accepted records are the released ones and the held ones

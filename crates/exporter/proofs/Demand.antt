@@ -17,9 +17,9 @@ use Rattle.wire.specs.declared.message.Message.the-variants.{Start, StartAck, S
 use Rattle.exporter.specs.Servers.{start, stop, negotiate, offer, down, agree, malformed, changed, Transition}
 use Rattle.exporter.specs.Queue.{sumOf, held}
 use Rattle.exporter.specs.Sound.{settingsSound}
-use Rattle.exporter.specs.Steps.{modulus, Call, put, nextData, tick, ack, move, isReceived, formAnswer, callOfMessage, received, written, isSessions, checks, answer, after, settled, storeAfter, Outcome, step, fresh, refusedState, setUp}
+use Rattle.exporter.specs.Steps.{modulus, Call, put, nextData, tick, ack, move, isReceived, formAnswer, callOfMessage, received, written, checks, answer, after, settled, storeAfter, Outcome, step, fresh, refusedState, setUp}
 use Rattle.exporter.specs.History.{History, deliveryAfter, ledgerAfter, afterAccepted, afterCall, freshHistory, writtenTo, writtenDuring}
-use Rattle.exporter.specs.Claim.{Event, Put, NextData, Receive, OfferTemplates, LineDown, Tick, Session, Exporter, outcome, storeLeft, advance, run, begin, Heard, callOf, transcript, historyFrom, Premises, InRange, AllInRange, roomOf, nextPlace, CallClaim, namedBy, lastNamed, Calls, historyOf, Demand3, AllOctets, sessionOf32, Demand3Of32}
+use Rattle.exporter.specs.Claim.{Event, Put, NextData, Receive, OfferTemplates, LineDown, Tick, Session, Exporter, outcome, storeLeft, advance, run, begin, Heard, callOf, transcript, historyFrom, Premises, InRange, AllInRange, roomOf, tableOf, nextPlace, CallClaim, namedBy, lastNamed, Calls, historyOf, Demand3, AllOctets, sessionOf32, Demand3Of32}
 use Rattle.exporter.specs.declared.state.Settings.{Settings}
 use Rattle.exporter.specs.declared.state.State.{State}
 use Rattle.exporter.specs.declared.state.Made.{Made}
@@ -32,27 +32,27 @@ use Rattle.exporter.proofs.Calls.{sound-of, step-settings, step-keeps, 
 
 -- ---- what a call is lent
 
--- a call that looks at less than it could be lent does the same with the session's table and with the store
-lent : (w : ℕ) (t t′ : List ℕ) (room : ℕ) (k : Call) (s : State) (st st′ : List ℕ)
-    → answer w t room k s st ≡ answer w t′ room k s st′ → written w t k s st ≡ written w t′ k s st′ → storeAfter k s st′ ≡ st′
+-- a call that is lent no store, or does not change it, does the same with the store
+lent : (w : ℕ) (t : List ℕ) (room : ℕ) (k : Call) (s : State) (st st′ : List ℕ)
+    → answer w t room k s st ≡ answer w t room k s st′ → written w t k s st ≡ written w t k s st′ → storeAfter k s st′ ≡ st′
     → let o = step w t room k s st in
-    _≡_ {A = Outcome} (record { answer = o .answer; state = o .state; store = st′; written = o .written }) (step w t′ room k s st′)
+    _≡_ {A = Outcome} (record { answer = o .answer; state = o .state; store = st′; written = o .written }) (step w t room k s st′)
 unfolding step
-lent w t t′ room k s st st′ e f g = rw (e, f, g) (go (eqb (answer w t′ room k s st′) done))
+lent w t room k s st st′ e f g = rw (e, f, g) (go (eqb (answer w t room k s st′) done))
   where
     a : ℕ
-    a = answer w t′ room k s st′
+    a = answer w t room k s st′
 
     x : Outcome
-    x = record { answer = done; state = settled (after w k s); store = storeAfter k s st; written = written w t′ k s st′ }
+    x = record { answer = done; state = settled (after w k s); store = storeAfter k s st; written = written w t k s st′ }
 
     go : (b : Bool) → let o = cond b x (record { answer = a; state = s; store = st; written = [] }) in
         _≡_ {A = Outcome} (record { answer = o .answer; state = o .state; store = st′; written = o .written })
-        (cond b (record { answer = done; state = settled (after w k s); store = st′; written = written w t′ k s st′ }) (record { answer = a; state = s; store = st′; written = [] }))
+        (cond b (record { answer = done; state = settled (after w k s); store = st′; written = written w t k s st′ }) (record { answer = a; state = s; store = st′; written = [] }))
     go true = refl
     go false = refl
 
--- the calls that a message makes: none of them is lent table or store, and a refusal of its form is not 1
+-- the calls that a message makes: none of them is lent the store, and a refusal of its form is not 1
 abbrev MovedBy : Transition → Type 0
 MovedBy start = Unit {0}
 MovedBy stop = Unit {0}
@@ -106,21 +106,21 @@ received-fair (move v down) f = absurd f
 received-fair (move v (agree config)) f = tt
 received-fair (move v (malformed a)) f = f
 
-received-lent : (w : ℕ) (t : List ℕ) (room : ℕ) (k : Call) (s : State) (st : List ℕ) → Received k
+received-lent : (w room : ℕ) (k : Call) (s : State) (st : List ℕ) → Received k
     → let o = step w [] room k s [] in
-    _≡_ {A = Outcome} (record { answer = o .answer; state = o .state; store = st; written = o .written }) (step w t room k s st)
+    _≡_ {A = Outcome} (record { answer = o .answer; state = o .state; store = st; written = o .written }) (step w [] room k s st)
 unfolding answer checks written storeAfter
-received-lent w t room (put id r) s st f = absurd f
-received-lent w t room nextData s st f = absurd f
-received-lent w t room tick s st f = absurd f
-received-lent w t room (ack v d config) s st f = lent w [] t room (ack v d config) s [] st refl refl refl
-received-lent w t room (move v start) s st f = lent w [] t room (move v start) s [] st refl refl refl
-received-lent w t room (move v stop) s st f = lent w [] t room (move v stop) s [] st refl refl refl
-received-lent w t room (move v negotiate) s st f = lent w [] t room (move v negotiate) s [] st refl refl refl
-received-lent w t room (move v offer) s st f = absurd f
-received-lent w t room (move v down) s st f = absurd f
-received-lent w t room (move v (agree config)) s st f = lent w [] t room (move v (agree config)) s [] st refl refl refl
-received-lent w t room (move v (malformed a)) s st f = lent w [] t room (move v (malformed a)) s [] st refl refl refl
+received-lent w room (put id r) s st f = absurd f
+received-lent w room nextData s st f = absurd f
+received-lent w room tick s st f = absurd f
+received-lent w room (ack v d config) s st f = lent w [] room (ack v d config) s [] st refl refl refl
+received-lent w room (move v start) s st f = lent w [] room (move v start) s [] st refl refl refl
+received-lent w room (move v stop) s st f = lent w [] room (move v stop) s [] st refl refl refl
+received-lent w room (move v negotiate) s st f = lent w [] room (move v negotiate) s [] st refl refl refl
+received-lent w room (move v offer) s st f = absurd f
+received-lent w room (move v down) s st f = absurd f
+received-lent w room (move v (agree config)) s st f = lent w [] room (move v (agree config)) s [] st refl refl refl
+received-lent w room (move v (malformed a)) s st f = lent w [] room (move v (malformed a)) s [] st refl refl refl
 
 -- what an event leaves, with the store
 abbrev left : Session → Exporter → Event → Outcome
@@ -128,24 +128,24 @@ left z x e =
     let o = outcome z x e in
     record { answer = o .answer; state = o .state; store = storeLeft x e o; written = o .written }
 
--- an event is the step of its call with all that there is
+-- an event is the step of its call with the table that it is lent and with the store
 left-step : (z : Session) (x : Exporter) (e : Event)
-    → left z x e ≡ step (z .width) (z .table) (roomOf e) (callOf (x .state .settings) e) (x .state) (x .store)
+    → left z x e ≡ step (z .width) (tableOf e) (roomOf e) (callOf (x .state .settings) e) (x .state) (x .store)
 unfolding callOf answer checks written storeAfter
-left-step z x (Put id r) = refl
-left-step z x (NextData out) = lent (z .width) [] (z .table) (length out) nextData (x .state) (x .store) (x .store) refl refl refl
+left-step z x (Put table id r) = refl
+left-step z x (NextData out) = lent (z .width) [] (length out) nextData (x .state) (x .store) (x .store) refl refl refl
 left-step z x (Receive v m out) =
-    received-lent (z .width) (z .table) (length out) (received (x .state .settings) v m) (x .state) (x .store) (received-calls (x .state .settings) v m)
-left-step z x (OfferTemplates v out) = lent (z .width) (z .table) (z .table) (length out) (move v offer) (x .state) [] (x .store) refl refl refl
-left-step z x (LineDown v) = lent (z .width) [] (z .table) 0 (move v down) (x .state) [] (x .store) refl refl refl
-left-step z x Tick = lent (z .width) [] (z .table) 0 tick (x .state) [] (x .store) refl refl refl
+    received-lent (z .width) (length out) (received (x .state .settings) v m) (x .state) (x .store) (received-calls (x .state .settings) v m)
+left-step z x (OfferTemplates v table out) = lent (z .width) table (length out) (move v offer) (x .state) [] (x .store) refl refl refl
+left-step z x (LineDown v) = lent (z .width) [] 0 (move v down) (x .state) [] (x .store) refl refl refl
+left-step z x Tick = lent (z .width) [] 0 tick (x .state) [] (x .store) refl refl refl
 
 fair : (p : Settings) (e : Event) → Fair (callOf p e)
 unfolding callOf
-fair p (Put id r) = tt
+fair p (Put table id r) = tt
 fair p (NextData out) = tt
 fair p (Receive v m out) = received-fair (received p v m) (received-calls p v m)
-fair p (OfferTemplates v out) = tt
+fair p (OfferTemplates v table out) = tt
 fair p (LineDown v) = tt
 fair p Tick = tt
 
@@ -155,10 +155,10 @@ record Kept (z : Session) (h : History) (x : Exporter) : Type 0 where
   settings : x .state .settings ≡ z .settings
   agrees : Agrees (z .width) h (x .state) (x .store)
 
-module _ (z : Session) (wide : 64 < modulus (z .width)) (sessions : isSessions (z .settings) (z .table) ≡ true) where
+module _ (z : Session) (wide : 64 < modulus (z .width)) where
   event-step : (x : Exporter) (e : Event) → x .state .settings ≡ z .settings
-      → left z x e ≡ step (z .width) (z .table) (roomOf e) (callOf (z .settings) e) (x .state) (x .store)
-  event-step x e k = left-step z x e ∙ ap (λ (p : Settings). step (z .width) (z .table) (roomOf e) (callOf p e) (x .state) (x .store)) k
+      → left z x e ≡ step (z .width) (tableOf e) (roomOf e) (callOf (z .settings) e) (x .state) (x .store)
+  event-step x e k = left-step z x e ∙ ap (λ (p : Settings). step (z .width) (tableOf e) (roomOf e) (callOf p e) (x .state) (x .store)) k
 
   advance-keeps : (x : Exporter) (h : History) (e : Event) → InRange (z .width) (callOf (z .settings) e) → Kept z h x
       → Kept z (afterCall (z .width) (z .settings) (callOf (z .settings) e) (outcome z x e .answer) h) (advance z x e)
@@ -167,21 +167,20 @@ module _ (z : Session) (wide : 64 < modulus (z .width)) (sessions : isSessions (
       let c = callOf (z .settings) e in
       let q = event-step x e (k .settings) in
       record {
-        settings = ap (λ (o : Outcome). o .state .settings) q ∙ step-settings (z .width) (z .table) (roomOf e) c (x .state) (x .store) ∙ k .settings;
+        settings = ap (λ (o : Outcome). o .state .settings) q ∙ step-settings (z .width) (tableOf e) (roomOf e) c (x .state) (x .store) ∙ k .settings;
         agrees = subst (λ (o : Outcome). Agrees (z .width) (afterCall (z .width) (z .settings) c (o .answer) h) (o .state) (o .store)) (sym q)
-            (subst (λ (p : Settings). let o = step (z .width) (z .table) (roomOf e) c (x .state) (x .store) in Agrees (z .width) (afterCall (z .width) p c (o .answer) h) (o .state) (o .store)) (k .settings)
-            (step-keeps (z .width) (z .table) (roomOf e) h (x .state) (x .store) wide (k .agrees) c i));
+            (subst (λ (p : Settings). let o = step (z .width) (tableOf e) (roomOf e) c (x .state) (x .store) in Agrees (z .width) (afterCall (z .width) p c (o .answer) h) (o .state) (o .store)) (k .settings)
+            (step-keeps (z .width) (tableOf e) (roomOf e) h (x .state) (x .store) wide (k .agrees) c i));
       }
 
   claim-of : (x : Exporter) (h : History) (e : Event) → InRange (z .width) (callOf (z .settings) e) → Kept z h x
-      → CallClaim z (length (x .store)) (roomOf e) h (held (x .state) (x .store)) (callOf (z .settings) e) (outcome z x e)
+      → CallClaim z (length (x .store)) (roomOf e) (tableOf e) h (held (x .state) (x .store)) (callOf (z .settings) e) (outcome z x e)
   claim-of x h e i k =
       let c = callOf (z .settings) e in
-      let y : CallClaim z (length (x .store)) (roomOf e) h (held (x .state) (x .store)) c (left z x e) =
-      subst (CallClaim z (length (x .store)) (roomOf e) h (held (x .state) (x .store)) c) (sym (event-step x e (k .settings)))
-      (subst (λ (p : Settings). CallClaim (record { width = z .width; settings = p; table = z .table }) (length (x .store)) (roomOf e) h (held (x .state) (x .store)) c (step (z .width) (z .table) (roomOf e) c (x .state) (x .store))) (k .settings)
-      (call-claim (z .width) (z .table) (roomOf e) h (x .state) (x .store) wide (k .agrees)
-      (subst (λ (p : Settings). isSessions p (z .table) ≡ true) (sym (k .settings)) sessions) c i (fair (z .settings) e))) in
+      let y : CallClaim z (length (x .store)) (roomOf e) (tableOf e) h (held (x .state) (x .store)) c (left z x e) =
+      subst (CallClaim z (length (x .store)) (roomOf e) (tableOf e) h (held (x .state) (x .store)) c) (sym (event-step x e (k .settings)))
+      (subst (λ (p : Settings). CallClaim (record { width = z .width; settings = p }) (length (x .store)) (roomOf e) (tableOf e) h (held (x .state) (x .store)) c (step (z .width) (tableOf e) (roomOf e) c (x .state) (x .store))) (k .settings)
+      (call-claim (z .width) (tableOf e) (roomOf e) h (x .state) (x .store) wide (k .agrees) c i (fair (z .settings) e))) in
       record {
         answered = y .answered;
         neverUnsound = y .neverUnsound;
@@ -307,11 +306,11 @@ unfolding freshHistory
 demand3 z store m es i =
     let wide : 64 < modulus (z .width) = wide-modulus (z .width) (m .wide) in
     let k : Kept z freshHistory (begin z store) = begin-kept z store m in
-    let c : Kept z (historyOf z store es) (run z (begin z store) es) = run-keeps z wide (m .table) (begin z store) freshHistory es i k in
+    let c : Kept z (historyOf z store es) (run z (begin z store) es) = run-keeps z wide (begin z store) freshHistory es i k in
     record {
       account = account-of (c .agrees);
       last = last-named (z .width) (z .settings) freshHistory 0 (transcript z (begin z store) es) refl;
-      calls = each-call z wide (m .table) (begin z store) freshHistory es i k;
+      calls = each-call z wide (begin z store) freshHistory es i k;
       isSound = sound-of (c .agrees);
       settings = c .settings;
       stored = c .agrees .core .stock .stored;
@@ -357,16 +356,16 @@ received-range p v m o = go (eqb (formAnswer p m) done)
     go true = meaning-range v m o
     go false = tt
 
-all-in-range : (p : Settings) (table : List ℕ) (es : List Event) → AllOctets es → AllInRange (sessionOf32 p table) es
+all-in-range : (p : Settings) (es : List Event) → AllOctets es → AllInRange (sessionOf32 p) es
 unfolding callOf
-all-in-range p table [] o = tt
-all-in-range p table (Put id r ∷ es) o = (tt, all-in-range p table es o)
-all-in-range p table (NextData out ∷ es) o = (tt, all-in-range p table es o)
-all-in-range p table (Receive v m out ∷ es) o = (received-range p v m (o .0), all-in-range p table es (o .1))
-all-in-range p table (OfferTemplates v out ∷ es) o = (tt, all-in-range p table es o)
-all-in-range p table (LineDown v ∷ es) o = (tt, all-in-range p table es o)
-all-in-range p table (Tick ∷ es) o = (tt, all-in-range p table es o)
+all-in-range p [] o = tt
+all-in-range p (Put table id r ∷ es) o = (tt, all-in-range p es o)
+all-in-range p (NextData out ∷ es) o = (tt, all-in-range p es o)
+all-in-range p (Receive v m out ∷ es) o = (received-range p v m (o .0), all-in-range p es (o .1))
+all-in-range p (OfferTemplates v table out ∷ es) o = (tt, all-in-range p es o)
+all-in-range p (LineDown v ∷ es) o = (tt, all-in-range p es o)
+all-in-range p (Tick ∷ es) o = (tt, all-in-range p es o)
 
 pub demand3of32 : Demand3Of32
-demand3of32 p table store a t i es o =
-    demand3 (sessionOf32 p table) store (record { wide = omega arith; accepted = a; table = t; initial = i }) es (all-in-range p table es o)
+demand3of32 p store a i es o =
+    demand3 (sessionOf32 p) store (record { wide = omega arith; accepted = a; initial = i }) es (all-in-range p es o)

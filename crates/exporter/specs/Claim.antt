@@ -6,7 +6,7 @@ use mathlib.Core.Bool.{Bool, true, false, not, _&&_, _||_, cond}
 use mathlib.Core.List.{List, [], _∷_, _++_}
 use lib.Dec.{eqb, leb, ltb}
 use lib.ListN.{length, getD, take}
-use Rattle.octets.specs.Answers.{Check, _when_, judge, done, unsoundState, noSuchServer, outOfTurn, otherConfiguration, dsnNotAcknowledgeable, outputTooShort, noActiveServer, nothingToSend, templateNotFound, recordTooLong, recordInvalid, queueFull, storeFull}
+use Rattle.octets.specs.Answers.{Check, _when_, judge, done, unsoundState, noSuchServer, outOfTurn, otherConfiguration, dsnNotAcknowledgeable, outputTooShort, noActiveServer, nothingToSend, templateNotFound, recordTooLong, recordInvalid, queueFull, storeFull, unsoundTable}
 use Rattle.octets.specs.Numbers.{Octets}
 use Rattle.wire.specs.Table.{isMissing, templateOf}
 use Rattle.wire.specs.Record.{recordValid}
@@ -25,21 +25,22 @@ use Rattle.exporter.specs.declared.state.State.{State}
 
 -- ---- a run
 
--- The six calls, each with its arguments besides state, store and table, and with the output that it is lent.
+-- The six calls, each with its arguments besides state and store: the table that a put is lent, the template ID and the record; the output
+-- of next data; the server, the message and the output of receive; the server, the lent table and the output of an offer; the server whose
+-- line is down.
 pub data Event : Type 0 where
-  Put : ℕ → List ℕ → Event
+  Put : List ℕ → ℕ → List ℕ → Event
   NextData : List ℕ → Event
   Receive : ℕ → List ℕ → List ℕ → Event
-  OfferTemplates : ℕ → List ℕ → Event
+  OfferTemplates : ℕ → List ℕ → List ℕ → Event
   LineDown : ℕ → Event
   Tick : Event
 
--- What a session is given once: the width of its sequence numbers, its settings and its table. Its messages carry 32 bits of a sequence
--- number, so that over octets the widths up to 32 are those that a session can have; the code has 32.
+-- What a session is given once: the width of its sequence numbers and its settings. Its messages carry 32 bits of a sequence number, so
+-- that over octets the widths up to 32 are those that a session can have; the code has 32.
 pub record Session : Type 0 where
   pub width : ℕ
   pub settings : Settings
-  pub table : List ℕ
 
 -- The state and the store between two calls.
 pub record Exporter : Type 0 where
@@ -48,19 +49,19 @@ pub record Exporter : Type 0 where
 
 -- The outcome of a call: that of the call's own step, on what the call before it left.
 abbrev pub outcome : Session → Exporter → Event → Outcome
-outcome z x (Put id r) = putStep (z .width) (x .state) (x .store) (z .table) id r
+outcome z x (Put table id r) = putStep (z .width) (x .state) (x .store) table id r
 outcome z x (NextData out) = nextDataStep (z .width) (x .state) (x .store) out
 outcome z x (Receive v m out) = receiveStep (z .width) (x .state) v m out
-outcome z x (OfferTemplates v out) = offerStep (z .width) (x .state) v (z .table) out
+outcome z x (OfferTemplates v table out) = offerStep (z .width) (x .state) v table out
 outcome z x (LineDown v) = lineDownStep (z .width) (x .state) v
 outcome z x Tick = tickStep (z .width) (x .state)
 
 -- Only a put is lent the store to change it.
 abbrev pub storeLeft : Exporter → Event → Outcome → List ℕ
-storeLeft x (Put id r) o = o .store
+storeLeft x (Put table id r) o = o .store
 storeLeft x (NextData out) o = x .store
 storeLeft x (Receive v m out) o = x .store
-storeLeft x (OfferTemplates v out) o = x .store
+storeLeft x (OfferTemplates v table out) o = x .store
 storeLeft x (LineDown v) o = x .store
 storeLeft x Tick o = x .store
 
@@ -84,12 +85,12 @@ pub record Heard : Type 0 where
   pub call : Call
   pub answer : ℕ
 
--- The call that an event makes, by the settings alone.
+-- The call that an event makes, by the settings alone. A put's record and template ID take the place; no table is told to the history.
 unfoldable pub callOf : Settings → Event → Call
-callOf p (Put id r) = put id r
+callOf p (Put table id r) = put id r
 callOf p (NextData out) = nextData
 callOf p (Receive v m out) = received p v m
-callOf p (OfferTemplates v out) = move v offer
+callOf p (OfferTemplates v table out) = move v offer
 callOf p (LineDown v) = move v down
 callOf p Tick = tick
 
@@ -106,11 +107,10 @@ historyFrom w p h (k ∷ ks) = historyFrom w p (afterCall w p (k .call) (k .answ
 
 -- ---- the premises
 
--- A width of 7 bits or more, settings that set-up accepts, the session's one table, and a first DSN of that width.
+-- A width of 7 bits or more, settings that set-up accepts, and a first DSN of that width.
 pub record Premises (z : Session) (store : List ℕ) : Type 0 where
   pub wide : 7 ≤ z .width
   pub accepted : setUp (z .settings) (length store) .answer ≡ done
-  pub table : isSessions (z .settings) (z .table) ≡ true
   pub initial : z .settings .initial < modulus (z .width)
 
 -- The DSN of a DATA ACK has the session's width.
@@ -130,12 +130,21 @@ AllInRange z (e ∷ es) = InRange (z .width) (callOf (z .settings) e) × AllInRa
 
 -- How long the output is that a call is lent.
 abbrev pub roomOf : Event → ℕ
-roomOf (Put id r) = 0
+roomOf (Put table id r) = 0
 roomOf (NextData out) = length out
 roomOf (Receive v m out) = length out
-roomOf (OfferTemplates v out) = length out
+roomOf (OfferTemplates v table out) = length out
 roomOf (LineDown v) = 0
 roomOf Tick = 0
+
+-- The table that a call is lent, `[]` for a call that is lent none.
+abbrev pub tableOf : Event → List ℕ
+tableOf (Put table id r) = table
+tableOf (NextData out) = []
+tableOf (Receive v m out) = []
+tableOf (OfferTemplates v table out) = table
+tableOf (LineDown v) = []
+tableOf Tick = []
 
 -- The record at place q, from 1.
 abbrev pub entryAt : Ledger → ℕ → Entry
@@ -168,13 +177,13 @@ dueHead z h =
       dsn = dsnOf (z .width) (z .settings) (nextPlace h);
     }
 
--- The octets that a call writes where it is accepted.
-abbrev pub dueMessage : Session → History → Call → List ℕ
-dueMessage z h (put id r) = []
-dueMessage z h nextData = layoutOf (Data (dueHead z h)) (entryAt (h .ledger) (nextPlace h) .octets)
-dueMessage z h tick = []
-dueMessage z h (ack v d config) = []
-dueMessage z h (move v m) = replyTo (z .settings) (z .table) m
+-- The octets that a call writes where it is accepted, with the table that it is lent.
+abbrev pub dueMessage : Session → List ℕ → History → Call → List ℕ
+dueMessage z table h (put id r) = []
+dueMessage z table h nextData = layoutOf (Data (dueHead z h)) (entryAt (h .ledger) (nextPlace h) .octets)
+dueMessage z table h tick = []
+dueMessage z table h (ack v d config) = []
+dueMessage z table h (move v m) = replyTo (z .settings) table m
 
 -- DSN d belongs to the released number's place or to one of the `reached` places behind it.
 abbrev pub isReached : Session → History → ℕ → Bool
@@ -185,33 +194,34 @@ unfoldable pub octetsIn : List Entry → ℕ
 octetsIn [] = 0
 octetsIn (x ∷ xs) = length (x .octets) + octetsIn xs
 
--- The refusals that are due, by the history, the records held, the store's and the output's length. Answer 1, and
--- 21 of put, are not among them: the state is always sound, and the table is the session's (`Premises`).
-abbrev pub dueChecks : Session → ℕ → ℕ → History → List Entry → Call → List Check
-dueChecks z capacity room h hs (put id r) =
-    (templateNotFound when isMissing (z .table) id)
+-- The refusals that are due, by the history, the records held, the lengths of store and output and the lent table. Answer 1 is not
+-- among them, since the state is always sound.
+abbrev pub dueChecks : Session → ℕ → ℕ → List ℕ → History → List Entry → Call → List Check
+dueChecks z capacity room table h hs (put id r) =
+    (unsoundTable when not (isSessions (z .settings) table))
+    ∷ (templateNotFound when isMissing table id)
     ∷ (recordTooLong when ltb maxRecordOctets (length r))
-    ∷ (recordInvalid when not (recordValid (z .table) (templateOf (z .table) id) r))
+    ∷ (recordInvalid when not (recordValid table (templateOf table id) r))
     ∷ (queueFull when leb maxHeld (length hs))
     ∷ (storeFull when ltb capacity (octetsIn hs + length r))
     ∷ []
-dueChecks z capacity room h hs nextData =
+dueChecks z capacity room table h hs nextData =
     (noActiveServer when isNobody (h .delivery .active))
     ∷ (nothingToSend when ltb (length (h .ledger .records)) (nextPlace h))
-    ∷ (outputTooShort when ltb room (length (dueMessage z h nextData)))
+    ∷ (outputTooShort when ltb room (length (dueMessage z table h nextData)))
     ∷ []
-dueChecks z capacity room h hs tick = []
-dueChecks z capacity room h hs (ack v d config) =
+dueChecks z capacity room table h hs tick = []
+dueChecks z capacity room table h hs (ack v d config) =
     (noSuchServer when leb (z .settings .servers) v)
     ∷ (outOfTurn when not (sameActive (h .delivery .active) (active.Server v)))
     ∷ (otherConfiguration when not (eqb config (z .settings .config)))
     ∷ (dsnNotAcknowledgeable when not (isReached z h d))
     ∷ []
-dueChecks z capacity room h hs (move v m) =
+dueChecks z capacity room table h hs (move v m) =
     (noSuchServer when leb (z .settings .servers) v)
-    ∷ transitionChecks (z .settings) (z .table) room m (phaseAt (h .delivery .servers) v)
+    ∷ transitionChecks (z .settings) table room m (phaseAt (h .delivery .servers) v)
 
--- ---- what is claimed of one call, made when the history was h and the records held were hs
+-- ---- what is claimed of one call, lent this table when the history was h and the records held were hs
 
 -- A DATA ACK's place is the only one of the 65 from the released number on with its DSN, and is that number or an accepted record's.
 pub record Named (w : ℕ) (p : Settings) (l : Ledger) (d : ℕ) : Type 0 where
@@ -231,12 +241,12 @@ pub record ReleasedBy (h : History) (c : Call) (q : ℕ) : Type 0 where
   pub wasWritten : writtenIn (h .ledger .writings) q server (h .ledger .activation) ≡ true
 
 -- Answers, messages and releases, sentence by sentence.
-pub record CallClaim (z : Session) (capacity room : ℕ) (h : History) (hs : List Entry) (c : Call) (o : Outcome) : Type 0 where
+pub record CallClaim (z : Session) (capacity room : ℕ) (table : List ℕ) (h : History) (hs : List Entry) (c : Call) (o : Outcome) : Type 0 where
   -- the answer is the first refusal that is due, and never 1
-  pub answered : o .answer ≡ judge (dueChecks z capacity room h hs c)
+  pub answered : o .answer ≡ judge (dueChecks z capacity room table h hs c)
   pub neverUnsound : o .answer ≢ unsoundState
   -- an accepted call writes its message, and no other call writes
-  pub writes : o .written ≡ cond (eqb (o .answer) done) (dueMessage z h c) []
+  pub writes : o .written ≡ cond (eqb (o .answer) done) (dueMessage z table h c) []
   -- the DSN of a DATA stands for its place: no other record that may be held has it, and the record was accepted
   pub standsFor : c ≡ nextData → o .answer ≡ done → (q : ℕ) → h .ledger .released < q → q ≤ h .ledger .released + 64
       → dsnOf (z .width) (z .settings) q ≡ dsnOf (z .width) (z .settings) (nextPlace h) → q ≡ nextPlace h
@@ -245,9 +255,10 @@ pub record CallClaim (z : Session) (capacity room : ℕ) (h : History) (hs : Lis
   pub names : (v d config : ℕ) → c ≡ ack v d config → o .answer ≡ done → Named (z .width) (z .settings) (h .ledger) d
   -- whatever a call releases was written to the acknowledging server in its activation
   pub releases : (q : ℕ) → h .ledger .released < q → q ≤ afterCall (z .width) (z .settings) c (o .answer) h .ledger .released → ReleasedBy h c q
-  -- a valid record of at most 1,024 octets is refused exactly where 64 are held or its octets do not fit beside the held ones
-  pub putting : (id : ℕ) (r : List ℕ) → c ≡ put id r → isMissing (z .table) id ≡ false
-      → recordValid (z .table) (templateOf (z .table) id) r ≡ true → length r ≤ maxRecordOctets
+  -- under a sound table of the session's Configuration ID a valid record of at most 1,024 octets is refused exactly where 64 are held or its
+  -- octets do not fit beside the held ones
+  pub putting : (id : ℕ) (r : List ℕ) → c ≡ put id r → isSessions (z .settings) table ≡ true → isMissing table id ≡ false
+      → recordValid table (templateOf table id) r ≡ true → length r ≤ maxRecordOctets
       → not (eqb (o .answer) done) ≡ (leb maxHeld (length hs) || ltb capacity (octetsIn hs + length r))
 
 -- ---- what is claimed of a list
@@ -277,7 +288,7 @@ Calls z x h [] = Unit {0}
 Calls z x h (e ∷ es) =
     let c = callOf (z .settings) e in
     let o = outcome z x e in
-    CallClaim z (length (x .store)) (roomOf e) h (held (x .state) (x .store)) c o
+    CallClaim z (length (x .store)) (roomOf e) (tableOf e) h (held (x .state) (x .store)) c o
     × Calls z (advance z x e) (afterCall (z .width) (z .settings) c (o .answer) h) es
 
 -- The history of a list of calls from a fresh exporter on.
@@ -298,7 +309,7 @@ pub record Claim (z : Session) (store : List ℕ) (es : List Event) : Type 0 whe
   pub stored : length (run z (begin z store) es .store) ≡ run z (begin z store) es .state .capacity
   pub agrees : historyOf z store es .delivery ≡ run z (begin z store) es .state .delivery
 
--- Demand 3, for every width, session, store and list of calls.
+-- Demand 3, for every width, session, store and list of calls, whatever tables they are lent.
 abbrev pub Demand3 : Type 0
 Demand3 = (z : Session) (store : List ℕ) → Premises z store → (es : List Event) → AllInRange z es → Claim z store es
 
@@ -307,18 +318,18 @@ Demand3 = (z : Session) (store : List ℕ) → Premises z store → (es : List E
 -- Every received message is a list of octets.
 abbrev pub AllOctets : List Event → Type 0
 AllOctets [] = Unit {0}
-AllOctets (Put id r ∷ es) = AllOctets es
+AllOctets (Put table id r ∷ es) = AllOctets es
 AllOctets (NextData out ∷ es) = AllOctets es
 AllOctets (Receive v m out ∷ es) = Octets m × AllOctets es
-AllOctets (OfferTemplates v out ∷ es) = AllOctets es
+AllOctets (OfferTemplates v table out ∷ es) = AllOctets es
 AllOctets (LineDown v ∷ es) = AllOctets es
 AllOctets (Tick ∷ es) = AllOctets es
 
 -- A session with sequence numbers of 32 bits.
-abbrev pub sessionOf32 : Settings → List ℕ → Session
-sessionOf32 p table = record { width = 32; settings = p; table = table }
+abbrev pub sessionOf32 : Settings → Session
+sessionOf32 p = record { width = 32; settings = p }
 
 -- Demand 3 of the code's width.
 abbrev pub Demand3Of32 : Type 0
-Demand3Of32 = (p : Settings) (table store : List ℕ) → setUp p (length store) .answer ≡ done → isSessions p table ≡ true → p .initial < modulus 32
-    → (es : List Event) → AllOctets es → Claim (sessionOf32 p table) store es
+Demand3Of32 = (p : Settings) (store : List ℕ) → setUp p (length store) .answer ≡ done → p .initial < modulus 32
+    → (es : List Event) → AllOctets es → Claim (sessionOf32 p) store es

@@ -11,12 +11,12 @@ use Rattle.exporter.specs.Claim.{Event, Put, NextData, Receive, OfferTemplates,
 use Rattle.exporter.specs.declared.state.State.{State}
 use Rattle.exporter.specs.declared.state.Stepped.{Stepped}
 use Rattle.exporter.specs.declared.state.Wrote.{Wrote}
-use Rattle.sessions.specs.Sessions.{Lent, messageAt, eventAt, eventOctets, Progress, progress, under, exporterOf, added, after, played, PlayedTo}
+use Rattle.sessions.specs.Sessions.{Lent, messageAt, eventAt, eventOctets, Progress, progress, anySession, exporterOf, added, after, played, PlayedTo}
 
 -- ---- the event at a place, by the number of its call
 
 module _ (l : Lent) (at : ℕ) (out : List ℕ) where
-  pub event-put : getD (l .events) at 0 ≡ 0 → eventAt l at out ≡ Put (l .template) (l .octets)
+  pub event-put : getD (l .events) at 0 ≡ 0 → eventAt l at out ≡ Put (l .table) (l .template) (l .octets)
   unfolding eventAt
   event-put h = rw h
 
@@ -28,7 +28,7 @@ module _ (l : Lent) (at : ℕ) (out : List ℕ) where
   unfolding eventAt
   event-tick h = rw h
 
-  pub event-offer : getD (l .events) at 0 ≡ 3 → eventAt l at out ≡ OfferTemplates (getD (l .events) (at + 1) 0) out
+  pub event-offer : getD (l .events) at 0 ≡ 3 → eventAt l at out ≡ OfferTemplates (getD (l .events) (at + 1) 0) (l .table) out
   unfolding eventAt
   event-offer h = rw h
 
@@ -50,15 +50,15 @@ tick-writes-nothing table room s store = writes-nothing 32 table room tick s sto
 
 module _ (l : Lent) (q : Progress) (e : Event) where
   -- a call that writes nothing
-  pub stepped-after : (x : Stepped) (store : List ℕ) → outcome (under (l .table)) (exporterOf q) e .written ≡ []
-      → x ≡ steppedOf (outcome (under (l .table)) (exporterOf q) e) → store ≡ storeLeft (exporterOf q) e (outcome (under (l .table)) (exporterOf q) e)
+  pub stepped-after : (x : Stepped) (store : List ℕ) → outcome anySession (exporterOf q) e .written ≡ []
+      → x ≡ steppedOf (outcome anySession (exporterOf q) e) → store ≡ storeLeft (exporterOf q) e (outcome anySession (exporterOf q) e)
       → progress (x .state) store (q .out) (added (q .total) (x .answer) 0) ≡ after l e q
   unfolding after
   stepped-after x store none is left = rw (is, left, none)
 
   -- a call that may write a message, and leaves the store
-  pub wrote-after : (x : Wrote) (out : List ℕ) → storeLeft (exporterOf q) e (outcome (under (l .table)) (exporterOf q) e) ≡ q .store
-      → x ≡ wroteOf (outcome (under (l .table)) (exporterOf q) e) → out ≡ outputAfter (q .out) (outcome (under (l .table)) (exporterOf q) e)
+  pub wrote-after : (x : Wrote) (out : List ℕ) → storeLeft (exporterOf q) e (outcome anySession (exporterOf q) e) ≡ q .store
+      → x ≡ wroteOf (outcome anySession (exporterOf q) e) → out ≡ outputAfter (q .out) (outcome anySession (exporterOf q) e)
       → progress (x .state) (q .store) out (added (q .total) (x .answer) (x .written)) ≡ after l e q
   unfolding after
   wrote-after x out kept is left = rw (is, left, kept)

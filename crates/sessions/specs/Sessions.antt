@@ -51,10 +51,10 @@ unfoldable pub eventAt : Lent → ℕ → List ℕ → Event
 eventAt l at out =
     let code = getD (l .events) at 0 in
     let server = getD (l .events) (at + 1) 0 in
-    cond (eqb code 0) (Put (l .template) (l .octets))
+    cond (eqb code 0) (Put (l .table) (l .template) (l .octets))
     (cond (eqb code 1) (NextData out)
     (cond (eqb code 2) Tick
-    (cond (eqb code 3) (OfferTemplates server out)
+    (cond (eqb code 3) (OfferTemplates server (l .table) out)
     (Receive server (messageAt (l .events) at) out))))
 
 -- ---- the calls, one after the other
@@ -70,9 +70,9 @@ pub record Progress : Type 0 where
 abbrev pub progress : State → List ℕ → List ℕ → ℕ → Progress
 progress state store out total = record { state = state; store = store; out = out; total = total }
 
--- A call looks at the session's table alone: the settings that count are the state's.
-abbrev pub under : List ℕ → Session
-under table = sessionOf32 noSettings table
+-- Any session of 32 bits: the settings that count are the state's.
+abbrev pub anySession : Session
+anySession = sessionOf32 noSettings
 
 -- State and store.
 abbrev pub exporterOf : Progress → Exporter
@@ -85,7 +85,7 @@ added total answer written = ((total + answer) % 2 ^ 64 + written) % 2 ^ 64
 -- After one more event.
 unfoldable pub after : Lent → Event → Progress → Progress
 after l e p =
-    let o = outcome (under (l .table)) (exporterOf p) e in
+    let o = outcome anySession (exporterOf p) e in
     progress (o .state) (storeLeft (exporterOf p) e o) (outputAfter (p .out) o) (added (p .total) (o .answer) (length (o .written)))
 
 -- After the first n events.

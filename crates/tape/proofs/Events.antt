@@ -14,35 +14,35 @@ use Rattle.exporter.specs.declared.state.Stepped.{Stepped}
 use Rattle.exporter.specs.declared.state.Wrote.{Wrote}
 use Rattle.tape.specs.Tape.{putKind, messageKind, downKind, tickKind, nextKind}
 use Rattle.tape.specs.Replay.{eventCall}
-use Rattle.tape.specs.Turns.{effect, effectStore, Called}
+use Rattle.tape.specs.Turns.{effect, effectStore, Gives}
 
 -- ---- the call by the kind
 
-pub is-put : (kind server : ℕ) (b out : List ℕ) (id : ℕ) (r : List ℕ) → kind ≡ putKind → id ≡ uintAt b 0 2 → r ≡ drop 2 b → eventCall kind server b out ≡ Put id r
+pub is-put : (kind server : ℕ) (b out table : List ℕ) (id : ℕ) (r : List ℕ) → kind ≡ putKind → id ≡ uintAt b 0 2 → r ≡ drop 2 b → eventCall kind server b out table ≡ Put table id r
 unfolding eventCall
-is-put kind server b out id r e f g = rw (e, f, g) refl
+is-put kind server b out table id r e f g = rw (e, f, g) refl
 
-pub is-message : (kind server : ℕ) (b out : List ℕ) → kind ≡ messageKind → eventCall kind server b out ≡ Receive server b out
+pub is-message : (kind server : ℕ) (b out table : List ℕ) → kind ≡ messageKind → eventCall kind server b out table ≡ Receive server b out
 unfolding eventCall
-is-message kind server b out e = rw e refl
+is-message kind server b out table e = rw e refl
 
-pub is-down : (kind server : ℕ) (b out : List ℕ) → kind ≡ downKind → eventCall kind server b out ≡ LineDown server
+pub is-down : (kind server : ℕ) (b out table : List ℕ) → kind ≡ downKind → eventCall kind server b out table ≡ LineDown server
 unfolding eventCall
-is-down kind server b out e = rw e refl
+is-down kind server b out table e = rw e refl
 
-pub is-tick : (kind server : ℕ) (b out : List ℕ) → kind ≡ tickKind → eventCall kind server b out ≡ Tick
+pub is-tick : (kind server : ℕ) (b out table : List ℕ) → kind ≡ tickKind → eventCall kind server b out table ≡ Tick
 unfolding eventCall
-is-tick kind server b out e = rw e refl
+is-tick kind server b out table e = rw e refl
 
-pub is-next : (kind server : ℕ) (b out : List ℕ) → kind ≡ nextKind → eventCall kind server b out ≡ NextData out
+pub is-next : (kind server : ℕ) (b out table : List ℕ) → kind ≡ nextKind → eventCall kind server b out table ≡ NextData out
 unfolding eventCall
-is-next kind server b out e = rw e refl
+is-next kind server b out table e = rw e refl
 
 -- any other kind
-pub is-offer : (kind server : ℕ) (b out : List ℕ) → (kind ≡ putKind → ⊥) → (kind ≡ messageKind → ⊥) → (kind ≡ downKind → ⊥)
-    → (kind ≡ tickKind → ⊥) → (kind ≡ nextKind → ⊥) → eventCall kind server b out ≡ OfferTemplates server out
+pub is-offer : (kind server : ℕ) (b out table : List ℕ) → (kind ≡ putKind → ⊥) → (kind ≡ messageKind → ⊥) → (kind ≡ downKind → ⊥)
+    → (kind ≡ tickKind → ⊥) → (kind ≡ nextKind → ⊥) → eventCall kind server b out table ≡ OfferTemplates server table out
 unfolding eventCall
-is-offer kind server b out p m d t n =
+is-offer kind server b out table p m d t n =
     rw (ne-eqb kind putKind p, ne-eqb kind messageKind m, ne-eqb kind downKind d, ne-eqb kind tickKind t, ne-eqb kind nextKind n) refl
 
 -- ---- calls that write nothing
@@ -54,32 +54,32 @@ stepped o s r e f g = rw (g, f) (ap (λ (l : List ℕ). record { answer = o .ans
 
 -- ---- each call, by what the exporter ensures of it
 
-pub put-called : (table : List ℕ) (s : State) (store out : List ℕ) (e : Event) (id : ℕ) (r : List ℕ) (st : Stepped) (x : Wrote) (after : List ℕ)
-    → e ≡ Put id r → st ≡ steppedOf (putStep 32 s store table id r) → after ≡ putStep 32 s store table id r .store
-    → x ≡ record { answer = st .answer; written = 0; state = st .state } → Called table s store out e x after out
+pub put-called : (s : State) (store out : List ℕ) (e : Event) (table : List ℕ) (id : ℕ) (r : List ℕ) (st : Stepped) (x : Wrote) (after : List ℕ)
+    → e ≡ Put table id r → st ≡ steppedOf (putStep 32 s store table id r) → after ≡ putStep 32 s store table id r .store
+    → x ≡ record { answer = st .answer; written = 0; state = st .state } → Gives s store out e x after out
 unfolding written
-put-called table s store out e id r st x after f g h k =
+put-called s store out e table id r st x after f g h k =
     let q = writes-nothing 32 table 0 (put id r) s store refl in
     rw f (stepped (putStep 32 s store table id r) st x q g k, (h, rw q refl))
 
-pub down-called : (table : List ℕ) (s : State) (store out : List ℕ) (e : Event) (v : ℕ) (st : Stepped) (x : Wrote)
+pub down-called : (s : State) (store out : List ℕ) (e : Event) (v : ℕ) (st : Stepped) (x : Wrote)
     → e ≡ LineDown v → st ≡ steppedOf (lineDownStep 32 s v)
-    → x ≡ record { answer = st .answer; written = 0; state = st .state } → Called table s store out e x store out
+    → x ≡ record { answer = st .answer; written = 0; state = st .state } → Gives s store out e x store out
 unfolding written
-down-called table s store out e v st x f g k =
+down-called s store out e v st x f g k =
     let q = writes-nothing 32 [] 0 (move v down) s [] refl in
     rw f (stepped (lineDownStep 32 s v) st x q g k, (refl, rw q refl))
 
-pub tick-called : (table : List ℕ) (s : State) (store out : List ℕ) (e : Event) (st : Stepped) (x : Wrote)
+pub tick-called : (s : State) (store out : List ℕ) (e : Event) (st : Stepped) (x : Wrote)
     → e ≡ Tick → st ≡ steppedOf (tickStep 32 s)
-    → x ≡ record { answer = st .answer; written = 0; state = st .state } → Called table s store out e x store out
+    → x ≡ record { answer = st .answer; written = 0; state = st .state } → Gives s store out e x store out
 unfolding written
-tick-called table s store out e st x f g k =
+tick-called s store out e st x f g k =
     let q = writes-nothing 32 [] 0 tick s [] refl in
     rw f (stepped (tickStep 32 s) st x q g k, (refl, rw q refl))
 
 -- a call that may write: its answer and its output are what the exporter ensures
-pub wrote-called : (table : List ℕ) (s : State) (store out : List ℕ) (e f : Event) (x : Wrote) (after : List ℕ) → e ≡ f
-    → x ≡ wroteOf (effect table s store f) → after ≡ outputAfter out (effect table s store f) → store ≡ effectStore table s store f
-    → Called table s store out e x store after
-wrote-called table s store out e f x after g h k l = rw g (h, (l, k))
+pub wrote-called : (s : State) (store out : List ℕ) (e f : Event) (x : Wrote) (after : List ℕ) → e ≡ f
+    → x ≡ wroteOf (effect s store f) → after ≡ outputAfter out (effect s store f) → store ≡ effectStore s store f
+    → Gives s store out e x store after
+wrote-called s store out e f x after g h k l = rw g (h, (l, k))

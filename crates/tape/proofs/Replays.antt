@@ -1,6 +1,6 @@
 -- Turn by turn the lines are those of the whole replay, and its calls are a list of calls of demand 3. Assumes nothing.
 use mathlib.Core.Path.{_≡_, refl, sym, ap, _∙_}
-use mathlib.Core.Bool.{Bool, true, false, not, cond, false≢true}
+use mathlib.Core.Bool.{Bool, true, false, cond, false≢true}
 use mathlib.Core.List.{List, [], _∷_}
 use Prim.Native.Nat.{ℕ, zero, suc, _+_, _-_, _≤_, _<_}
 use native.Mathlib.Nat.{add-zero, add-suc, le-refl}
@@ -10,12 +10,12 @@ use borrow.Author.Tests.{eq-eqb, ne-eqb, eqb-true, leb-true}
 use lib.Dec.{eqb, leb}
 use lib.ListN.{length, drop, length-take, length-drop}
 use lib.Seq.{sets, length-sets}
-use Rattle.octets.specs.Answers.{done, unsoundTable}
+use Rattle.octets.specs.Answers.{done}
 use Rattle.octets.specs.Numbers.{uintAt, Octets}
 use Rattle.octets.proofs.Numbers.{uint-below}
 use Rattle.wire.specs.Each.{every}
 use Rattle.exporter.specs.Servers.{offer}
-use Rattle.exporter.specs.Steps.{nextData, move, received, step, setUp, isSessions}
+use Rattle.exporter.specs.Steps.{nextData, move, received, step, setUp}
 use Rattle.exporter.specs.Claim.{Event, Put, NextData, Receive, OfferTemplates, LineDown, Tick, Session, sessionOf32, Exporter, outcome, storeLeft, advance, begin, AllOctets}
 use Rattle.exporter.proofs.Demand.{demand3of32}
 use Rattle.exporter.specs.declared.state.Settings.{Settings}
@@ -27,20 +27,20 @@ use Rattle.tape.specs.Turns.{effect, effectStore, Played, opened, indexO
 use Rattle.tape.specs.declared.replay.Progress.{Progress}
 use Rattle.tape.proofs.Parts.{octets-part}
 
--- ---- a call looks at the output's length and at the session's table only
+-- ---- a call looks at the output's length only
 
 -- the same outcome, and the same store after it
-abbrev Same : List ℕ → State → List ℕ → Event → Event → Type 0
-Same table s store e f = (effect table s store e ≡ effect table s store f) × (effectStore table s store e ≡ effectStore table s store f)
+abbrev Same : State → List ℕ → Event → Event → Type 0
+Same s store e f = (effect s store e ≡ effect s store f) × (effectStore s store e ≡ effectStore s store f)
 
 pub same-call : (table : List ℕ) (s : State) (store : List ℕ) (kind server : ℕ) (b out more : List ℕ) → length out ≡ length more
-    → Same table s store (eventCall kind server b out) (eventCall kind server b more)
+    → Same s store (eventCall kind server b out table) (eventCall kind server b more table)
 unfolding eventCall
 same-call table s store kind server b out more e = go (eqb kind 2) (eqb kind 3) (eqb kind 4) (eqb kind 5) (eqb kind 6)
   where
-    go : (c₁ c₂ c₃ c₄ c₅ : Bool) → Same table s store
-        (cond c₁ (Put (uintAt b 0 2) (drop 2 b)) (cond c₂ (Receive server b out) (cond c₃ (LineDown server) (cond c₄ Tick (cond c₅ (NextData out) (OfferTemplates server out))))))
-        (cond c₁ (Put (uintAt b 0 2) (drop 2 b)) (cond c₂ (Receive server b more) (cond c₃ (LineDown server) (cond c₄ Tick (cond c₅ (NextData more) (OfferTemplates server more))))))
+    go : (c₁ c₂ c₃ c₄ c₅ : Bool) → Same s store
+        (cond c₁ (Put table (uintAt b 0 2) (drop 2 b)) (cond c₂ (Receive server b out) (cond c₃ (LineDown server) (cond c₄ Tick (cond c₅ (NextData out) (OfferTemplates server table out))))))
+        (cond c₁ (Put table (uintAt b 0 2) (drop 2 b)) (cond c₂ (Receive server b more) (cond c₃ (LineDown server) (cond c₄ Tick (cond c₅ (NextData more) (OfferTemplates server table more))))))
     go true c₂ c₃ c₄ c₅ = (refl, refl)
     go false true c₃ c₄ c₅ = (ap (λ (n : ℕ). step 32 [] n (received (s .settings) server b) s []) e, refl)
     go false false true c₄ c₅ = (refl, refl)
@@ -48,14 +48,14 @@ same-call table s store kind server b out more e = go (eqb kind 2) (eqb kind 3) 
     go false false false false true = (ap (λ (n : ℕ). step 32 [] n nextData s store) e, refl)
     go false false false false false = (ap (λ (n : ℕ). step 32 table n (move server offer) s []) e, refl)
 
-pub outcome-settings : (p q : Settings) (table : List ℕ) (x : Exporter) (e : Event)
-    → outcome (sessionOf32 p table) x e ≡ outcome (sessionOf32 q table) x e
-outcome-settings p q table x (Put id r) = refl
-outcome-settings p q table x (NextData out) = refl
-outcome-settings p q table x (Receive v m out) = refl
-outcome-settings p q table x (OfferTemplates v out) = refl
-outcome-settings p q table x (LineDown v) = refl
-outcome-settings p q table x Tick = refl
+-- the settings that count are the state's
+pub outcome-settings : (p q : Settings) (x : Exporter) (e : Event) → outcome (sessionOf32 p) x e ≡ outcome (sessionOf32 q) x e
+outcome-settings p q x (Put table id r) = refl
+outcome-settings p q x (NextData out) = refl
+outcome-settings p q x (Receive v m out) = refl
+outcome-settings p q x (OfferTemplates v table out) = refl
+outcome-settings p q x (LineDown v) = refl
+outcome-settings p q x Tick = refl
 
 -- ---- the bodies of a sound tape lie within it
 
@@ -101,7 +101,7 @@ body-whole t i f h =
 
 -- The turn of event i of a sound tape, with the state and the store of an exporter: its outcome is that of the call in the whole replay.
 pub played-at : (t out : List ℕ) → Bounded t → length out ≡ outputBufferOctets → (n i : ℕ) → i + suc n ≡ eventCount t → 2 ≤ i → (x : Exporter)
-    → let e = eventCall (kindAt t i) (serverAt t i) (bodyOf t i) outputBuffer in
+    → let e = eventCall (kindAt t i) (serverAt t i) (bodyOf t i) outputBuffer (bodyOf t 1) in
     let o = outcome (tapeSession t) x e in
     played t (record { state = x .state; left = suc n; at = bodyAt t i }) (x .store) out
     ≡ record {
@@ -113,10 +113,10 @@ pub played-at : (t out : List ℕ) → Bounded t → length out ≡ outputBuffer
 unfolding played
 played-at t out f l n i c h x =
     let z : eventCount t - suc n ≡ i = omega arith in
-    let e = eventCall (kindAt t i) (serverAt t i) (bodyOf t i) outputBuffer in
+    let e = eventCall (kindAt t i) (serverAt t i) (bodyOf t i) outputBuffer (bodyOf t 1) in
     let s = same-call (bodyOf t 1) (x .state) (x .store) (kindAt t i) (serverAt t i) (bodyOf t i) out outputBuffer (l ∙ refl) in
-    let k = s .0 ∙ outcome-settings (x .state .settings) (tapeSettings t) (bodyOf t 1) x e in
-    let m = s .1 ∙ ap (storeLeft x e) (outcome-settings (x .state .settings) (tapeSettings t) (bodyOf t 1) x e) in
+    let k = s .0 ∙ outcome-settings (x .state .settings) (tapeSettings t) x e in
+    let m = s .1 ∙ ap (storeLeft x e) (outcome-settings (x .state .settings) (tapeSettings t) x e) in
     let w : bodyAt t i + length (bodyOf t i) ≡ bodyAt t (i + 1) = ap (λ (j : ℕ). bodyAt t i + j) (body-whole t i f (omega arith)) ∙ sym (body-sum t i) in
     let less : suc n - 1 ≡ n = omega arith in
     rw (ne-eqb (suc n) 0 (λ y. absurd (omega (arith, y))), z, ne-eqb i 1 (λ y. absurd (omega (arith, y)))) (rw (m, k, w, less) refl)
@@ -134,7 +134,7 @@ unfolding turnsFrom linesOf callsFrom advance
 calls-turns t out f l zero i fuel c h k x p r s = none-left t out fuel p (ap (λ (q : Progress). q .left) r)
 calls-turns t out f l (suc n) i zero c h k x p r s = absurd (omega arith)
 calls-turns t out f l (suc n) i (suc fuel) c h k x p r s =
-    let e = eventCall (kindAt t i) (serverAt t i) (bodyOf t i) outputBuffer in
+    let e = eventCall (kindAt t i) (serverAt t i) (bodyOf t i) outputBuffer (bodyOf t 1) in
     let o = outcome (tapeSession t) x e in
     rw (r, s, played-at t out f l n i c h x)
     (rw (ne-eqb (suc n) 0 (λ y. absurd (omega (arith, y))))
@@ -201,12 +201,12 @@ turn-by-turn t out l = sound? (tapeSound t) refl
 -- ---- demand 3
 
 -- one call more, whose message, if it is one, is octets
-one-octets : (kind v : ℕ) (b : List ℕ) (es : List Event) → Octets b → AllOctets es → AllOctets (eventCall kind v b outputBuffer ∷ es)
+one-octets : (kind v : ℕ) (b table : List ℕ) (es : List Event) → Octets b → AllOctets es → AllOctets (eventCall kind v b outputBuffer table ∷ es)
 unfolding eventCall
-one-octets kind v b es h rest = go (eqb kind 2) (eqb kind 3) (eqb kind 4) (eqb kind 5) (eqb kind 6)
+one-octets kind v b table es h rest = go (eqb kind 2) (eqb kind 3) (eqb kind 4) (eqb kind 5) (eqb kind 6)
   where
     go : (c₁ c₂ c₃ c₄ c₅ : Bool)
-        → AllOctets (cond c₁ (Put (uintAt b 0 2) (drop 2 b)) (cond c₂ (Receive v b outputBuffer) (cond c₃ (LineDown v) (cond c₄ Tick (cond c₅ (NextData outputBuffer) (OfferTemplates v outputBuffer))))) ∷ es)
+        → AllOctets (cond c₁ (Put table (uintAt b 0 2) (drop 2 b)) (cond c₂ (Receive v b outputBuffer) (cond c₃ (LineDown v) (cond c₄ Tick (cond c₅ (NextData outputBuffer) (OfferTemplates v table outputBuffer))))) ∷ es)
     go true c₂ c₃ c₄ c₅ = rest
     go false true c₃ c₄ c₅ = (h, rest)
     go false false true c₄ c₅ = rest
@@ -219,19 +219,10 @@ calls-octets : (t : List ℕ) → Octets t → (i n : ℕ) → AllOctets (callsF
 unfolding callsFrom
 calls-octets t h i zero = tt
 calls-octets t h i (suc n) =
-    one-octets (kindAt t i) (serverAt t i) (bodyOf t i) (callsFrom t (i + 1) n) (octets-part t h (bodyAt t i) (bodyLength t i)) (calls-octets t h (i + 1) n)
-
--- a table that is answered 0 is the session's
-table-done : (p : Settings) (table : List ℕ) → tableAnswer p table ≡ done → isSessions p table ≡ true
-table-done p table e = go (isSessions p table) e
-  where
-    go : (b : Bool) → cond (not b) unsoundTable done ≡ done → b ≡ true
-    go true h = refl
-    go false h = absurd (omega arith)
+    one-octets (kindAt t i) (serverAt t i) (bodyOf t i) (bodyOf t 1) (callsFrom t (i + 1) n) (octets-part t h (bodyAt t i) (bodyLength t i)) (calls-octets t h (i + 1) n)
 
 pub calls-claimed : CallsClaimed
 unfolding settingsOf
-calls-claimed t h e f =
-    demand3of32 (tapeSettings t) (bodyOf t 1) (tapeStore t) e (table-done (tapeSettings t) (bodyOf t 1) f)
-    (uint-below (bodyOf t 0) (octets-part t h (bodyAt t 0) (bodyLength t 0)) 8 4)
+calls-claimed t h e =
+    demand3of32 (tapeSettings t) (tapeStore t) e (uint-below (bodyOf t 0) (octets-part t h (bodyAt t 0) (bodyLength t 0)) 8 4)
     (tapeCalls t) (calls-octets t h 2 (eventCount t - 2))

@@ -20,24 +20,24 @@ use Rattle.exporter.specs.declared.state.Wrote.{Wrote}
 use Rattle.tape.specs.Tape.{eventCount, kindAt, serverAt, bodyAt, bodyOf, tapeSound}
 use Rattle.tape.specs.Lines.{lineOf, tapeRefused}
 use Rattle.tape.specs.Replay.{tableAnswer, eventCall, tapeSettings}
-use Rattle.tape.specs.Turns.{effect, Called, opened, indexOf, nextBody, tableTurn, nextCall, callTurn, played, turnOf, Turned}
+use Rattle.tape.specs.Turns.{effect, Gives, Called, opened, indexOf, nextBody, tableTurn, nextCall, callTurn, played, turnOf, Turned}
 use Rattle.tape.specs.declared.replay.Progress.{Progress}
 use Rattle.tape.specs.declared.replay.Turn.{Turn}
 
 -- ---- what a call writes fits
 
-pub effect-fits : (table : List ℕ) (s : State) (store : List ℕ) (e : Event) → length (effect table s store e .written) ≤ roomOf e
-effect-fits table s store (Put id r) = step-fits _ _ _ _ _ _
-effect-fits table s store (NextData out) = step-fits _ _ _ _ _ _
-effect-fits table s store (Receive v m out) = step-fits _ _ _ _ _ _
-effect-fits table s store (OfferTemplates v out) = step-fits _ _ _ _ _ _
-effect-fits table s store (LineDown v) = step-fits _ _ _ _ _ _
-effect-fits table s store Tick = step-fits _ _ _ _ _ _
+pub effect-fits : (s : State) (store : List ℕ) (e : Event) → length (effect s store e .written) ≤ roomOf e
+effect-fits s store (Put table id r) = step-fits _ _ _ _ _ _
+effect-fits s store (NextData out) = step-fits _ _ _ _ _ _
+effect-fits s store (Receive v m out) = step-fits _ _ _ _ _ _
+effect-fits s store (OfferTemplates v table out) = step-fits _ _ _ _ _ _
+effect-fits s store (LineDown v) = step-fits _ _ _ _ _ _
+effect-fits s store Tick = step-fits _ _ _ _ _ _
 
 -- the call of an event is lent no more than the output
-pub call-room : (kind server : ℕ) (b out : List ℕ) → roomOf (eventCall kind server b out) ≤ length out
+pub call-room : (kind server : ℕ) (b out table : List ℕ) → roomOf (eventCall kind server b out table) ≤ length out
 unfolding eventCall
-call-room kind server b out =
+call-room kind server b out table =
     let P : Event → Type 0 = λ e. roomOf e ≤ length out in
     cond-cases P (eqb kind 2) _ _ (λ e. omega arith)
     (λ e. cond-cases P (eqb kind 3) _ _ (λ e. omega arith)
@@ -49,7 +49,7 @@ call-room kind server b out =
 pub called-fits : (table : List ℕ) (s : State) (store out : List ℕ) (kind server : ℕ) (b : List ℕ) (w : Wrote) (storeAfter outAfter : List ℕ)
     → Called table s store out (eventCall kind server b out) w storeAfter outAfter → w .written ≤ length out
 called-fits table s store out kind server b w storeAfter outAfter called =
-    rw (called .0) (le-trans (effect-fits table s store (eventCall kind server b out)) (call-room kind server b out))
+    rw (called .0) (le-trans (effect-fits s store (eventCall kind server b out table)) (call-room kind server b out table))
 
 -- a line of it fits the text
 pub line-fits : (n : ℕ) (o out text : List ℕ) → n ≤ length out → 9 + 2 * length out ≤ length text → 9 + 2 * length (take n o) ≤ length text
@@ -91,9 +91,9 @@ pub call-turn : (t : List ℕ) (r : Progress) (store out text : List ℕ) (i kin
     → Turned (callTurn t r store out) out text (record { len = len; progress = record { state = w .state; left = r .left - 1; at = at } }) storeAfter outAfter textAfter
 call-turn t r store out text i kind server b table w storeAfter outAfter textAfter len at ei eb ea et ek es called el ex =
     let e = nextCall t r out in
-    let o = effect (bodyOf t 1) (r .state) store e in
-    let k : Called (bodyOf t 1) (r .state) store out e w storeAfter outAfter = rw (ek, es, eb, et, ei) at called in
-    let n = le-trans (effect-fits (bodyOf t 1) (r .state) store e) (call-room (kindAt t (indexOf t r)) (serverAt t (indexOf t r)) (nextBody t r) out) in
+    let o = effect (r .state) store e in
+    let k : Gives (r .state) store out e w storeAfter outAfter = rw (ek, es, eb, et, ei) at called in
+    let n = le-trans (effect-fits (r .state) store e) (call-room (kindAt t (indexOf t r)) (serverAt t (indexOf t r)) (nextBody t r) out (bodyOf t 1)) in
     let q = call-wrote o w out outAfter n (k .0) (k .1 .1) in
     (rw (el, q, ea, eb, ei, k .0) refl, (k .1 .0, (k .1 .1, rw (ex, q, ei, k .0) refl)))
 

@@ -37,12 +37,12 @@ storeLength b = uintAt b 6 2 + 1
 abbrev pub tableAnswer : Settings → List ℕ → ℕ
 tableAnswer p table = judge ((unsoundTable when not (isSessions p table)) ∷ [])
 
--- The settings of a tape, and its session: those settings and the table.
+-- The settings of a tape, and the session that has them.
 abbrev pub tapeSettings : List ℕ → Settings
 tapeSettings t = settingsOf (bodyOf t 0)
 
 abbrev pub tapeSession : List ℕ → Session
-tapeSession t = sessionOf32 (tapeSettings t) (bodyOf t 1)
+tapeSession t = sessionOf32 (tapeSettings t)
 
 -- The store that a tape's settings name: all octets 0 at first.
 abbrev pub tapeStore : List ℕ → List ℕ
@@ -58,22 +58,22 @@ outputBufferOctets = 16392
 abbrev pub outputBuffer : List ℕ
 outputBuffer = replicate outputBufferOctets 0
 
--- The call of an event of a kind, with the server that it names, its body and the output that is lent; `Event` is the exporter's name for a
--- call with its arguments. A put's body is the template ID and the record. A sound tape has only the kinds 2 to 7 here; any other counts as
--- an offer.
-unfoldable pub eventCall : ℕ → ℕ → List ℕ → List ℕ → Event
-eventCall kind server b out =
-    cond (eqb kind putKind) (Put (uintAt b 0 2) (drop 2 b))
+-- The call of an event of a kind, with the server that it names, its body, and the output and the table that are lent; `Event` is the
+-- exporter's name for a call with its arguments. A put's body is the template ID and the record. A sound tape has only the kinds 2 to 7
+-- here; any other counts as an offer.
+unfoldable pub eventCall : ℕ → ℕ → List ℕ → List ℕ → List ℕ → Event
+eventCall kind server b out table =
+    cond (eqb kind putKind) (Put table (uintAt b 0 2) (drop 2 b))
     (cond (eqb kind messageKind) (Receive server b out)
     (cond (eqb kind downKind) (LineDown server)
     (cond (eqb kind tickKind) Tick
     (cond (eqb kind nextKind) (NextData out)
-    (OfferTemplates server out)))))
+    (OfferTemplates server table out)))))
 
--- The calls of the n events from event i on.
+-- The calls of the n events from event i on: each put and offer is lent the tape's table, the body of event 1.
 unfoldable pub callsFrom : List ℕ → ℕ → ℕ → List Event
 callsFrom t i zero = []
-callsFrom t i (suc n) = eventCall (kindAt t i) (serverAt t i) (bodyOf t i) outputBuffer ∷ callsFrom t (i + 1) n
+callsFrom t i (suc n) = eventCall (kindAt t i) (serverAt t i) (bodyOf t i) outputBuffer (bodyOf t 1) ∷ callsFrom t (i + 1) n
 
 -- The calls of a tape: its events from the third on.
 abbrev pub tapeCalls : List ℕ → List Event

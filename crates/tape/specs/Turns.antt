@@ -19,18 +19,22 @@ use Rattle.tape.specs.Replay.{tableAnswer, outputBufferOctets, eventCall
 use Rattle.tape.specs.declared.replay.Progress.{Progress}
 use Rattle.tape.specs.declared.replay.Turn.{Turn}
 
--- The outcome of a call of an exporter with a state, a store and a table.
-abbrev pub effect : List ℕ → State → List ℕ → Event → Outcome
-effect table s store e = outcome (sessionOf32 (s .settings) table) (record { state = s; store = store }) e
+-- The outcome of a call of an exporter with a state and a store.
+abbrev pub effect : State → List ℕ → Event → Outcome
+effect s store e = outcome (sessionOf32 (s .settings)) (record { state = s; store = store }) e
 
 -- The store after that call.
-abbrev pub effectStore : List ℕ → State → List ℕ → Event → List ℕ
-effectStore table s store e = storeLeft (record { state = s; store = store }) e (effect table s store e)
+abbrev pub effectStore : State → List ℕ → Event → List ℕ
+effectStore s store e = storeLeft (record { state = s; store = store }) e (effect s store e)
 
--- A call's answer, and the store and the output that it leaves, are those of an event's call.
-abbrev pub Called : List ℕ → State → List ℕ → List ℕ → Event → Wrote → List ℕ → List ℕ → Type 0
-Called table s store out e r storeAfter outAfter =
-    (r ≡ wroteOf (effect table s store e)) × ((storeAfter ≡ effectStore table s store e) × (outAfter ≡ outputAfter out (effect table s store e)))
+-- A call gives this answer, and leaves this store and this output.
+abbrev pub Gives : State → List ℕ → List ℕ → Event → Wrote → List ℕ → List ℕ → Type 0
+Gives s store out e r storeAfter outAfter =
+    (r ≡ wroteOf (effect s store e)) × ((storeAfter ≡ effectStore s store e) × (outAfter ≡ outputAfter out (effect s store e)))
+
+-- The same of an event's call, which is lent this table.
+abbrev pub Called : List ℕ → State → List ℕ → List ℕ → (List ℕ → Event) → Wrote → List ℕ → List ℕ → Type 0
+Called table s store out call r storeAfter outAfter = Gives s store out (call table) r storeAfter outAfter
 
 -- What a turn gives: its line, the octets that its call wrote, how far the replay is and the store afterwards.
 pub record Played : Type 0 where
@@ -81,18 +85,18 @@ tableTurn t r store =
 
 -- The call of the next event.
 abbrev pub nextCall : List ℕ → Progress → List ℕ → Event
-nextCall t r out = eventCall (kindAt t (indexOf t r)) (serverAt t (indexOf t r)) (nextBody t r) out
+nextCall t r out = eventCall (kindAt t (indexOf t r)) (serverAt t (indexOf t r)) (nextBody t r) out (bodyOf t 1)
 
 -- A call's turn.
 abbrev pub callTurn : List ℕ → Progress → List ℕ → List ℕ → Played
 callTurn t r store out =
     let e = nextCall t r out in
-    let o = effect (bodyOf t 1) (r .state) store e in
+    let o = effect (r .state) store e in
     record {
       line = lineOf (indexOf t r) (o .answer) (o .written);
       written = o .written;
       progress = progressed t r (o .state) (r .left - 1);
-      store = effectStore (bodyOf t 1) (r .state) store e;
+      store = effectStore (r .state) store e;
     }
 
 -- One event more, from the progress that opening or the turn before gave: no line where none is left.
@@ -128,9 +132,9 @@ turns t store out = opened t store .line ∷ turnsFrom t out (eventCount t) (ope
 abbrev pub TurnByTurn : Type 0
 TurnByTurn = (t out : List ℕ) → length out ≡ outputBufferOctets → turns t (tapeStore t) out ≡ replay t
 
--- Of any octets whose settings and table would be answered 0, the calls are a list of calls from a fresh exporter, and the exporter's claim
--- (demand 3) holds of it.
+-- Of any octets whose settings would be answered 0, the calls are a list of calls from a fresh exporter, and the exporter's claim (demand 3)
+-- holds of it, whatever the table is.
 abbrev pub CallsClaimed : Type 0
 CallsClaimed =
     (t : List ℕ) → Octets t → setUp (tapeSettings t) (length (tapeStore t)) .answer ≡ done
-    → tableAnswer (tapeSettings t) (bodyOf t 1) ≡ done → Claim (tapeSession t) (tapeStore t) (tapeCalls t)
+    → Claim (tapeSession t) (tapeStore t) (tapeCalls t)

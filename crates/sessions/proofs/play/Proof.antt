@@ -91,7 +91,7 @@ loop-again c =
     ⊎-elim
     -- a put
     (λ w.
-    let e : Event = Put (l .template) (l .octets) in (
+    let e : Event = Put (l .table) (l .template) (l .octets) in (
       search needs,
       (
         ap length (w .7) ∙ w .3 .given ∙ h .inv .1 .0,
@@ -135,7 +135,7 @@ loop-again c =
     (⊎-elim
     -- an offer
     (λ w.
-    let e : Event = OfferTemplates (getD (l .events) (at + 1) 0) (h .out) in (
+    let e : Event = OfferTemplates (getD (l .events) (at + 1) 0) (l .table) (h .out) in (
       search needs,
       (
         ap length (w .7) ∙ h .inv .1 .0,

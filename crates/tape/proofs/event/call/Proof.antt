@@ -24,7 +24,7 @@ returns : tie.Need-returns
 returns c =
     let a = c .before .before .before .before .before .before .before .before .before .before .before .before .args in
     put-called _ _ _ _ _ _ _ _ _ _
-    (is-put _ _ _ _ _ _ (c .before .before .before .before .before .before .before .if1 .taken) (c .before .before .before .before .before .before .get-u16 .ensures) (c .before .before .before .before .record-of .ensures))
+    (is-put _ _ _ _ _ _ _ (c .before .before .before .before .before .before .before .if1 .taken) (c .before .before .before .before .before .before .get-u16 .ensures) (c .before .before .before .before .record-of .ensures))
     (c .before .before .before .put .ensures .0) (c .before .before .before .put .ensures .1) (c .wrote .ensures)
 
 receive-requires : tie.Need-receive-requires
@@ -34,7 +34,7 @@ same-length-2 : tie.Need-same-length-2
 same-length-2 c = search needs
 
 returns-2 : tie.Need-returns-2
-returns-2 c = wrote-called _ _ _ _ _ _ _ _ (is-message _ _ _ _ (c .before .before .before .before .if2 .taken)) (c .before .before .receive .ensures .0) (c .before .before .receive .ensures .1) refl
+returns-2 c = wrote-called _ _ _ _ _ _ _ (is-message _ _ _ _ _ (c .before .before .before .before .if2 .taken)) (c .before .before .receive .ensures .0) (c .before .before .receive .ensures .1) refl
 
 line-down-requires : tie.Need-line-down-requires
 line-down-requires c κs = search needs
@@ -43,7 +43,7 @@ wrote-requires-2 : tie.Need-wrote-requires-2
 wrote-requires-2 c κs = search needs
 
 returns-3 : tie.Need-returns-3
-returns-3 c = down-called _ _ _ _ _ _ _ _ (is-down _ _ _ _ (c .before .before .if3 .taken)) (c .before .line-down .ensures) (c .wrote2 .ensures)
+returns-3 c = down-called _ _ _ _ _ _ _ (is-down _ _ _ _ _ (c .before .before .if3 .taken)) (c .before .line-down .ensures) (c .wrote2 .ensures)
 
 tick-requires : tie.Need-tick-requires
 tick-requires c κs = search needs
@@ -52,7 +52,7 @@ wrote-requires-3 : tie.Need-wrote-requires-3
 wrote-requires-3 c κs = search needs
 
 returns-4 : tie.Need-returns-4
-returns-4 c = tick-called _ _ _ _ _ _ _ (is-tick _ _ _ _ (c .before .before .if4 .taken)) (c .before .tick .ensures) (c .wrote3 .ensures)
+returns-4 c = tick-called _ _ _ _ _ _ (is-tick _ _ _ _ _ (c .before .before .if4 .taken)) (c .before .tick .ensures) (c .wrote3 .ensures)
 
 next-data-requires : tie.Need-next-data-requires
 next-data-requires c κs = search needs
@@ -64,7 +64,7 @@ same-length-4 : tie.Need-same-length-4
 same-length-4 c = search needs
 
 returns-5 : tie.Need-returns-5
-returns-5 c = wrote-called _ _ _ _ _ _ _ _ (is-next _ _ _ _ (c .before .before .before .before .before .if5 .taken)) (c .before .before .next-data .ensures .0) (c .before .before .next-data .ensures .1) refl
+returns-5 c = wrote-called _ _ _ _ _ _ _ (is-next _ _ _ _ _ (c .before .before .before .before .before .if5 .taken)) (c .before .before .next-data .ensures .0) (c .before .before .next-data .ensures .1) refl
 
 offer-templates-requires : tie.Need-offer-templates-requires
 offer-templates-requires c κs = search needs
@@ -73,7 +73,7 @@ same-length-5 : tie.Need-same-length-5
 same-length-5 c = search needs
 
 returns-6 : tie.Need-returns-6
-returns-6 c = wrote-called _ _ _ _ _ _ _ _ (is-offer _ _ _ _ (c .before .before .before .before .before .before .before .before .if1 .left) (c .before .before .before .before .before .before .before .if2 .left) (c .before .before .before .before .before .before .if3 .left) (c .before .before .before .before .before .if4 .left) (c .before .before .before .before .if5 .left)) (c .before .before .offer-templates .ensures .0) (c .before .before .offer-templates .ensures .1) refl
+returns-6 c = wrote-called _ _ _ _ _ _ _ (is-offer _ _ _ _ _ (c .before .before .before .before .before .before .before .before .if1 .left) (c .before .before .before .before .before .before .before .if2 .left) (c .before .before .before .before .before .before .if3 .left) (c .before .before .before .before .before .if4 .left) (c .before .before .before .before .if5 .left)) (c .before .before .offer-templates .ensures .0) (c .before .before .offer-templates .ensures .1) refl
 
 pub call-spec : {M : Type 1} → statement M
 call-spec =
