@@ -1,12 +1,15 @@
--- Laws of the events: the call that an event makes, by its kind, and what the calls without a message write. Assumes nothing.
-use mathlib.Core.Path.{_≡_, refl, sym, ap, _∙_}
+-- Laws of the events: the call that an event makes, by its kind, and what the calls without a message write. A kind is tested against each
+-- name in turn, so its call is that of the first test that holds. Of the output a call looks at nothing but the length. Assumes nothing.
+use mathlib.Core.Path.{_≡_, refl, sym, ap}
+use mathlib.Core.Bool.{Bool, true, false, cond}
 use mathlib.Core.List.{List, []}
 use Prim.Native.Nat.{ℕ}
 use lib.ListN.{length, drop}
+use lib.Dec.{eqb}
 use borrow.Author.Tests.{ne-eqb}
 use Rattle.octets.specs.Numbers.{uintAt}
-use Rattle.exporter.specs.Servers.{down}
-use Rattle.exporter.specs.Steps.{put, tick, move, written, Outcome, steppedOf, wroteOf, outputAfter, putStep, tickStep, lineDownStep}
+use Rattle.exporter.specs.Servers.{down, offer}
+use Rattle.exporter.specs.Steps.{put, nextData, tick, move, received, step, written, Outcome, steppedOf, wroteOf, outputAfter, putStep, tickStep, lineDownStep}
 use Rattle.exporter.proofs.Written.{writes-nothing}
 use Rattle.exporter.specs.Claim.{Event, Put, NextData, Receive, OfferTemplates, LineDown, Tick}
 use Rattle.exporter.specs.declared.state.State.{State}
@@ -44,6 +47,38 @@ pub is-offer : (kind server : ℕ) (b out table : List ℕ) → (kind ≡ putKin
 unfolding eventCall
 is-offer kind server b out table p m d t n =
     rw (ne-eqb kind putKind p, ne-eqb kind messageKind m, ne-eqb kind downKind d, ne-eqb kind tickKind t, ne-eqb kind nextKind n) refl
+
+-- What holds of the calls of each kind, lent one output and another, holds of an event's calls.
+pub by-kind : (R : Event → Event → Type 0) (kind server : ℕ) (b out more table : List ℕ)
+    → R (Put table (uintAt b 0 2) (drop 2 b)) (Put table (uintAt b 0 2) (drop 2 b)) → R (Receive server b out) (Receive server b more)
+    → R (LineDown server) (LineDown server) → R Tick Tick → R (NextData out) (NextData more) → R (OfferTemplates server table out) (OfferTemplates server table more)
+    → R (eventCall kind server b out table) (eventCall kind server b more table)
+unfolding eventCall
+by-kind R kind server b out more table p m d k n o = go (eqb kind putKind) (eqb kind messageKind) (eqb kind downKind) (eqb kind tickKind) (eqb kind nextKind)
+  where
+    of : Bool → Bool → Bool → Bool → Bool → List ℕ → Event
+    of c₁ c₂ c₃ c₄ c₅ lent = cond c₁ (Put table (uintAt b 0 2) (drop 2 b)) (cond c₂ (Receive server b lent) (cond c₃ (LineDown server) (cond c₄ Tick (cond c₅ (NextData lent) (OfferTemplates server table lent)))))
+
+    go : (c₁ c₂ c₃ c₄ c₅ : Bool) → R (of c₁ c₂ c₃ c₄ c₅ out) (of c₁ c₂ c₃ c₄ c₅ more)
+    go true c₂ c₃ c₄ c₅ = p
+    go false true c₃ c₄ c₅ = m
+    go false false true c₄ c₅ = d
+    go false false false true c₅ = k
+    go false false false false true = n
+    go false false false false false = o
+
+-- the same outcome, and the same store after it
+abbrev pub Same : State → List ℕ → Event → Event → Type 0
+Same s store e f = (effect s store e ≡ effect s store f) × (effectStore s store e ≡ effectStore s store f)
+
+-- A call looks at the output's length only.
+pub same-call : (table : List ℕ) (s : State) (store : List ℕ) (kind server : ℕ) (b out more : List ℕ) → length out ≡ length more
+    → Same s store (eventCall kind server b out table) (eventCall kind server b more table)
+same-call table s store kind server b out more e =
+    by-kind (Same s store) kind server b out more table (refl, refl)
+    (ap (λ (n : ℕ). step 32 [] n (received (s .settings) server b) s []) e, refl) (refl, refl) (refl, refl)
+    (ap (λ (n : ℕ). step 32 [] n nextData s store) e, refl)
+    (ap (λ (n : ℕ). step 32 table n (move server offer) s []) e, refl)
 
 -- ---- calls that write nothing
 

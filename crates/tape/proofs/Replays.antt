@@ -1,4 +1,6 @@
--- Turn by turn the lines are those of the whole replay, and its calls are a list of calls of demand 3. Assumes nothing.
+-- Turn by turn the lines are those of the whole replay: the bodies of a sound tape follow each other, so each turn takes the event that the
+-- replay has at its place, with the state and the store that the one before left. A tape's calls are a list of calls of demand 3, since
+-- its octets are below 256. Assumes nothing.
 use mathlib.Core.Path.{_≡_, refl, sym, ap, _∙_}
 use mathlib.Core.Bool.{Bool, true, false, cond, false≢true}
 use mathlib.Core.List.{List, [], _∷_}
@@ -9,44 +11,22 @@ use native.Mathlib.Omega.{arith}
 use borrow.Author.Tests.{eq-eqb, ne-eqb, eqb-true, leb-true}
 use lib.Dec.{eqb, leb}
 use lib.ListN.{length, drop, length-take, length-drop}
-use lib.Seq.{sets, length-sets}
 use Rattle.octets.specs.Answers.{done}
 use Rattle.octets.specs.Numbers.{uintAt, Octets}
 use Rattle.octets.proofs.Numbers.{uint-below}
 use Rattle.wire.specs.Each.{every}
-use Rattle.exporter.specs.Servers.{offer}
-use Rattle.exporter.specs.Steps.{nextData, move, received, step, setUp}
+use Rattle.exporter.specs.Steps.{setUp}
 use Rattle.exporter.specs.Claim.{Event, Put, NextData, Receive, OfferTemplates, LineDown, Tick, Session, sessionOf32, Exporter, outcome, storeLeft, advance, begin, AllOctets}
 use Rattle.exporter.proofs.Demand.{demand3of32}
 use Rattle.exporter.specs.declared.state.Settings.{Settings}
 use Rattle.exporter.specs.declared.state.State.{State}
 use Rattle.tape.specs.Tape.{eventCount, kindAt, serverAt, bodyLength, bodyAt, octetsAt, bodyOf, eventSound, maxTapeOctets, minEvents, maxEvents, tapeSound}
-use Rattle.tape.specs.Lines.{lineOf, tapeRefused}
-use Rattle.tape.specs.Replay.{tableAnswer, outputBufferOctets, outputBuffer, eventCall, callsFrom, linesOf, ifDone, tapeSettings, tapeSession, tapeStore, tapeCalls, replay, settingsOf}
-use Rattle.tape.specs.Turns.{effect, effectStore, Played, opened, indexOf, nextBody, tableTurn, nextCall, callTurn, played, turnsFrom, turns, TurnByTurn, CallsClaimed}
+use Rattle.tape.specs.Lines.{lineOf}
+use Rattle.tape.specs.Replay.{tableAnswer, outputBuffer, eventCall, callsFrom, linesOf, ifDone, tapeSettings, tapeSession, tapeStore, tapeCalls, replay, settingsOf}
+use Rattle.tape.specs.Turns.{Played, opened, played, turnsFrom, turns, TurnByTurn, CallsClaimed}
 use Rattle.tape.specs.declared.replay.Progress.{Progress}
 use Rattle.tape.proofs.Parts.{octets-part}
-
--- ---- a call looks at the output's length only
-
--- the same outcome, and the same store after it
-abbrev Same : State → List ℕ → Event → Event → Type 0
-Same s store e f = (effect s store e ≡ effect s store f) × (effectStore s store e ≡ effectStore s store f)
-
-pub same-call : (table : List ℕ) (s : State) (store : List ℕ) (kind server : ℕ) (b out more : List ℕ) → length out ≡ length more
-    → Same s store (eventCall kind server b out table) (eventCall kind server b more table)
-unfolding eventCall
-same-call table s store kind server b out more e = go (eqb kind 2) (eqb kind 3) (eqb kind 4) (eqb kind 5) (eqb kind 6)
-  where
-    go : (c₁ c₂ c₃ c₄ c₅ : Bool) → Same s store
-        (cond c₁ (Put table (uintAt b 0 2) (drop 2 b)) (cond c₂ (Receive server b out) (cond c₃ (LineDown server) (cond c₄ Tick (cond c₅ (NextData out) (OfferTemplates server table out))))))
-        (cond c₁ (Put table (uintAt b 0 2) (drop 2 b)) (cond c₂ (Receive server b more) (cond c₃ (LineDown server) (cond c₄ Tick (cond c₅ (NextData more) (OfferTemplates server table more))))))
-    go true c₂ c₃ c₄ c₅ = (refl, refl)
-    go false true c₃ c₄ c₅ = (ap (λ (n : ℕ). step 32 [] n (received (s .settings) server b) s []) e, refl)
-    go false false true c₄ c₅ = (refl, refl)
-    go false false false true c₅ = (refl, refl)
-    go false false false false true = (ap (λ (n : ℕ). step 32 [] n nextData s store) e, refl)
-    go false false false false false = (ap (λ (n : ℕ). step 32 table n (move server offer) s []) e, refl)
+use Rattle.tape.proofs.Events.{by-kind}
 
 -- the settings that count are the state's
 pub outcome-settings : (p q : Settings) (x : Exporter) (e : Event) → outcome (sessionOf32 p) x e ≡ outcome (sessionOf32 q) x e
@@ -100,10 +80,10 @@ body-whole t i f h =
 -- ---- the calls
 
 -- The turn of event i of a sound tape, with the state and the store of an exporter: its outcome is that of the call in the whole replay.
-pub played-at : (t out : List ℕ) → Bounded t → length out ≡ outputBufferOctets → (n i : ℕ) → i + suc n ≡ eventCount t → 2 ≤ i → (x : Exporter)
+pub played-at : (t : List ℕ) → Bounded t → (n i : ℕ) → i + suc n ≡ eventCount t → 2 ≤ i → (x : Exporter)
     → let e = eventCall (kindAt t i) (serverAt t i) (bodyOf t i) outputBuffer (bodyOf t 1) in
     let o = outcome (tapeSession t) x e in
-    played t (record { state = x .state; left = suc n; at = bodyAt t i }) (x .store) out
+    played t (record { state = x .state; left = suc n; at = bodyAt t i }) (x .store)
     ≡ record {
       line = lineOf i (o .answer) (o .written);
       written = o .written;
@@ -111,108 +91,97 @@ pub played-at : (t out : List ℕ) → Bounded t → length out ≡ outputBuffer
       store = storeLeft x e o;
     }
 unfolding played
-played-at t out f l n i c h x =
+played-at t f n i c h x =
     let z : eventCount t - suc n ≡ i = omega arith in
     let e = eventCall (kindAt t i) (serverAt t i) (bodyOf t i) outputBuffer (bodyOf t 1) in
-    let s = same-call (bodyOf t 1) (x .state) (x .store) (kindAt t i) (serverAt t i) (bodyOf t i) out outputBuffer (l ∙ refl) in
-    let k = s .0 ∙ outcome-settings (x .state .settings) (tapeSettings t) x e in
-    let m = s .1 ∙ ap (storeLeft x e) (outcome-settings (x .state .settings) (tapeSettings t) x e) in
+    let k = outcome-settings (x .state .settings) (tapeSettings t) x e in
     let w : bodyAt t i + length (bodyOf t i) ≡ bodyAt t (i + 1) = ap (λ (j : ℕ). bodyAt t i + j) (body-whole t i f (omega arith)) ∙ sym (body-sum t i) in
     let less : suc n - 1 ≡ n = omega arith in
-    rw (ne-eqb (suc n) 0 (λ y. absurd (omega (arith, y))), z, ne-eqb i 1 (λ y. absurd (omega (arith, y)))) (rw (m, k, w, less) refl)
+    rw (ne-eqb (suc n) 0 (λ y. absurd (omega (arith, y))), z, ne-eqb i 1 (λ y. absurd (omega (arith, y)))) (rw (k, w, less) refl)
 
 -- no turn is taken where no event is left
-none-left : (t out : List ℕ) (n : ℕ) (p : Played) → p .progress .left ≡ 0 → turnsFrom t out n p ≡ []
+none-left : (t : List ℕ) (n : ℕ) (p : Played) → p .progress .left ≡ 0 → turnsFrom t n p ≡ []
 unfolding turnsFrom
-none-left t out zero p e = refl
-none-left t out (suc n) p e = rw (eq-eqb (p .progress .left) 0 e) refl
+none-left t zero p e = refl
+none-left t (suc n) p e = rw (eq-eqb (p .progress .left) 0 e) refl
 
-pub calls-turns : (t out : List ℕ) → Bounded t → length out ≡ outputBufferOctets → (n i fuel : ℕ) → i + n ≡ eventCount t → 2 ≤ i → n ≤ fuel
+pub calls-turns : (t : List ℕ) → Bounded t → (n i fuel : ℕ) → i + n ≡ eventCount t → 2 ≤ i → n ≤ fuel
     → (x : Exporter) (p : Played) → p .progress ≡ record { state = x .state; left = n; at = bodyAt t i } → p .store ≡ x .store
-    → turnsFrom t out fuel p ≡ linesOf (tapeSession t) x i (callsFrom t i n)
+    → turnsFrom t fuel p ≡ linesOf (tapeSession t) x i (callsFrom t i n)
 unfolding turnsFrom linesOf callsFrom advance
-calls-turns t out f l zero i fuel c h k x p r s = none-left t out fuel p (ap (λ (q : Progress). q .left) r)
-calls-turns t out f l (suc n) i zero c h k x p r s = absurd (omega arith)
-calls-turns t out f l (suc n) i (suc fuel) c h k x p r s =
+calls-turns t f zero i fuel c h k x p r s = none-left t fuel p (ap (λ (q : Progress). q .left) r)
+calls-turns t f (suc n) i zero c h k x p r s = absurd (omega arith)
+calls-turns t f (suc n) i (suc fuel) c h k x p r s =
     let e = eventCall (kindAt t i) (serverAt t i) (bodyOf t i) outputBuffer (bodyOf t 1) in
     let o = outcome (tapeSession t) x e in
-    rw (r, s, played-at t out f l n i c h x)
+    rw (r, s, played-at t f n i c h x)
     (rw (ne-eqb (suc n) 0 (λ y. absurd (omega (arith, y))))
     (ap (λ (ls : List (List ℕ)). lineOf i (o .answer) (o .written) ∷ ls)
-    (calls-turns t (sets out 0 (o .written)) f (length-sets out 0 (o .written) ∙ l) n (i + 1) fuel (omega arith) (omega arith) (omega arith) (advance (tapeSession t) x e) _ refl refl)))
+    (calls-turns t f n (i + 1) fuel (omega arith) (omega arith) (omega arith) (advance (tapeSession t) x e) _ refl refl)))
 
 -- ---- the table
 
 -- The turn of the table of a sound tape.
-pub table-at : (t store out : List ℕ) → Bounded t → (m : ℕ) → m + 2 ≡ eventCount t → (s : State)
+pub table-at : (t store : List ℕ) → Bounded t → (m : ℕ) → m + 2 ≡ eventCount t → (s : State)
     → let a = tableAnswer (tapeSettings t) (bodyOf t 1) in
-    played t (record { state = s; left = suc m; at = bodyAt t 1 }) store out
+    played t (record { state = s; left = suc m; at = bodyAt t 1 }) store
     ≡ record { line = lineOf 1 a []; written = []; progress = record { state = s; left = cond (eqb a done) m 0; at = bodyAt t 2 }; store = store }
 unfolding played
-table-at t store out f m c s =
+table-at t store f m c s =
     let z : eventCount t - suc m ≡ 1 = omega arith in
     let w : bodyAt t 1 + length (bodyOf t 1) ≡ bodyAt t 2 = ap (λ (j : ℕ). bodyAt t 1 + j) (body-whole t 1 f (omega arith)) ∙ sym (body-sum t 1) in
     let less : suc m - 1 ≡ m = omega arith in
     rw (ne-eqb (suc m) 0 (λ y. absurd (omega (arith, y))), z) (rw (w, less) refl)
 
 -- The lines from the table on.
-pub table-turns : (t out : List ℕ) → Bounded t → length out ≡ outputBufferOctets → (m fuel : ℕ) → m + 2 ≡ eventCount t → m ≤ fuel → (p : Played) (x : Exporter)
+pub table-turns : (t : List ℕ) → Bounded t → (m fuel : ℕ) → m + 2 ≡ eventCount t → m ≤ fuel → (p : Played) (x : Exporter)
     → p .progress ≡ record { state = x .state; left = suc m; at = bodyAt t 1 } → p .store ≡ x .store
     → let a = tableAnswer (tapeSettings t) (bodyOf t 1) in
-    turnsFrom t out (suc fuel) p ≡ lineOf 1 a [] ∷ ifDone a (linesOf (tapeSession t) x 2 (callsFrom t 2 m))
+    turnsFrom t (suc fuel) p ≡ lineOf 1 a [] ∷ ifDone a (linesOf (tapeSession t) x 2 (callsFrom t 2 m))
 unfolding turnsFrom
-table-turns t out f l m fuel c k p x r s =
+table-turns t f m fuel c k p x r s =
     let a = tableAnswer (tapeSettings t) (bodyOf t 1) in
-    rw (r, s, table-at t (x .store) out f m c (x .state))
+    rw (r, s, table-at t (x .store) f m c (x .state))
     (rw (ne-eqb (suc m) 0 (λ y. absurd (omega (arith, y))))
     (ap (λ (ls : List (List ℕ)). lineOf 1 a [] ∷ ls) (go (eqb a done))))
   where
     go : (b : Bool)
-        → turnsFrom t (sets out 0 []) fuel (record { line = lineOf 1 (tableAnswer (tapeSettings t) (bodyOf t 1)) []; written = []; progress = record { state = x .state; left = cond b m 0; at = bodyAt t 2 }; store = x .store })
+        → turnsFrom t fuel (record { line = lineOf 1 (tableAnswer (tapeSettings t) (bodyOf t 1)) []; written = []; progress = record { state = x .state; left = cond b m 0; at = bodyAt t 2 }; store = x .store })
         ≡ cond b (linesOf (tapeSession t) x 2 (callsFrom t 2 m)) []
-    go true = calls-turns t out f l m 2 fuel (omega arith) (omega arith) k x _ refl refl
-    go false = none-left t out fuel _ refl
+    go true = calls-turns t f m 2 fuel (omega arith) (omega arith) k x _ refl refl
+    go false = none-left t fuel _ refl
 
 -- ---- the whole replay
 
 pub turn-by-turn : TurnByTurn
 unfolding opened replay begin
-turn-by-turn t out l = sound? (tapeSound t) refl
+turn-by-turn t = sound? (tapeSound t) refl
   where
     made : ℕ
     made = setUp (tapeSettings t) (length (tapeStore t)) .answer
 
-    accepted? : tapeSound t ≡ true → (b : Bool) → eqb made done ≡ b → turns t (tapeStore t) out ≡ replay t
-    accepted? e false g = rw (none-left t out (eventCount t) (opened t (tapeStore t)) (rw (e, g) refl), e, g) refl
+    accepted? : tapeSound t ≡ true → (b : Bool) → eqb made done ≡ b → turns t (tapeStore t) ≡ replay t
+    accepted? e false g = rw (none-left t (eventCount t) (opened t (tapeStore t)) (rw (e, g) refl), e, g) refl
     accepted? e true g =
         let f = bounded t e in
         let m = eventCount t - 2 in
         let all : suc (eventCount t - 1) ≡ eventCount t = omega (arith, f .some) in
         let more : eventCount t - 1 ≡ suc m = omega (arith, f .some) in
         let q =
-        table-turns t out f l m (eventCount t - 1) (omega (arith, f .some)) (omega arith) (opened t (tapeStore t)) (begin (tapeSession t) (tapeStore t))
+        table-turns t f m (eventCount t - 1) (omega (arith, f .some)) (omega arith) (opened t (tapeStore t)) (begin (tapeSession t) (tapeStore t))
         (rw (e, g, more) refl) refl in
         rw (rw all at q, e, g) refl
 
-    sound? : (b : Bool) → tapeSound t ≡ b → turns t (tapeStore t) out ≡ replay t
-    sound? false e = rw (none-left t out (eventCount t) (opened t (tapeStore t)) (rw e refl), e) refl
+    sound? : (b : Bool) → tapeSound t ≡ b → turns t (tapeStore t) ≡ replay t
+    sound? false e = rw (none-left t (eventCount t) (opened t (tapeStore t)) (rw e refl), e) refl
     sound? true e = accepted? e (eqb made done) refl
 
 -- ---- demand 3
 
 -- one call more, whose message, if it is one, is octets
 one-octets : (kind v : ℕ) (b table : List ℕ) (es : List Event) → Octets b → AllOctets es → AllOctets (eventCall kind v b outputBuffer table ∷ es)
-unfolding eventCall
-one-octets kind v b table es h rest = go (eqb kind 2) (eqb kind 3) (eqb kind 4) (eqb kind 5) (eqb kind 6)
-  where
-    go : (c₁ c₂ c₃ c₄ c₅ : Bool)
-        → AllOctets (cond c₁ (Put table (uintAt b 0 2) (drop 2 b)) (cond c₂ (Receive v b outputBuffer) (cond c₃ (LineDown v) (cond c₄ Tick (cond c₅ (NextData outputBuffer) (OfferTemplates v table outputBuffer))))) ∷ es)
-    go true c₂ c₃ c₄ c₅ = rest
-    go false true c₃ c₄ c₅ = (h, rest)
-    go false false true c₄ c₅ = rest
-    go false false false true c₅ = rest
-    go false false false false true = rest
-    go false false false false false = rest
+one-octets kind v b table es h rest =
+    by-kind (λ (e f : Event). AllOctets (e ∷ es)) kind v b outputBuffer outputBuffer table rest (h, rest) rest rest rest rest
 
 -- every message of a tape's calls is octets
 calls-octets : (t : List ℕ) → Octets t → (i n : ℕ) → AllOctets (callsFrom t i n)

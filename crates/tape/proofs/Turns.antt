@@ -3,14 +3,13 @@ use mathlib.Core.Path.{_≡_, refl, sym, ap, _∙_}
 use mathlib.Core.Bool.{cond, _&&_}
 use mathlib.Core.List.{List, []}
 use Prim.Native.Nat.{ℕ, _+_, _*_, _-_, _≤_}
-use native.Mathlib.Nat.{le-trans}
+use native.Mathlib.Nat.{le-refl, le-trans}
 use native.Mathlib.Omega.{arith}
 use borrow.Author.Tests.{eq-eqb, ne-eqb}
 use lib.Dec.{eqb}
 use lib.ListN.{length, take, length-take}
 use lib.Seq.{sets, sets-eq, take-append-seam}
 use Rattle.octets.specs.Answers.{done}
-use Rattle.octets.proofs.Stores.{cond-cases}
 use Rattle.exporter.specs.Steps.{Outcome, wroteOf, outputAfter, setUp}
 use Rattle.exporter.proofs.Written.{step-fits}
 use Rattle.exporter.specs.Claim.{Event, Put, NextData, Receive, OfferTemplates, LineDown, Tick, roomOf}
@@ -19,10 +18,11 @@ use Rattle.exporter.specs.declared.state.Made.{Made}
 use Rattle.exporter.specs.declared.state.Wrote.{Wrote}
 use Rattle.tape.specs.Tape.{eventCount, kindAt, serverAt, bodyAt, bodyOf, tapeSound}
 use Rattle.tape.specs.Lines.{lineOf, tapeRefused}
-use Rattle.tape.specs.Replay.{tableAnswer, eventCall, tapeSettings}
+use Rattle.tape.specs.Replay.{tableAnswer, outputBufferOctets, outputBuffer, eventCall, tapeSettings}
 use Rattle.tape.specs.Turns.{effect, Gives, Called, opened, indexOf, nextBody, tableTurn, nextCall, callTurn, played, turnOf, Turned}
 use Rattle.tape.specs.declared.replay.Progress.{Progress}
 use Rattle.tape.specs.declared.replay.Turn.{Turn}
+use Rattle.tape.proofs.Events.{by-kind, same-call}
 
 -- ---- what a call writes fits
 
@@ -36,14 +36,8 @@ effect-fits s store Tick = step-fits _ _ _ _ _ _
 
 -- the call of an event is lent no more than the output
 pub call-room : (kind server : ℕ) (b out table : List ℕ) → roomOf (eventCall kind server b out table) ≤ length out
-unfolding eventCall
 call-room kind server b out table =
-    let P : Event → Type 0 = λ e. roomOf e ≤ length out in
-    cond-cases P (eqb kind 2) _ _ (λ e. omega arith)
-    (λ e. cond-cases P (eqb kind 3) _ _ (λ e. omega arith)
-    (λ e. cond-cases P (eqb kind 4) _ _ (λ e. omega arith)
-    (λ e. cond-cases P (eqb kind 5) _ _ (λ e. omega arith)
-    (λ e. cond-cases P (eqb kind 6) _ _ (λ e. omega arith) (λ e. omega arith)))))
+    by-kind (λ (e f : Event). roomOf e ≤ length out) kind server b out out table (omega arith) (le-refl _) (omega arith) (omega arith) (le-refl _) (le-refl _)
 
 -- what a call says that it wrote fits the output
 pub called-fits : (table : List ℕ) (s : State) (store out : List ℕ) (kind server : ℕ) (b : List ℕ) (w : Wrote) (storeAfter outAfter : List ℕ)
@@ -85,35 +79,39 @@ table-turn t r answer at left text len textAfter f g h k l = rw (l, k, h, g, f) 
 
 pub call-turn : (t : List ℕ) (r : Progress) (store out text : List ℕ) (i kind server : ℕ) (b table : List ℕ) (w : Wrote)
     (storeAfter outAfter textAfter : List ℕ) (len at : ℕ)
-    → i ≡ indexOf t r → b ≡ nextBody t r → at ≡ r .at + length b → table ≡ bodyOf t 1 → kind ≡ kindAt t i → server ≡ serverAt t i
+    → i ≡ indexOf t r → b ≡ nextBody t r → at ≡ r .at + length b → length out ≡ outputBufferOctets → table ≡ bodyOf t 1 → kind ≡ kindAt t i → server ≡ serverAt t i
     → Called table (r .state) store out (eventCall kind server b out) w storeAfter outAfter
     → len ≡ length (lineOf i (w .answer) (take (w .written) outAfter)) → textAfter ≡ sets text 0 (lineOf i (w .answer) (take (w .written) outAfter))
-    → Turned (callTurn t r store out) out text (record { len = len; progress = record { state = w .state; left = r .left - 1; at = at } }) storeAfter outAfter textAfter
-call-turn t r store out text i kind server b table w storeAfter outAfter textAfter len at ei eb ea et ek es called el ex =
-    let e = nextCall t r out in
+    → Turned (callTurn t r store) out text (record { len = len; progress = record { state = w .state; left = r .left - 1; at = at } }) storeAfter outAfter textAfter
+call-turn t r store out text i kind server b table w storeAfter outAfter textAfter len at ei eb ea eo et ek es called el ex =
+    let e = nextCall t r in
     let o = effect (r .state) store e in
-    let k : Gives (r .state) store out e w storeAfter outAfter = rw (ek, es, eb, et, ei) at called in
-    let n = le-trans (effect-fits (r .state) store e) (call-room (kindAt t (indexOf t r)) (serverAt t (indexOf t r)) (nextBody t r) out (bodyOf t 1)) in
-    let q = call-wrote o w out outAfter n (k .0) (k .1 .1) in
+    let buffer : length outputBuffer ≡ outputBufferOctets = refl in
+    let same = same-call table (r .state) store kind server b out outputBuffer eo in
+    let f : Gives (r .state) store out (eventCall kind server b outputBuffer table) w storeAfter outAfter =
+    (called .0 ∙ ap wroteOf (same .0), (called .1 .0 ∙ same .1, called .1 .1 ∙ ap (outputAfter out) (same .0))) in
+    let k : Gives (r .state) store out e w storeAfter outAfter = rw (ek, es, eb, et, ei) at f in
+    let n = le-trans (effect-fits (r .state) store e) (call-room (kindAt t (indexOf t r)) (serverAt t (indexOf t r)) (nextBody t r) outputBuffer (bodyOf t 1)) in
+    let q = call-wrote o w out outAfter (omega (arith, n, eo, buffer)) (k .0) (k .1 .1) in
     (rw (el, q, ea, eb, ei, k .0) refl, (k .1 .0, (k .1 .1, rw (ex, q, ei, k .0) refl)))
 
 -- ---- one event more
 
 pub played-none : (t : List ℕ) (r : Progress) (store out text : List ℕ) → r .left ≡ 0
-    → Turned (played t r store out) out text (record { len = 0; progress = r }) store out text
+    → Turned (played t r store) out text (record { len = 0; progress = r }) store out text
 unfolding played
 played-none t r store out text e = rw (eq-eqb (r .left) 0 e) (refl, (refl, (refl, refl)))
 
 pub played-table : (t : List ℕ) (r : Progress) (store out text : List ℕ) (i : ℕ) (turn : Turn) (textAfter : List ℕ)
     → (r .left ≡ 0 → ⊥) → i ≡ indexOf t r → i ≡ 1 → turn ≡ turnOf (tableTurn t r []) → textAfter ≡ sets text 0 (tableTurn t r [] .line)
-    → Turned (played t r store out) out text turn store out textAfter
+    → Turned (played t r store) out text turn store out textAfter
 unfolding played
 played-table t r store out text i turn textAfter h e f g k =
     rw (ne-eqb (r .left) 0 h, eq-eqb (indexOf t r) 1 (sym e ∙ f)) (g, (refl, (refl, k)))
 
 pub played-call : (t : List ℕ) (r : Progress) (store out text : List ℕ) (i : ℕ) (turn : Turn) (storeAfter outAfter textAfter : List ℕ)
-    → (r .left ≡ 0 → ⊥) → i ≡ indexOf t r → (i ≡ 1 → ⊥) → Turned (callTurn t r store out) out text turn storeAfter outAfter textAfter
-    → Turned (played t r store out) out text turn storeAfter outAfter textAfter
+    → (r .left ≡ 0 → ⊥) → i ≡ indexOf t r → (i ≡ 1 → ⊥) → Turned (callTurn t r store) out text turn storeAfter outAfter textAfter
+    → Turned (played t r store) out text turn storeAfter outAfter textAfter
 unfolding played
 played-call t r store out text i turn storeAfter outAfter textAfter h e f g =
     rw (ne-eqb (r .left) 0 h, ne-eqb (indexOf t r) 1 (λ k. f (e ∙ k))) g

@@ -1,5 +1,6 @@
--- A replay in turns, one line each, as the code takes it: opening a tape, then one event more. `TurnByTurn` below says that the lines are
--- those of `replay`; the law `turn-by-turn` shows it. Assumes nothing.
+-- A replay in turns, one line each, as the code takes it: opening a tape, then one event more. What a program prints has no contract, so
+-- the contracts of the turns cite this page, and not the one of the whole replay; `TurnByTurn` below says that the lines are those of
+-- `replay`, and the law `turn-by-turn` shows it. Assumes nothing.
 use Prim.Native.Nat.{ℕ, zero, suc, _+_, _-_}
 use mathlib.Core.Path.{_≡_}
 use mathlib.Core.Bool.{cond, _&&_}
@@ -15,7 +16,7 @@ use Rattle.exporter.specs.declared.state.State.{State}
 use Rattle.exporter.specs.declared.state.Wrote.{Wrote}
 use Rattle.tape.specs.Tape.{eventCount, kindAt, serverAt, bodyLength, bodyAt, bodyOf, octetsAt, tapeSound}
 use Rattle.tape.specs.Lines.{lineOf, tapeRefused}
-use Rattle.tape.specs.Replay.{tableAnswer, outputBufferOctets, eventCall, tapeSettings, tapeSession, tapeStore, tapeCalls, replay}
+use Rattle.tape.specs.Replay.{tableAnswer, outputBuffer, eventCall, tapeSettings, tapeSession, tapeStore, tapeCalls, replay}
 use Rattle.tape.specs.declared.replay.Progress.{Progress}
 use Rattle.tape.specs.declared.replay.Turn.{Turn}
 
@@ -83,14 +84,14 @@ tableTurn t r store =
       store = store;
     }
 
--- The call of the next event.
-abbrev pub nextCall : List ℕ → Progress → List ℕ → Event
-nextCall t r out = eventCall (kindAt t (indexOf t r)) (serverAt t (indexOf t r)) (nextBody t r) out (bodyOf t 1)
+-- The call of the next event, which is lent an output of the program's length.
+abbrev pub nextCall : List ℕ → Progress → Event
+nextCall t r = eventCall (kindAt t (indexOf t r)) (serverAt t (indexOf t r)) (nextBody t r) outputBuffer (bodyOf t 1)
 
 -- A call's turn.
-abbrev pub callTurn : List ℕ → Progress → List ℕ → List ℕ → Played
-callTurn t r store out =
-    let e = nextCall t r out in
+abbrev pub callTurn : List ℕ → Progress → List ℕ → Played
+callTurn t r store =
+    let e = nextCall t r in
     let o = effect (r .state) store e in
     record {
       line = lineOf (indexOf t r) (o .answer) (o .written);
@@ -100,10 +101,10 @@ callTurn t r store out =
     }
 
 -- One event more, from the progress that opening or the turn before gave: no line where none is left.
-unfoldable pub played : List ℕ → Progress → List ℕ → List ℕ → Played
-played t r store out =
+unfoldable pub played : List ℕ → Progress → List ℕ → Played
+played t r store =
     cond (eqb (r .left) 0) (record { line = []; written = []; progress = r; store = store })
-    (cond (eqb (indexOf t r) 1) (tableTurn t r store) (callTurn t r store out))
+    (cond (eqb (indexOf t r) 1) (tableTurn t r store) (callTurn t r store))
 
 -- What the code answers of a turn.
 abbrev pub turnOf : Played → Turn
@@ -115,22 +116,22 @@ Turned p out text turn storeAfter outAfter textAfter =
     (turn ≡ turnOf p)
     × ((storeAfter ≡ p .store) × ((outAfter ≡ sets out 0 (p .written)) × (textAfter ≡ sets text 0 (p .line))))
 
--- The lines of the next turns, at most n, until no event is left. Each is lent the output as the one before left it.
-unfoldable pub turnsFrom : List ℕ → List ℕ → ℕ → Played → List (List ℕ)
-turnsFrom t out zero p = []
-turnsFrom t out (suc n) p =
-    let q = played t (p .progress) (p .store) out in
-    cond (eqb (p .progress .left) 0) [] (q .line ∷ turnsFrom t (sets out 0 (q .written)) n q)
+-- The lines of the next turns, at most n, until no event is left.
+unfoldable pub turnsFrom : List ℕ → ℕ → Played → List (List ℕ)
+turnsFrom t zero p = []
+turnsFrom t (suc n) p =
+    let q = played t (p .progress) (p .store) in
+    cond (eqb (p .progress .left) 0) [] (q .line ∷ turnsFrom t n q)
 
 -- The lines of all turns: that of opening, then one for each event as long as one is left; fewer are left than the tape has.
-abbrev pub turns : List ℕ → List ℕ → List ℕ → List (List ℕ)
-turns t store out = opened t store .line ∷ turnsFrom t out (eventCount t) (opened t store)
+abbrev pub turns : List ℕ → List ℕ → List (List ℕ)
+turns t store = opened t store .line ∷ turnsFrom t (eventCount t) (opened t store)
 
 -- ---- what is claimed of replays
 
--- Turn by turn, over the store that the settings name and an output of the program's length, the lines are those of the whole replay.
+-- Turn by turn, over the store that the settings name, the lines are those of the whole replay.
 abbrev pub TurnByTurn : Type 0
-TurnByTurn = (t out : List ℕ) → length out ≡ outputBufferOctets → turns t (tapeStore t) out ≡ replay t
+TurnByTurn = (t : List ℕ) → turns t (tapeStore t) ≡ replay t
 
 -- Of any octets whose settings would be answered 0, the calls are a list of calls from a fresh exporter, and the exporter's claim (demand 3)
 -- holds of it, whatever the table is.

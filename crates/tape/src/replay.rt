@@ -4,7 +4,7 @@ ghost use mathlib.Core.List.{[]};
 ghost use Prim.Native.Nat.{_+_, _*_, _≤_};
 ghost use lib.ListN.{length};
 ghost use lib.Seq.{sets};
-ghost use Rattle.tape.specs.Tape.{bodyOf};
+ghost use Rattle.tape.specs.Replay.{outputBufferOctets};
 ghost use Rattle.tape.specs.Turns.{opened, indexOf, nextBody, tableTurn, callTurn, played, turnOf, Turned};
 use exporter::state::State;
 use octets::Answer;
@@ -12,7 +12,7 @@ use octets::Answer;
 // How many octets the calls of a replay are lent as output.
 pub const OUTPUT_OCTETS: usize = 16392;
 
-// The most octets of a line: 9, and two for each octet of output.
+// Enough for any line: two numbers of three digits, two spaces, the end of the line, and two digits for each octet of output.
 pub const LINE_OCTETS: usize = 32793;
 
 // How far a replay is, between two events.
@@ -87,8 +87,8 @@ fn take_call<'a>(
     out: &mut [u8],
     text: &mut [u8],
 ) -> Turn
-    requires { ⌜ (1 ≤ r .left) × ((i ≤ 65535) × ((i ≡ indexOf (now tape) r) × ((now b ≡ nextBody (now tape) r) × ((at ≡ r .at + length (now b)) × (9 + 2 * length (now out) ≤ length (now text)))))) ⌝ }
-    ensures { λ x. ⌜ Turned (callTurn (now (tape .entry)) r (now (store .entry)) (now (out .entry))) (now (out .entry)) (now (text .entry)) x (now (store .exit)) (now (out .exit)) (now (text .exit)) ⌝ }
+    requires { ⌜ (1 ≤ r .left) × ((i ≤ 65535) × ((i ≡ indexOf (now tape) r) × ((now b ≡ nextBody (now tape) r) × ((at ≡ r .at + length (now b)) × ((length (now out) ≡ outputBufferOctets) × (9 + 2 * length (now out) ≤ length (now text))))))) ⌝ }
+    ensures { λ x. ⌜ Turned (callTurn (now (tape .entry)) r (now (store .entry))) (now (out .entry)) (now (text .entry)) x (now (store .exit)) (now (out .exit)) (now (text .exit)) ⌝ }
 {
     let table = crate::contents::body(tape, 1);
     let kind = crate::contents::kind_at(tape, i);
@@ -116,7 +116,7 @@ pub fn take_event(
     out: &mut [u8; OUTPUT_OCTETS],
     text: &mut [u8; LINE_OCTETS],
 ) -> Turn
-    ensures { λ x. ⌜ Turned (played (now (tape .entry)) r (now (store .entry)) (now (out .entry))) (now (out .entry)) (now (text .entry)) x (now (store .exit)) (now (out .exit)) (now (text .exit)) ⌝ }
+    ensures { λ x. ⌜ Turned (played (now (tape .entry)) r (now (store .entry))) (now (out .entry)) (now (text .entry)) x (now (store .exit)) (now (out .exit)) (now (text .exit)) ⌝ }
 {
     if r.left == 0 {
         return Turn {

@@ -30,7 +30,7 @@ write-line-requires : tie.Need-write-line-requires
 write-line-requires c κs =
     let z = c .before .before .before .before .before .before .before .before .before .before .before .before .before .before .before .before .before .before in
     let a = z .args in
-    line-fits _ _ (a .out .now) (a .text .now) (called-fits _ _ _ _ _ _ _ _ _ _ (c .before .before .before .before .before .before .call .ensures)) (z .pre .1 .1 .1 .1 .1)
+    line-fits _ _ (a .out .now) (a .text .now) (called-fits _ _ _ _ _ _ _ _ _ _ (c .before .before .before .before .before .before .call .ensures)) (z .pre .1 .1 .1 .1 .1 .1)
 
 sub-t25 : tie.Need-sub-t25
 sub-t25 c = c .before .before .before .before .before .before .before .before .before .before .before .before .before .before .before .before .before .before .before .before .before .before .before .pre .0
@@ -48,7 +48,7 @@ returns : tie.Need-returns
 returns c =
     let z = c .before .before .before .before .before .before .before .before .before .before .before .before .before .before .before .before .before .before .before .before .before .before .before in
     let a = z .args in
-    call-turn (a .tape .now) (a .r) (a .store .now) (a .out .now) (a .text .now) (a .i) _ _ (a .b .now) _ _ _ _ _ _ _ (z .pre .1 .1 .0) (z .pre .1 .1 .1 .0) (z .pre .1 .1 .1 .1 .0)
+    call-turn (a .tape .now) (a .r) (a .store .now) (a .out .now) (a .text .now) (a .i) _ _ (a .b .now) _ _ _ _ _ _ _ (z .pre .1 .1 .0) (z .pre .1 .1 .1 .0) (z .pre .1 .1 .1 .1 .0) (z .pre .1 .1 .1 .1 .1 .0)
     (c .before .before .before .before .before .before .before .before .before .before .before .before .before .before .before .before .before .body .ensures) (c .before .before .before .before .before .before .before .before .before .before .before .before .before .before .before .before .kind-at .ensures) (c .before .before .before .before .before .before .before .before .before .before .before .before .before .before .before .server-at .ensures) (c .before .before .before .before .before .before .before .before .before .before .before .call .ensures) (c .before .before .before .before .write-line .ensures .0) (c .before .before .before .before .write-line .ensures .1)
 
 pub take-call-spec : {M : Type 1} → statement M

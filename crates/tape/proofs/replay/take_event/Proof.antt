@@ -1,12 +1,11 @@
 -- `take_event` meets its contract: nothing is left, or the event at the replay's place is the table or a call, and is taken as such.
 -- Assumes nothing.
-use Rattle.tape.specs.Turns.{nextBody}
+use mathlib.Core.Path.{_≡_, refl, ap, _∙_}
 use mathlib.Core.List.{List}
-use mathlib.Core.Path.{_≡_, ap}
 use Prim.Native.Nat.{ℕ, _+_}
-use lib.ListN.{length}
-use mathlib.Core.Path.{refl, _∙_}
 use native.Mathlib.Omega.{arith}
+use lib.ListN.{length}
+use Rattle.tape.specs.Turns.{nextBody}
 use Rattle.tape.proofs.Parts.{part-end}
 use Rattle.tape.proofs.Turns.{played-none, played-table, played-call}
 use borrow.Author.Needs.{needs}
@@ -54,7 +53,7 @@ returns-2 c =
     played-table (a .tape .now) (a .r) (a .store .now) (a .out .now) (a .text .now) _ _ _ (c .before .before .before .before .before .before .before .before .if1 .left) (c .before .before .before .before .before .before .room .ensures ∙ rw (c .before .before .before .before .before .before .before .event-count .ensures) refl) (c .before .if2 .taken) (c .take-table .ensures .0) (c .take-table .ensures .1)
 
 take-call-requires : tie.Need-take-call-requires
-take-call-requires c κs = (omega arith, (omega arith, ((c .before .before .before .before .before .before .before .room .ensures ∙ rw (c .before .before .before .before .before .before .before .before .event-count .ensures) refl), ((c .before .before .before .before .before .part .ensures ∙ rw (c .before .before .before .before .before .before .body-length .ensures, c .before .before .before .before .before .before .before .room .ensures, c .before .before .before .before .before .before .before .before .event-count .ensures) refl), (refl, omega arith)))))
+take-call-requires c κs = (omega arith, (omega arith, ((c .before .before .before .before .before .before .before .room .ensures ∙ rw (c .before .before .before .before .before .before .before .before .event-count .ensures) refl), ((c .before .before .before .before .before .part .ensures ∙ rw (c .before .before .before .before .before .before .body-length .ensures, c .before .before .before .before .before .before .before .room .ensures, c .before .before .before .before .before .before .before .before .event-count .ensures) refl), (refl, (omega arith, omega arith))))))
 
 same-length : tie.Need-same-length
 same-length c = search needs
