@@ -3,6 +3,7 @@ ghost use Prim.Native.Nat.{_≤_};
 ghost use lib.ListN.{length};
 use libc::STDIN_FILENO;
 use libc::STDOUT_FILENO;
+use tape::contents::INPUT_OCTETS;
 use tape::replay::LINE_OCTETS;
 use tape::replay::OUTPUT_OCTETS;
 
@@ -37,9 +38,9 @@ fn lend(tape: &[u8], store: &mut [u8])
     replay(tape, &mut store[..len]);
 }
 
-// Reads to the end of the input, or one octet more than a tape has.
+// Reads to the end of the input, or one octet more than a tape has, and replays it over a part of the largest store.
 fn main() {
-    let mut input = [0u8; 32769];
+    let mut input = [0u8; INPUT_OCTETS];
     let n = io::read_full(STDIN_FILENO, &mut input);
     let mut store = [0u8; 65536];
     lend(&input[..n], &mut store);

@@ -4,10 +4,11 @@ use mathlib.Core.Bool.{cond}
 use mathlib.Core.List.{List, [], _∷_, _++_}
 use lib.Dec.{ltb}
 
--- A space, and the end of a line.
+-- A space.
 abbrev pub space : ℕ
 space = 32
 
+-- The end of a line.
 abbrev pub newline : ℕ
 newline = 10
 

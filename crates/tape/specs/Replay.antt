@@ -37,10 +37,11 @@ storeLength b = uintAt b 6 2 + 1
 abbrev pub tableAnswer : Settings → List ℕ → ℕ
 tableAnswer p table = judge ((unsoundTable when not (isSessions p table)) ∷ [])
 
--- The settings of a tape, and the session that has them.
+-- The settings of a tape.
 abbrev pub tapeSettings : List ℕ → Settings
 tapeSettings t = settingsOf (bodyOf t 0)
 
+-- The session that has them.
 abbrev pub tapeSession : List ℕ → Session
 tapeSession t = sessionOf32 (tapeSettings t)
 

@@ -79,13 +79,15 @@ bodyOf t i = octetsAt t (bodyAt t i) (bodyLength t i)
 
 -- ---- soundness
 
--- The most octets of a tape, and the least and the most events.
+-- A tape has at most 32,768 octets.
 abbrev pub maxTapeOctets : ℕ
 maxTapeOctets = 32768
 
+-- A tape has at least two events: settings and table.
 abbrev pub minEvents : ℕ
 minEvents = 2
 
+-- A tape has at most 512 events.
 abbrev pub maxEvents : ℕ
 maxEvents = 512
 

@@ -2,40 +2,52 @@
 ghost use mathlib.Core.Path.{_≡_};
 ghost use Prim.Native.Nat.{_≤_};
 ghost use Rattle.wire.specs.Each.{every};
-ghost use Rattle.tape.specs.Tape.{eventCount, kindAt, serverAt, bodyLength, bodyAt, octetsAt, bodyOf, kindFits, serverFits, bodyLengthFits, eventSound, tapeAnswer};
+ghost use Rattle.tape.specs.Tape.{eventCount, contentsAt, kindAt, serverAt, bodyLength, bodyAt, octetsAt, bodyOf, kindFits, serverFits, bodyLengthFits, eventSound, tapeAnswer};
 use octets::Answer;
 
 // The most octets that a tape has.
 pub const MAX_TAPE_OCTETS: usize = 32768;
 
-// The least and the most events that a tape has.
+// One octet more than a tape has, so that a longer input is seen to be longer.
+pub const INPUT_OCTETS: usize = 32769;
+
+// The least events that a tape has: settings and table.
 pub const MIN_EVENTS: usize = 2;
 
+// The most events that a tape has.
 pub const MAX_EVENTS: usize = 512;
 
 // The octets of the settings.
 const SETTINGS_OCTETS: u16 = 24;
 
-// The kinds of events, by name.
+// The kind of an event; the constants name the numbers.
 pub struct Kind {
     pub number: u8,
 }
 
 impl Kind {
+    // The exporter's settings.
     pub const SETTINGS: u8 = 0;
 
+    // The table of the session.
     pub const TABLE: u8 = 1;
 
+    // A put of a record under a template ID.
     pub const PUT: u8 = 2;
 
+    // A message from a server.
     pub const MESSAGE: u8 = 3;
 
+    // The line to a server is down.
     pub const DOWN: u8 = 4;
 
+    // A tick.
     pub const TICK: u8 = 5;
 
+    // Next data.
     pub const NEXT: u8 = 6;
 
+    // Templates are offered to a server.
     pub const OFFER: u8 = 7;
 }
 
@@ -46,12 +58,20 @@ pub fn event_count(tape: &[u8]) -> u16
     octets::get_u16(tape, 0)
 }
 
+// Where an event stands in the contents.
+fn contents_at(i: usize) -> usize
+    requires { ⌜ i ≤ 65535 ⌝ }
+    ensures { λ r. ⌜ r ≡ contentsAt i ⌝ }
+{
+    2 + 4 * i
+}
+
 // The kind of an event.
 pub(crate) fn kind_at(tape: &[u8], i: usize) -> u8
     requires { ⌜ i ≤ 65535 ⌝ }
     ensures { λ r. ⌜ r ≡ kindAt (now (tape .entry)) i ⌝ }
 {
-    octets::get_u8(tape, 2 + 4 * i)
+    octets::get_u8(tape, contents_at(i))
 }
 
 // The server that an event names.
@@ -59,7 +79,7 @@ pub(crate) fn server_at(tape: &[u8], i: usize) -> u8
     requires { ⌜ i ≤ 65535 ⌝ }
     ensures { λ r. ⌜ r ≡ serverAt (now (tape .entry)) i ⌝ }
 {
-    octets::get_u8(tape, 2 + 4 * i + 1)
+    octets::get_u8(tape, contents_at(i) + 1)
 }
 
 // How many octets the body of an event has.
@@ -67,7 +87,7 @@ pub(crate) fn body_length(tape: &[u8], i: usize) -> u16
     requires { ⌜ i ≤ 65535 ⌝ }
     ensures { λ r. ⌜ r ≡ bodyLength (now (tape .entry)) i ⌝ }
 {
-    octets::get_u16(tape, 2 + 4 * i + 2)
+    octets::get_u16(tape, contents_at(i) + 2)
 }
 
 // Where the body of an event begins.
@@ -75,7 +95,7 @@ pub(crate) fn body_at(tape: &[u8], i: usize) -> usize
     requires { ⌜ i ≤ 512 ⌝ }
     ensures { λ r. ⌜ r ≡ bodyAt (now (tape .entry)) i ⌝ }
 {
-    let mut at = 2 + 4 * (event_count(tape) as usize);
+    let mut at = contents_at(event_count(tape) as usize);
     let mut k: usize = 0;
     while k < i {
         at += body_length(tape, k) as usize;
@@ -119,7 +139,7 @@ fn kind_fits(i: usize, kind: u8) -> bool
     (Kind::PUT <= kind) & (kind <= Kind::OFFER)
 }
 
-// Whether an event of this kind can name a server.
+// Whether this octet can be the server of an event of this kind.
 fn server_fits(kind: u8, server: u8) -> bool
     ensures { λ r. ⌜ r ≡ serverFits kind server ⌝ }
 {

@@ -69,7 +69,7 @@ fn record_of(b: &[u8]) -> &[u8]
     &b[2..]
 }
 
-// What a call answers that writes no message, as one that may.
+// The answer of a call without output, in the form of one with it.
 fn wrote(s: Stepped) -> Wrote
     ensures { λ r. ⌜ r ≡ record { answer = s .answer; written = 0; state = s .state } ⌝ }
 {

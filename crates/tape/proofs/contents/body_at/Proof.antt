@@ -1,6 +1,7 @@
--- `body_at` meets its contract. The loop's invariant: at is where the body of event k begins, and is small. Assumes nothing.
-use mathlib.Core.Path.{_≡_, refl, ap}
-use Prim.Native.Nat.{ℕ, _+_, _*_, _-_, _≤_}
+-- `body_at` meets its contract. The loop's invariant: at is where the body of event k begins, and is small enough that no sum wraps.
+-- At the end k is i. Assumes nothing.
+use mathlib.Core.Path.{_≡_, refl}
+use Prim.Native.Nat.{_+_, _*_, _-_, _≤_}
 use native.Mathlib.Numerals.{add-one}
 use native.Mathlib.Omega.{arith}
 use Rattle.tape.specs.Tape.{bodyAt}
@@ -17,27 +18,24 @@ abbrev μ-loop : tie.MeasureT-loop
 event-count-requires : tie.Need-event-count-requires Inv-loop μ-loop
 event-count-requires c κs = search needs
 
-cast-at : tie.Need-cast-at Inv-loop μ-loop
-cast-at c = search needs
+cast-contents-at : tie.Need-cast-contents-at Inv-loop μ-loop
+cast-contents-at c = search needs
 
-mul-at : tie.Need-mul-at Inv-loop μ-loop
-mul-at c = search needs
-
-add-at : tie.Need-add-at Inv-loop μ-loop
-add-at c = search needs
+contents-at-requires : tie.Need-contents-at-requires Inv-loop μ-loop
+contents-at-requires c κs = search needs
 
 loop-holds : tie.Need-loop-holds Inv-loop μ-loop
 unfolding bodyAt
-loop-holds c = (omega arith, (omega arith, ap (λ (n : ℕ). 2 + 4 * n) (c .event-count .ensures)))
+loop-holds c = (omega arith, (omega arith, rw (c .contents-at .ensures, c .before .event-count .ensures) refl))
 
 body-length-requires : tie.Need-body-length-requires Inv-loop μ-loop
 body-length-requires c κs = search needs
 
-cast-at-2 : tie.Need-cast-at-2 Inv-loop μ-loop
-cast-at-2 c = search needs
+cast-at : tie.Need-cast-at Inv-loop μ-loop
+cast-at c = search needs
 
-add-at-2 : tie.Need-add-at-2 Inv-loop μ-loop
-add-at-2 c = search needs
+add-at : tie.Need-add-at Inv-loop μ-loop
+add-at c = search needs
 
 add-k : tie.Need-add-k Inv-loop μ-loop
 add-k c = search needs
@@ -50,7 +48,7 @@ unfolding bodyAt
 loop-again c = (omega arith, (omega arith, rw add-one (rw (c .before .before .loop .inv .1 .1, c .body-length .ensures) refl)))
 
 returns : tie.Need-returns Inv-loop μ-loop
-returns c = let e : c .before .loop .k ≡ c .before .before .before .before .args .i = omega arith in rw (← e) (c .before .loop .inv .1 .1)
+returns c = let e : c .before .loop .k ≡ c .before .before .before .before .before .args .i = omega arith in rw (← e) (c .before .loop .inv .1 .1)
 
 pub body-at-spec : {M : Type 1} → statement M
 body-at-spec =
@@ -59,13 +57,12 @@ body-at-spec =
     Inv-loop
     μ-loop
     event-count-requires
-    cast-at
-    mul-at
-    add-at
+    cast-contents-at
+    contents-at-requires
     loop-holds
     body-length-requires
-    cast-at-2
-    add-at-2
+    cast-at
+    add-at
     add-k
     loop-less
     loop-again
