@@ -7,13 +7,13 @@ use lib.ListN.{length, getD}
 use Rattle.exporter.specs.Servers.{chosen}
 use Rattle.exporter.specs.Queue.{Entry, octetsTo, heldOctets, ringRead, has}
 use Rattle.exporter.specs.Sound.{maxHeld, maxRecordOctets}
-use Rattle.exporter.specs.History.{Writing, Ledger, History, dsnOf, writtenTo, writtenIn, writtenDuring}
+use Rattle.exporter.specs.History.{Writing, Ledger, History, dsnOf, writtenIn, writtenDuring}
 use Rattle.exporter.specs.declared.state.Active.the-variants.{Nobody, Server}
 use Rattle.exporter.specs.declared.state.Settings.{Settings}
 use Rattle.exporter.specs.declared.state.Queue.{Queue}
 use Rattle.exporter.specs.declared.state.State.{State}
 use Rattle.exporter.proofs.SoundFacts.{SettingsFacts}
-use Rattle.exporter.proofs.QueueLaws.{noEntry}
+use Rattle.exporter.proofs.QueueLaws.{writtenTo, noEntry}
 
 -- the record at place i of a queue whose octets begin at `start`
 abbrev pub entryIn : ℕ → List ℕ → ℕ → Queue → ℕ → Entry

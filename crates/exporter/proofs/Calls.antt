@@ -19,7 +19,7 @@ use Rattle.exporter.specs.Servers.{sameActive, changed, settle, Transiti
 use Rattle.exporter.specs.Queue.{Entry, sumOf, heldOctets, recordAt, held}
 use Rattle.exporter.specs.Sound.{maxHeld, maxRecordOctets, sound}
 use Rattle.exporter.specs.Steps.{modulus, ackCount, Call, put, nextData, tick, ack, move, isDuplicate, headOf, written, isSessions, checks, soundFor, answer, after, settled, storeAfter, Outcome, step}
-use Rattle.exporter.specs.History.{Writing, Ledger, History, dsnOf, ackPlace, deliveryAfter, ledgerAfter, afterAccepted, afterCall, writtenTo, writtenIn}
+use Rattle.exporter.specs.History.{Ledger, History, dsnOf, ackPlace, deliveryAfter, ledgerAfter, afterAccepted, afterCall}
 use Rattle.exporter.specs.Claim.{Session, InRange, entryAt, nextPlace, isDuplicateFor, dueMessage, octetsIn, dueChecks, Named, ReleasedBy, CallClaim, Account}
 use Rattle.exporter.specs.declared.state.Active.{Active}
 use Rattle.exporter.specs.declared.state.Active.the-variants.{Nobody, Server}
@@ -27,21 +27,12 @@ use Rattle.exporter.specs.declared.state.Delivery.{Delivery}
 use Rattle.exporter.specs.declared.state.State.{State}
 use Rattle.exporter.proofs.SoundFacts.{facts-sound, same-active}
 use Rattle.exporter.proofs.Places.{one-place, reached-test}
-use Rattle.exporter.proofs.QueueLaws.{or-elim, or-right, duplicate-same, noEntry, heldAt, held-length, held-at, held-octets}
+use Rattle.exporter.proofs.QueueLaws.{written-in, duplicate-same, noEntry, heldAt, held-length, held-at, held-octets}
 use Rattle.exporter.proofs.Agrees.{Core, Agrees}
 use Rattle.exporter.proofs.Choice.{settle-choice}
 use Rattle.exporter.proofs.Keeps.{begun, begun-released, written-released, settle-keeps, held-dsn, acked, ack-dsn, ack-below, ack-named, call-keeps, call-delivery}
 
 -- ---- the state is sound
-
--- what was written in an activation was written
-written-in : (ws : List Writing) (q v k : ℕ) → writtenIn ws q v k ≡ true → writtenTo ws q v ≡ true
-unfolding writtenIn writtenTo
-written-in [] q v k e = e
-written-in (x ∷ ws) q v k e =
-    or-elim (eqb (x .place) q && eqb (x .server) v && eqb (x .activation) k) (writtenIn ws q v k) e
-    (λ z. rw (and-left (eqb (x .place) q && eqb (x .server) v) (eqb (x .activation) k) z) refl)
-    (λ z. or-right (eqb (x .place) q && eqb (x .server) v) (writtenTo ws q v) (written-in ws q v k z))
 
 pub sound-of : {w : ℕ} {h : History} {s : State} {store : List ℕ} → Agrees w h s store → sound s ≡ true
 sound-of {w} {h} {s} {store} a =

@@ -3,7 +3,7 @@
 use mathlib.Core.Path.{_≡_, refl, sym, ap, _∙_, subst}
 use mathlib.Core.Bool.{Bool, true, false, not, cond, false≢true}
 use mathlib.Core.List.{List, [], _∷_, _++_}
-use Prim.Native.Nat.{ℕ, _+_, _-_, _<_}
+use Prim.Native.Nat.{ℕ, _-_, _<_}
 use native.Mathlib.Omega.{arith}
 use lib.Dec.{eqb}
 use lib.ListN.{length}
@@ -18,7 +18,7 @@ use Rattle.exporter.specs.Servers.{start, stop, negotiate, offer, down, 
 use Rattle.exporter.specs.Queue.{sumOf, held}
 use Rattle.exporter.specs.Sound.{settingsSound}
 use Rattle.exporter.specs.Steps.{modulus, Call, put, nextData, tick, ack, move, isReceived, formAnswer, callOfMessage, received, written, checks, answer, after, settled, storeAfter, Outcome, step, fresh, refusedState, setUp}
-use Rattle.exporter.specs.History.{History, deliveryAfter, ledgerAfter, afterAccepted, afterCall, freshHistory, writtenTo, writtenDuring}
+use Rattle.exporter.specs.History.{History, deliveryAfter, ledgerAfter, afterAccepted, afterCall, freshHistory, anyWriting}
 use Rattle.exporter.specs.Claim.{Event, Put, NextData, Receive, OfferTemplates, LineDown, Tick, Session, Exporter, outcome, storeLeft, advance, run, begin, Heard, callOf, transcript, historyFrom, Premises, InRange, AllInRange, roomOf, tableOf, nextPlace, CallClaim, namedBy, lastNamed, Calls, historyOf, Demand3, AllOctets, sessionOf32, Demand3Of32}
 use Rattle.exporter.specs.declared.state.Settings.{Settings}
 use Rattle.exporter.specs.declared.state.State.{State}
@@ -251,7 +251,7 @@ set-up p room e = go (settingsSound p room) refl e
 
 fresh-agrees : (w : ℕ) (p : Settings) (store : List ℕ) → 64 < modulus w → settingsSound p (length store) ≡ true → p .initial < modulus w
     → Agrees w freshHistory (fresh p (length store)) store
-unfolding fresh freshHistory writtenTo writtenDuring sumOf
+unfolding fresh freshHistory anyWriting sumOf
 fresh-agrees w p store wide e i =
     let f = settings-facts p (length store) e in
     record {

@@ -20,7 +20,7 @@ use Rattle.exporter.specs.Servers.{isNobody, chosen, changed, settle, wi
 use Rattle.exporter.specs.Queue.{Entry, octetsTo, heldOctets, ringWrite, sumOf, has, with, pushed, dropFront, marked, shifted}
 use Rattle.exporter.specs.Sound.{maxRecordOctets}
 use Rattle.exporter.specs.Steps.{modulus, firstHeld, dsnAt, ackCount, Call, put, nextData, tick, ack, move, checks, withDelivery, after, settled, storeAfter}
-use Rattle.exporter.specs.History.{Ledger, withReleased, withActivation, dsnOf, ackPlace, deliveryAfter, writtenBy, ledgerAfter, writtenTo, writtenIn, writtenDuring}
+use Rattle.exporter.specs.History.{Ledger, withReleased, withActivation, dsnOf, ackPlace, deliveryAfter, writtenBy, ledgerAfter, anyWriting, writtenIn}
 use Rattle.exporter.specs.Claim.{InRange}
 use Rattle.exporter.specs.declared.state.Server as serverOf
 use Rattle.exporter.specs.declared.state.Active.{Active}
@@ -34,7 +34,7 @@ use Rattle.exporter.proofs.Rings.{read-same}
 use Rattle.exporter.proofs.Choice.{chosen-below}
 use Rattle.exporter.proofs.Places.{dsn-add, dsn-back, dsn-ack, place-found}
 use Rattle.exporter.proofs.RingLaws.{write-length, read-before, read-written}
-use Rattle.exporter.proofs.QueueLaws.{or-elim, or-right, last-cases, set-cases, shifted-length, shifted-at, sum-upto, sum-set, sum-shifted, has-with, has-zero, noEntry}
+use Rattle.exporter.proofs.QueueLaws.{or-elim, or-right, last-cases, set-cases, shifted-length, shifted-at, sum-upto, sum-set, sum-shifted, has-with, has-zero, writtenTo, noEntry}
 use Rattle.exporter.proofs.Agrees.{entryIn, Stock, Core}
 
 -- the ledger after the choice
@@ -248,7 +248,7 @@ module _ (w : ℕ) (l : Ledger) (s : State) (store : List ℕ) (wide : 64 < modu
 
   next-at : (v : ℕ) → s .delivery .active ≡ Server v → s .delivery .sent < s .queue .count
       → Core w (ledgerAfter w (s .settings) nextData (s .delivery) l) (after w nextData s) store
-  unfolding ledgerAfter after sentOne marked writtenTo writtenIn writtenDuring
+  unfolding ledgerAfter after sentOne marked anyWriting
   next-at v ea h =
       let k = c .stock in
       let q = s .queue in

@@ -1,4 +1,5 @@
--- Turn by turn the lines are those of the whole replay, and its calls are a list of calls of demand 3. Assumes nothing.
+-- Turn by turn the lines are those of the whole replay, and its calls are a list of calls of demand 3. A turn's call is that of the whole
+-- replay, since a call looks at the length of the output alone; so one more turn is one more line. Assumes nothing.
 use mathlib.Core.Path.{_≡_, refl, sym, ap, _∙_}
 use mathlib.Core.Bool.{Bool, true, false, cond, false≢true}
 use mathlib.Core.List.{List, [], _∷_}
@@ -16,14 +17,14 @@ use Rattle.octets.proofs.Numbers.{uint-below}
 use Rattle.wire.specs.Each.{every}
 use Rattle.exporter.specs.Servers.{offer}
 use Rattle.exporter.specs.Steps.{nextData, move, received, step, setUp}
-use Rattle.exporter.specs.Claim.{Event, Put, NextData, Receive, OfferTemplates, LineDown, Tick, Session, sessionOf32, Exporter, outcome, storeLeft, advance, begin, AllOctets}
+use Rattle.exporter.specs.Claim.{Event, Put, NextData, Receive, OfferTemplates, LineDown, Tick, sessionOf32, Exporter, outcome, storeLeft, advance, begin, AllOctets}
 use Rattle.exporter.proofs.Demand.{demand3of32}
 use Rattle.exporter.specs.declared.state.Settings.{Settings}
 use Rattle.exporter.specs.declared.state.State.{State}
 use Rattle.tape.specs.Tape.{eventCount, kindAt, serverAt, bodyLength, bodyAt, octetsAt, bodyOf, eventSound, maxTapeOctets, minEvents, maxEvents, tapeSound}
-use Rattle.tape.specs.Lines.{lineOf, tapeRefused}
+use Rattle.tape.specs.Lines.{lineOf}
 use Rattle.tape.specs.Replay.{tableAnswer, outputBufferOctets, outputBuffer, eventCall, callsFrom, linesOf, ifDone, tapeSettings, tapeSession, tapeStore, tapeCalls, replay, settingsOf}
-use Rattle.tape.specs.Turns.{effect, effectStore, Played, opened, indexOf, nextBody, tableTurn, nextCall, callTurn, played, turnsFrom, turns, TurnByTurn, CallsClaimed}
+use Rattle.tape.specs.Turns.{effect, effectStore, Played, opened, played, turnsFrom, turns, TurnByTurn, CallsClaimed}
 use Rattle.tape.specs.declared.replay.Progress.{Progress}
 use Rattle.tape.proofs.Parts.{octets-part}
 
