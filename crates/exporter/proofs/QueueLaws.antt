@@ -1,4 +1,6 @@
--- Laws of the queue: sums and entries after a put and after a release, sets of servers, and the list of held records. Assumes nothing.
+-- Laws of the queue: sums and entries after a put and after a release, sets of servers, the writings, and the list of held records. A put
+-- replaces one entry and a release moves all of them to the front, so that sums split there; a set is the bits of a number.
+-- Assumes nothing.
 use mathlib.Core.Path.{_≡_, refl, sym, ap, _∙_}
 use mathlib.Core.Logic.{_≢_}
 use mathlib.Core.Bool.{Bool, true, false, not, _&&_, _||_, false≢true}
@@ -15,7 +17,7 @@ use lib.Seq.{getD-set-same, getD-set-other, getD-drop, take-append-le, take-add,
 use borrow.Author.Tests.{eqb-true, eqb-false, eq-eqb, ne-eqb, not-true}
 use Rattle.wire.proofs.Each.{and-left, and-right}
 use Rattle.exporter.specs.Queue.{Entry, sumOf, has, with, hasOther, shifted, recordAt, heldFrom}
-use Rattle.exporter.specs.History.{Writing, anyWriting, writtenIn}
+use Rattle.exporter.specs.History.{Writing, anyWriting}
 use Rattle.exporter.specs.Claim.{writtenToOther, octetsIn}
 use Rattle.exporter.specs.declared.state.State.{State}
 use Rattle.exporter.proofs.Arrays.{sum-append, sum-more}
@@ -164,12 +166,6 @@ find-writing test (x ∷ ws) e =
 -- place q was written to server v
 abbrev pub writtenTo : List Writing → ℕ → ℕ → Bool
 writtenTo ws q v = anyWriting (λ x. eqb (x .place) q && eqb (x .server) v) ws
-
--- what was written in an activation was written
-pub written-in : (ws : List Writing) (q v k : ℕ) → writtenIn ws q v k ≡ true → writtenTo ws q v ≡ true
-written-in ws q v k e =
-    let f = find-writing (λ x. eqb (x .place) q && eqb (x .server) v && eqb (x .activation) k) ws e in
-    f .among (λ x. eqb (x .place) q && eqb (x .server) v) (and-left (eqb (f .writing .place) q && eqb (f .writing .server) v) (eqb (f .writing .activation) k) (f .passes))
 
 -- a server other than v that place q was written to
 written-other-some : (ws : List Writing) (q v : ℕ) → writtenToOther ws q v ≡ true → (u : ℕ) × (u ≢ v) × (writtenTo ws q u ≡ true)
