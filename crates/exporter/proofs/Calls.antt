@@ -1,4 +1,6 @@
--- What is claimed of one call follows from what holds between the history and the exporter, which the call keeps. Assumes nothing.
+-- What is claimed of one call follows from what holds between the history and the exporter, which the call keeps: a place in the history
+-- stands for a place of the queue, with the same record, DSN and servers, so that the checks of the state are those due by the history.
+-- Assumes nothing.
 use mathlib.Core.Path.{_≡_, refl, sym, ap, _∙_, subst}
 use mathlib.Core.Bool.{Bool, true, false, not, _&&_, _||_, cond}
 use mathlib.Core.List.{List, [], _∷_, _++_}
@@ -7,8 +9,8 @@ use native.Mathlib.Nat.{zero-add}
 use native.Mathlib.Decide.{decLt}
 use native.Mathlib.Omega.{arith}
 use lib.Dec.{eqb, leb, ltb}
-use lib.ListN.{length, getD, take, drop, length-drop, take-append-drop}
-use lib.Seq.{getD-drop, ext-getD}
+use lib.ListN.{length, getD, take, take-append-drop}
+use lib.Seq.{getD-drop}
 use borrow.Author.Tests.{leb-false, eqb-true, eqb-false, not-true, not-false, eq-eqb, le-leb, lt-leb, lt-ltb, le-ltb}
 use Rattle.octets.specs.Answers.{Check, _when_, judge, done, unsoundState}
 use Rattle.octets.proofs.Judging.{passed}
@@ -16,65 +18,31 @@ use Rattle.wire.proofs.Each.{and-left, and-right}
 use Rattle.wire.specs.Table.{isMissing, templateOf}
 use Rattle.wire.specs.Record.{recordValid}
 use Rattle.exporter.specs.Servers.{sameActive, changed, settle, Transition, start, stop, negotiate, offer, down, agree, malformed}
-use Rattle.exporter.specs.Queue.{Entry, sumOf, heldOctets, recordAt, held}
-use Rattle.exporter.specs.Sound.{maxHeld, maxRecordOctets, sound}
+use Rattle.exporter.specs.Queue.{Entry, sumOf, heldOctets, held}
+use Rattle.exporter.specs.Sound.{maxHeld, maxRecordOctets}
 use Rattle.exporter.specs.Steps.{modulus, ackCount, Call, put, nextData, tick, ack, move, isDuplicate, headOf, written, isSessions, checks, soundFor, answer, after, settled, storeAfter, Outcome, step}
-use Rattle.exporter.specs.History.{Writing, Ledger, History, dsnOf, ackPlace, deliveryAfter, ledgerAfter, afterAccepted, afterCall, writtenTo, writtenIn}
+use Rattle.exporter.specs.History.{Ledger, History, dsnOf, ackPlace, deliveryAfter, ledgerAfter, afterAccepted, afterCall}
 use Rattle.exporter.specs.Claim.{Session, InRange, entryAt, nextPlace, isDuplicateFor, dueMessage, octetsIn, dueChecks, Named, ReleasedBy, CallClaim, Account}
 use Rattle.exporter.specs.declared.state.Active.{Active}
 use Rattle.exporter.specs.declared.state.Active.the-variants.{Nobody, Server}
 use Rattle.exporter.specs.declared.state.Delivery.{Delivery}
 use Rattle.exporter.specs.declared.state.State.{State}
-use Rattle.exporter.proofs.SoundFacts.{facts-sound, same-active}
+use Rattle.exporter.proofs.SoundFacts.{SoundFacts, sound-facts, same-active}
 use Rattle.exporter.proofs.Places.{one-place, reached-test}
-use Rattle.exporter.proofs.QueueLaws.{or-elim, or-right, duplicate-same, noEntry, heldAt, held-length, held-at, held-octets}
+use Rattle.exporter.proofs.QueueLaws.{duplicate-same, noEntry, heldAt, held-length, held-octets}
 use Rattle.exporter.proofs.Agrees.{Core, Agrees}
-use Rattle.exporter.proofs.Choice.{settle-choice}
+use Rattle.exporter.proofs.SoundKept.{after-sized, accepted-sound}
+use Rattle.exporter.proofs.HeldLaws.{held-read}
 use Rattle.exporter.proofs.Keeps.{begun, begun-released, written-released, settle-keeps, held-dsn, acked, ack-dsn, ack-below, ack-named, call-keeps, call-delivery}
 
 -- ---- the state is sound
 
--- what was written in an activation was written
-written-in : (ws : List Writing) (q v k : ℕ) → writtenIn ws q v k ≡ true → writtenTo ws q v ≡ true
-unfolding writtenIn writtenTo
-written-in [] q v k e = e
-written-in (x ∷ ws) q v k e =
-    or-elim (eqb (x .place) q && eqb (x .server) v && eqb (x .activation) k) (writtenIn ws q v k) e
-    (λ z. rw (and-left (eqb (x .place) q && eqb (x .server) v) (eqb (x .activation) k) z) refl)
-    (λ z. or-right (eqb (x .place) q && eqb (x .server) v) (writtenTo ws q v) (written-in ws q v k z))
-
-pub sound-of : {w : ℕ} {h : History} {s : State} {store : List ℕ} → Agrees w h s store → sound s ≡ true
-sound-of {w} {h} {s} {store} a =
-    let c = a .core in
-    let k = c .stock in
-    facts-sound s
-    (record {
-      numbers =
-          record {
-            settings = c .limits;
-            few = k .few;
-            inside = k .inside;
-            sentReached = c .sent;
-            reachedHeld = c .reached;
-            running = c .timer;
-            fresh = c .due;
-          };
-      short = k .short;
-      known = k .known;
-      fits = k .fits;
-      choice = a .choice;
-      idle = λ e. let r : s .delivery .reached ≡ 0 = c .idle e in record { sent = omega (arith, c .sent); reached = r; timer = c .rest e };
-      received = λ v e i l.
-          k .marks i v (omega (arith, c .reached))
-          ∙ written-in (h .ledger .writings) (h .ledger .released + (i + 1)) v (h .ledger .activation) (c .since v (h .ledger .released + (i + 1)) e (omega arith) (omega arith));
-    })
-
 pub sound-for : {w : ℕ} {h : History} {s : State} {store : List ℕ} → Agrees w h s store → (k : Call) → soundFor k s store ≡ true
-sound-for {s} {store} a (put id r) = rw (sound-of a) (eq-eqb (length store) (s .capacity) (a .core .stock .stored))
-sound-for {s} {store} a nextData = rw (sound-of a) (eq-eqb (length store) (s .capacity) (a .core .stock .stored))
-sound-for a tick = sound-of a
-sound-for a (ack v d config) = sound-of a
-sound-for a (move v m) = sound-of a
+sound-for {s} {store} a (put id r) = rw (a .isSound) (eq-eqb (length store) (s .capacity) (a .core .stored))
+sound-for {s} {store} a nextData = rw (a .isSound) (eq-eqb (length store) (s .capacity) (a .core .stored))
+sound-for a tick = a .isSound
+sound-for a (ack v d config) = a .isSound
+sound-for a (move v m) = a .isSound
 
 -- so that a call is judged by its own checks
 pub answer-checks : {w : ℕ} {h : History} {s : State} {store : List ℕ} → Agrees w h s store → (table : List ℕ) (room : ℕ) (k : Call)
@@ -169,8 +137,10 @@ never-unsound w table room (move v (malformed a)) s store f = judge-other unsoun
 -- the record at place i of the queue is that of its place in the history
 held-entry : {w : ℕ} {h : History} {s : State} {store : List ℕ} → Agrees w h s store → (i : ℕ) → i < s .queue .count
     → getD (h .ledger .records) (h .ledger .released + i) noEntry ≡ heldAt s store i
-unfolding recordAt
-held-entry a i g = a .core .stock .same i g
+held-entry {h} {s} {store} a i g =
+    sym (getD-drop (h .ledger .released) (h .ledger .records) i noEntry)
+    ∙ ap (λ (hs : List Entry). getD hs i noEntry) (a .core .behind)
+    ∙ held-read s store i g
 
 -- ---- a call
 
@@ -179,20 +149,25 @@ abbrev pub sessionAt : ℕ → State → Session
 sessionAt w s = record { width = w; settings = s .settings }
 
 module _ (w : ℕ) (table : List ℕ) (room : ℕ) (h : History) (s : State) (store : List ℕ) (wide : 64 < modulus w) (a : Agrees w h s store) where
+  -- what the sound state is known by
+  facts : SoundFacts s
+  facts = sound-facts s (a .isSound)
+
   -- an accepted call
   accept-keeps : (k : Call) → InRange w k → judge (checks w table room k s store) ≡ done
       → Agrees w (afterAccepted w (s .settings) k h) (settled (after w k s)) (storeAfter k s store)
   unfolding afterAccepted settled
   accept-keeps k r e =
       let same : after w k s .settings ≡ s .settings = after-settings w k s in
-      let z : after w k s .delivery ≡ deliveryAfter w (s .settings) k (h .ledger) (s .delivery) = call-delivery w (h .ledger) s store wide (a .core) table room k r e in
+      let z : after w k s .delivery ≡ deliveryAfter w (s .settings) k (h .ledger) (s .delivery) = call-delivery w (h .ledger) s store wide (a .isSound) (a .sized) (a .core) table room k r e in
       let l : Ledger = ledgerAfter w (s .settings) k (s .delivery) (h .ledger) in
-      let c = settle-keeps (call-keeps w (h .ledger) s store wide (a .core) table room k r e) in
+      let c = settle-keeps (call-keeps w (h .ledger) s store wide (a .isSound) (a .sized) (a .core) table room k r e) in
       let q : changed (after w k s .settings) (after w k s .delivery) ≡ changed (s .settings) (deliveryAfter w (s .settings) k (h .ledger) (s .delivery)) =
       λ i. changed (same i) (z i) in
       rw (a .delivery) (record {
         delivery = λ i. settle (sym same i) (sym z i);
-        choice = settle-choice (after w k s .settings) (after w k s .delivery);
+        isSound = accepted-sound w table room k s store (a .sized) (a .isSound) e;
+        sized = after-sized s (a .sized) facts w table room k store e;
         core = subst (λ (b : Bool). Core w (begun b l) (settled (after w k s)) (storeAfter k s store)) q c;
       })
 
@@ -238,7 +213,7 @@ module _ (w : ℕ) (table : List ℕ) (room : ℕ) (h : History) (s : State) (st
   next-written g =
       let e = next-entry g in
       let c = a .core in
-      rw (a .delivery, e, c .starts, held-dsn w (h .ledger) s store wide c (s .delivery .sent), duplicate-at (s .delivery .active) g) refl
+      rw (a .delivery, e, c .starts, held-dsn w (h .ledger) s store wide (a .isSound) (a .sized) c (s .delivery .sent), duplicate-at (s .delivery .active) g) refl
 
   -- ---- the refusals that are due
 
@@ -249,12 +224,12 @@ module _ (w : ℕ) (table : List ℕ) (room : ℕ) (h : History) (s : State) (st
   unfolding sumOf
   octets-held =
       let n : ℕ = s .queue .count in
-      sym (zero-add (octetsIn (held s store))) ∙ held-octets s store 0 n (omega (arith, a .core .stock .lengths, a .core .stock .few)) ∙ ap (λ (i : ℕ). sumOf (take i (s .queue .lengths))) (zero-add n)
+      sym (zero-add (octetsIn (held s store))) ∙ held-octets s store 0 n (omega (arith, a .sized .lengths, facts .numbers .few)) ∙ ap (λ (i : ℕ). sumOf (take i (s .queue .lengths))) (zero-add n)
 
   due-put : (id : ℕ) (r : List ℕ)
       → judge (checks w table room (put id r) s store) ≡ judge (dueChecks (sessionAt w s) (length store) room table h (held s store) (put id r))
   unfolding checks
-  due-put id r = rw (count-held, octets-held, a .core .stock .stored) refl
+  due-put id r = rw (count-held, octets-held, a .core .stored) refl
 
   due-next : judge (checks w table room nextData s store) ≡ judge (dueChecks (sessionAt w s) (length store) room table h (held s store) nextData)
   unfolding checks
@@ -290,8 +265,8 @@ module _ (w : ℕ) (table : List ℕ) (room : ℕ) (h : History) (s : State) (st
       let l = h .ledger in
       rw (
         a .delivery,
-        reached-test w (s .settings) wide (s .delivery .reached) (l .released) (ackCount w s d) d (omega (arith, c .reached, c .stock .few))
-            (ack-below w l s store wide c d) (ack-dsn w l s store wide c d r),
+        reached-test w (s .settings) wide (s .delivery .reached) (l .released) (ackCount w s d) d (omega (arith, facts .numbers .reachedHeld, facts .numbers .few))
+            (ack-below w l s store wide (a .isSound) (a .sized) c d) (ack-dsn w l s store wide (a .isSound) (a .sized) c d r),
       ) refl
 
   due-answer : (k : Call) → InRange w k
@@ -321,7 +296,7 @@ module _ (w : ℕ) (table : List ℕ) (room : ℕ) (h : History) (s : State) (st
       → dsnOf w (s .settings) q ≡ dsnOf w (s .settings) (nextPlace h) → q ≡ nextPlace h
   stands-for e q lo hi x =
       one-place w (s .settings) wide q (nextPlace h) (omega (arith, next-place))
-      (omega (arith, next-place, sent-held e, a .core .stock .few)) x
+      (omega (arith, next-place, sent-held e, facts .numbers .few)) x
 
   next-accepted : judge (checks w table room nextData s store) ≡ done → nextPlace h ≤ length (h .ledger .records)
   next-accepted e = omega (arith, next-place, sent-held e, a .core .stock .counted)
@@ -330,17 +305,17 @@ module _ (w : ℕ) (table : List ℕ) (room : ℕ) (h : History) (s : State) (st
   names-one v d config b e =
       let l = h .ledger in
       let c = a .core in
-      let n : ackCount w s d ≤ s .delivery .reached = acked w l s store wide c table room v d config e in
-      let y : ackPlace w (s .settings) l d ≡ l .released + ackCount w s d = ack-named w l s store wide c d b n in
-      let x : dsnOf w (s .settings) (ackPlace w (s .settings) l d) ≡ d = rw y (ack-dsn w l s store wide c d b) in
+      let n : ackCount w s d ≤ s .delivery .reached = acked w l s store wide (a .isSound) (a .sized) c table room v d config e in
+      let y : ackPlace w (s .settings) l d ≡ l .released + ackCount w s d = ack-named w l s store wide (a .isSound) (a .sized) c d b n in
+      let x : dsnOf w (s .settings) (ackPlace w (s .settings) l d) ≡ d = rw y (ack-dsn w l s store wide (a .isSound) (a .sized) c d b) in
       record {
         from = omega arith;
-        upTo = omega (arith, c .reached, c .stock .few);
+        upTo = omega (arith, facts .numbers .reachedHeld, facts .numbers .few);
         carries = x;
         only = λ q lo hi k.
             one-place w (s .settings) wide q (ackPlace w (s .settings) l d)
-            (omega (arith, c .reached, c .stock .few)) (omega (arith, c .reached, c .stock .few)) (k ∙ sym x);
-        accepted = omega (arith, c .reached, c .stock .counted);
+            (omega (arith, facts .numbers .reachedHeld, facts .numbers .few)) (omega (arith, facts .numbers .reachedHeld, facts .numbers .few)) (k ∙ sym x);
+        accepted = omega (arith, facts .numbers .reachedHeld, c .stock .counted);
       }
 
   ledger-releases : (k : Call) → InRange w k → judge (checks w table room k s store) ≡ done → (q : ℕ) → h .ledger .released < q
@@ -353,14 +328,14 @@ module _ (w : ℕ) (table : List ℕ) (room : ℕ) (h : History) (s : State) (st
   ledger-releases (ack v d config) i e q lo hi =
       let t = passed (checks w table room (ack v d config) s store) tt e in
       let active : s .delivery .active ≡ Server v = same-active (s .delivery .active) (Server v) (not-false (sameActive (s .delivery .active) (Server v)) (t .1 .0)) in
-      let n : ackCount w s d ≤ s .delivery .reached = acked w (h .ledger) s store wide (a .core) table room v d config e in
+      let n : ackCount w s d ≤ s .delivery .reached = acked w (h .ledger) s store wide (a .isSound) (a .sized) (a .core) table room v d config e in
       record {
         server = v;
         dsn = d;
         config = config;
         acknowledges = refl;
         isActive = ap (λ (x : Delivery). x .active) (a .delivery) ∙ active;
-        wasWritten = a .core .since v q active lo (omega (arith, ack-named w (h .ledger) s store wide (a .core) d i n));
+        wasWritten = a .core .since v q active lo (omega (arith, ack-named w (h .ledger) s store wide (a .isSound) (a .sized) (a .core) d i n));
       }
 
   due-putting : (id : ℕ) (r : List ℕ) → isSessions (s .settings) table ≡ true → isMissing table id ≡ false
@@ -428,15 +403,7 @@ module _ (w : ℕ) (table : List ℕ) (room : ℕ) (h : History) (s : State) (st
 pub account-of : {w : ℕ} {h : History} {s : State} {store : List ℕ} → Agrees w h s store → Account (h .ledger) (held s store)
 account-of {w} {h} {s} {store} a =
     let l = h .ledger in
-    let k = a .core .stock in
-    let n : length (held s store) ≡ s .queue .count = held-length s store 0 (s .queue .count) in
-    let ld : length (drop (l .released) (l .records)) ≡ length (l .records) - l .released = length-drop (l .released) (l .records) in
-    let e : drop (l .released) (l .records) ≡ held s store =
-    ext-getD noEntry (drop (l .released) (l .records)) (held s store) (omega (arith, n, ld, k .counted))
-    (λ i g.
-    let b : i < s .queue .count = omega (arith, ld, k .counted) in
-    getD-drop (l .released) (l .records) i noEntry ∙ held-entry a i b ∙ ap (heldAt s store) (sym (zero-add i)) ∙ sym (held-at s store 0 (s .queue .count) i b)) in
     record {
-      accounted = sym (take-append-drop (l .released) (l .records)) ∙ ap (λ (t : List Entry). take (l .released) (l .records) ++ t) e;
-      counted = omega (arith, n, k .counted);
+      accounted = sym (take-append-drop (l .released) (l .records)) ∙ ap (λ (t : List Entry). take (l .released) (l .records) ++ t) (a .core .behind);
+      counted = ap (λ (n : ℕ). l .released + n) (held-length s store 0 (s .queue .count)) ∙ a .core .stock .counted;
     }

@@ -1,9 +1,9 @@
--- Demand 3: what is claimed of every list of calls holds, by what holds between the history and the exporter after each of them.
--- Assumes nothing.
+-- Demand 3: what is claimed of every list of calls holds. History and exporter agree after set-up, each call keeps that (`Calls`), and what
+-- is claimed of a call or of the list follows from it. Assumes nothing.
 use mathlib.Core.Path.{_≡_, refl, sym, ap, _∙_, subst}
 use mathlib.Core.Bool.{Bool, true, false, not, cond, false≢true}
 use mathlib.Core.List.{List, [], _∷_, _++_}
-use Prim.Native.Nat.{ℕ, _+_, _-_, _<_}
+use Prim.Native.Nat.{ℕ, _-_, _<_}
 use native.Mathlib.Omega.{arith}
 use lib.Dec.{eqb}
 use lib.ListN.{length}
@@ -15,20 +15,19 @@ use Rattle.wire.specs.Messages as wire
 use Rattle.wire.specs.declared.message.Message.{Message}
 use Rattle.wire.specs.declared.message.Message.the-variants.{Start, StartAck, Stop, StopAck, TmplData, FinalTmplDataAck, StartNegotiate, StartNegotiateAck, Data, DataAck}
 use Rattle.exporter.specs.Servers.{start, stop, negotiate, offer, down, agree, malformed, changed, Transition}
-use Rattle.exporter.specs.Queue.{sumOf, held}
+use Rattle.exporter.specs.Queue.{heldFrom, held}
 use Rattle.exporter.specs.Sound.{settingsSound}
 use Rattle.exporter.specs.Steps.{modulus, Call, put, nextData, tick, ack, move, isReceived, formAnswer, callOfMessage, received, written, checks, answer, after, settled, storeAfter, Outcome, step, fresh, refusedState, setUp}
-use Rattle.exporter.specs.History.{History, deliveryAfter, ledgerAfter, afterAccepted, afterCall, freshHistory, writtenTo, writtenDuring}
+use Rattle.exporter.specs.History.{History, deliveryAfter, ledgerAfter, afterAccepted, afterCall, freshHistory, anyWriting}
 use Rattle.exporter.specs.Claim.{Event, Put, NextData, Receive, OfferTemplates, LineDown, Tick, Session, Exporter, outcome, storeLeft, advance, run, begin, Heard, callOf, transcript, historyFrom, Premises, InRange, AllInRange, roomOf, tableOf, nextPlace, CallClaim, namedBy, lastNamed, Calls, historyOf, Demand3, AllOctets, sessionOf32, Demand3Of32}
 use Rattle.exporter.specs.declared.state.Settings.{Settings}
 use Rattle.exporter.specs.declared.state.State.{State}
 use Rattle.exporter.specs.declared.state.Made.{Made}
-use Rattle.exporter.proofs.SoundFacts.{settings-facts}
 use Rattle.exporter.proofs.Places.{wide-modulus, dsn-first}
 use Rattle.exporter.proofs.Agrees.{Agrees}
-use Rattle.exporter.proofs.Choice.{all-closed}
+use Rattle.exporter.proofs.SoundKept.{fresh-sound}
 use Rattle.exporter.proofs.Keeps.{begun-released, written-released}
-use Rattle.exporter.proofs.Calls.{sound-of, step-settings, step-keeps, judge-other, Fair, call-claim, account-of}
+use Rattle.exporter.proofs.Calls.{step-settings, step-keeps, judge-other, Fair, call-claim, account-of}
 
 -- ---- what a call is lent
 
@@ -251,38 +250,22 @@ set-up p room e = go (settingsSound p room) refl e
 
 fresh-agrees : (w : ℕ) (p : Settings) (store : List ℕ) → 64 < modulus w → settingsSound p (length store) ≡ true → p .initial < modulus w
     → Agrees w freshHistory (fresh p (length store)) store
-unfolding fresh freshHistory writtenTo writtenDuring sumOf
+unfolding fresh freshHistory anyWriting heldFrom
 fresh-agrees w p store wide e i =
-    let f = settings-facts p (length store) e in
     record {
       delivery = refl;
-      choice = sym (all-closed (p .priorities) 8 (p .servers));
+      isSound = fresh-sound p (length store) e;
+      sized = record { lengths = refl; templates = refl; receivers = refl };
       core = record {
-        limits = f;
+        stored = refl;
+        behind = refl;
         stock = record {
-          stored = refl;
-          lengths = refl;
-          templates = refl;
-          receivers = refl;
-          few = omega arith;
           counted = refl;
-          same = λ j h. let y : ⊥ = omega arith in absurd y;
-          short = λ j h. let y : ⊥ = omega arith in absurd y;
-          fits = omega arith;
-          inside = omega (arith, f .someRoom);
           following = dsn-first w p wide i;
           marks = λ j v h. let y : ⊥ = omega arith in absurd y;
-          known = λ j h. let y : ⊥ = omega arith in absurd y;
           places = λ k v h. refl;
           existing = λ k v x. absurd (false≢true x);
         };
-        reached = omega arith;
-        sent = omega arith;
-        timer = omega (arith, f .someDuration);
-        idle = λ x. refl;
-        rest = λ x. refl;
-        below = λ v x. let y : _≡_ {A = ℕ} 0 1 = cc in omega arith;
-        due = λ x. refl;
         starts = refl;
         later = λ k h. refl;
         since = λ v k x lo hi. let y : ⊥ = omega arith in absurd y;
@@ -311,9 +294,9 @@ demand3 z store m es i =
       account = account-of (c .agrees);
       last = last-named (z .width) (z .settings) freshHistory 0 (transcript z (begin z store) es) refl;
       calls = each-call z wide (begin z store) freshHistory es i k;
-      isSound = sound-of (c .agrees);
+      isSound = c .agrees .isSound;
       settings = c .settings;
-      stored = c .agrees .core .stock .stored;
+      stored = c .agrees .core .stored;
       agrees = c .agrees .delivery;
     }
 

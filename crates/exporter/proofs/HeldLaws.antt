@@ -1,4 +1,6 @@
--- Laws of the list of held records: what is read of it, what a put adds to it, and what a release takes from it. Assumes nothing.
+-- Laws of the list of held records: what is read of it, what a put adds to it, and what a release takes from it. A put writes its octets
+-- behind all held ones, and a release moves the ring's start by the octets released, so that every other record is read as before.
+-- Assumes nothing.
 use mathlib.Core.Path.{_≡_, refl, sym, ap, _∙_}
 use mathlib.Core.Bool.{true}
 use mathlib.Core.List.{List, [], _∷_, _++_}
@@ -29,12 +31,19 @@ held-same s store xs l f =
     ext-getD noEntry (held s store) xs (n ∙ sym l)
     (λ i g. let h : i < s .queue .count = omega (arith, n) in held-read s store i h ∙ f i h)
 
+-- a state with as many records, each of them read the same, holds the same
+pub held-kept : (s s′ : State) (store : List ℕ) → s′ .queue .count ≡ s .queue .count → ((i : ℕ) → heldAt s′ store i ≡ heldAt s store i)
+    → held s′ store ≡ held s store
+held-kept s s′ store n f =
+    held-same s′ store (held s store) (held-length s store 0 (s .queue .count) ∙ sym n)
+    (λ i g. f i ∙ sym (held-read s store i (omega (arith, n))))
+
 -- an accepted put leaves the held records and adds its own behind them
-pub held-put : (w : ℕ) (s : State) (store : List ℕ) (id : ℕ) (r : List ℕ) → Sized s → length (s .queue .templates) ≡ 64 → sound s ≡ true
+pub held-put : (w : ℕ) (s : State) (store : List ℕ) (id : ℕ) (r : List ℕ) → Sized (s .queue) → sound s ≡ true
     → length store ≡ s .capacity → s .queue .count < 64 → heldOctets (s .queue) + length r ≤ s .capacity
     → held (after w (put id r) s) (storeAfter (put id r) s store) ≡ held s store ++ (record { template = id; octets = r } ∷ [])
 unfolding after storeAfter pushed recordAt
-held-put w s store id r z t e stored free fit =
+held-put w s store id r z e stored free fit =
     let q = s .queue in
     let n : ℕ = q .count in
     let y : Entry = record { template = id; octets = r } in
@@ -43,7 +52,7 @@ held-put w s store id r z t e stored free fit =
     let at : ℕ = s .start + heldOctets q in
     let roomy : 0 < s .capacity = omega (arith, sound-facts s e .numbers .settings .someRoom) in
     let nl : n < length (q .lengths) = omega (arith, z .lengths) in
-    let nt : n < length (q .templates) = omega arith in
+    let nt : n < length (q .templates) = omega (arith, z .templates) in
     let l : length (held s store) ≡ n = held-length s store 0 n in
     let earlier : (i : ℕ) → i < n → heldAt s′ store′ i ≡ getD (held s store ++ (y ∷ [])) i noEntry =
     λ i h.
@@ -69,10 +78,10 @@ held-put w s store id r z t e stored free fit =
     (λ i h. last-cases (λ i. heldAt s′ store′ i ≡ getD (held s store ++ (y ∷ [])) i noEntry) n i h (earlier i) (latest ∙ sym seam))
 
 -- a release takes the acknowledged records from the front and leaves the rest
-pub held-release : (w : ℕ) (s : State) (store : List ℕ) (v dsn config : ℕ) → Sized s → length (s .queue .templates) ≡ 64 → sound s ≡ true
+pub held-release : (w : ℕ) (s : State) (store : List ℕ) (v dsn config : ℕ) → Sized (s .queue) → sound s ≡ true
     → ackCount w s dsn ≤ s .queue .count → held (after w (ack v dsn config) s) store ≡ drop (ackCount w s dsn) (held s store)
 unfolding after dropFront recordAt
-held-release w s store v dsn config z t e b =
+held-release w s store v dsn config z e b =
     let q = s .queue in
     let n : ℕ = ackCount w s dsn in
     let s′ : State = after w (ack v dsn config) s in
@@ -88,7 +97,7 @@ held-release w s store v dsn config z t e b =
     rw (
       getD-drop n (held s store) i noEntry,
       held-read s store (n + i) (omega arith),
-      shifted-at (q .templates) n i (omega arith),
+      shifted-at (q .templates) n i (omega (arith, z .templates)),
       shifted-at (q .lengths) n i (omega (arith, z .lengths)),
       read-same (s .capacity) store ((s .start + octetsTo q n) % s .capacity + rest)
           (s .start + octetsTo q (n + i)) (getD (q .lengths) (n + i) 0) ring,

@@ -12,11 +12,11 @@ pub mod Acks
 pub mod Places
 pub mod RingLaws
 pub mod QueueLaws
+pub mod SoundKept
+pub mod HeldLaws
 pub mod Agrees
 pub mod Keeps
 pub mod Calls
 pub mod Demand
 pub mod Examples
-pub mod SoundKept
-pub mod HeldLaws
 pub mod Written

@@ -1,4 +1,6 @@
--- Laws of the queue: sums and entries after a put and after a release, sets of servers, and the list of held records. Assumes nothing.
+-- Laws of the queue: sums and entries after a put and after a release, sets of servers, the writings, and the list of held records. A put
+-- replaces one entry and a release moves all of them to the front, so that sums split there; a set is the bits of a number.
+-- Assumes nothing.
 use mathlib.Core.Path.{_≡_, refl, sym, ap, _∙_}
 use mathlib.Core.Logic.{_≢_}
 use mathlib.Core.Bool.{Bool, true, false, not, _&&_, _||_, false≢true}
@@ -15,7 +17,7 @@ use lib.Seq.{getD-set-same, getD-set-other, getD-drop, take-append-le, take-add,
 use borrow.Author.Tests.{eqb-true, eqb-false, eq-eqb, ne-eqb, not-true}
 use Rattle.wire.proofs.Each.{and-left, and-right}
 use Rattle.exporter.specs.Queue.{Entry, sumOf, has, with, hasOther, shifted, recordAt, heldFrom}
-use Rattle.exporter.specs.History.{Writing, writtenTo}
+use Rattle.exporter.specs.History.{Writing, anyWriting}
 use Rattle.exporter.specs.Claim.{writtenToOther, octetsIn}
 use Rattle.exporter.specs.declared.state.State.{State}
 use Rattle.exporter.proofs.Arrays.{sum-append, sum-more}
@@ -143,28 +145,46 @@ other-found (suc n) v m u h k e = go (ℕ-discrete u n) (λ b. other-found n v m
     go (yes z) ih = rw (ne-eqb n v (λ y. k (z ∙ y)), ← z, e)
     go (no z) ih = or-right (not (eqb n v) && has m n) (hasOther n v m) (ih (omega arith))
 
+-- ---- writings
+
+-- a writing that passes a test, and by which any other test that it passes is passed too
+pub record Found (test : Writing → Bool) (ws : List Writing) : Type 0 where
+  pub writing : Writing
+  pub passes : test writing ≡ true
+  pub among : (other : Writing → Bool) → other writing ≡ true → anyWriting other ws ≡ true
+
+pub find-writing : (test : Writing → Bool) (ws : List Writing) → anyWriting test ws ≡ true → Found test ws
+unfolding anyWriting
+find-writing test [] e = absurd (false≢true e)
+find-writing test (x ∷ ws) e =
+    or-elim (test x) (anyWriting test ws) e
+    (λ z. record { writing = x; passes = z; among = λ other y. rw y refl })
+    (λ z.
+    let f = find-writing test ws z in
+    record { writing = f .writing; passes = f .passes; among = λ other y. or-right (other x) (anyWriting other ws) (f .among other y) })
+
+-- place q was written to server v
+abbrev pub writtenTo : List Writing → ℕ → ℕ → Bool
+writtenTo ws q v = anyWriting (λ x. eqb (x .place) q && eqb (x .server) v) ws
+
 -- a server other than v that place q was written to
 written-other-some : (ws : List Writing) (q v : ℕ) → writtenToOther ws q v ≡ true → (u : ℕ) × (u ≢ v) × (writtenTo ws q u ≡ true)
-unfolding writtenToOther writtenTo
-written-other-some [] q v e = absurd (false≢true e)
-written-other-some (x ∷ ws) q v e =
-    or-elim (eqb (x .place) q && not (eqb (x .server) v)) (writtenToOther ws q v) e
-    (λ z. (
-      x .server,
-      eqb-false (x .server) v (not-true (eqb (x .server) v) (and-right (eqb (x .place) q) (not (eqb (x .server) v)) z)),
-      rw (and-left (eqb (x .place) q) (not (eqb (x .server) v)) z, eq-eqb (x .server) (x .server) refl) refl,
-    ))
-    (λ z. let y = written-other-some ws q v z in (y .0, y .1, or-right (eqb (x .place) q && eqb (x .server) (y .0)) (writtenTo ws q (y .0)) (y .2)))
+written-other-some ws q v e =
+    let f = find-writing (λ x. eqb (x .place) q && not (eqb (x .server) v)) ws e in
+    let p = eqb (f .writing .place) q in
+    let u = f .writing .server in (
+      u,
+      eqb-false u v (not-true (eqb u v) (and-right p (not (eqb u v)) (f .passes))),
+      f .among (λ x. eqb (x .place) q && eqb (x .server) u) (rw (and-left p (not (eqb u v)) (f .passes), eq-eqb u u refl) refl),
+    )
 
 written-other-found : (ws : List Writing) (q v u : ℕ) → u ≢ v → writtenTo ws q u ≡ true → writtenToOther ws q v ≡ true
-unfolding writtenToOther writtenTo
-written-other-found [] q v u n e = absurd (false≢true e)
-written-other-found (x ∷ ws) q v u n e =
-    or-elim (eqb (x .place) q && eqb (x .server) u) (writtenTo ws q u) e
-    (λ z.
-    let su : x .server ≡ u = eqb-true (x .server) u (and-right (eqb (x .place) q) (eqb (x .server) u) z) in
-    rw (and-left (eqb (x .place) q) (eqb (x .server) u) z, ne-eqb (x .server) v (λ y. n (sym su ∙ y))) refl)
-    (λ z. or-right (eqb (x .place) q && not (eqb (x .server) v)) (writtenToOther ws q v) (written-other-found ws q v u n z))
+written-other-found ws q v u n e =
+    let f = find-writing (λ x. eqb (x .place) q && eqb (x .server) u) ws e in
+    let p = eqb (f .writing .place) q in
+    let s = f .writing .server in
+    let same : s ≡ u = eqb-true s u (and-right p (eqb s u) (f .passes)) in
+    f .among (λ x. eqb (x .place) q && not (eqb (x .server) v)) (rw (and-left p (eqb s u) (f .passes), ne-eqb s v (λ y. n (sym same ∙ y))) refl)
 
 -- where the set has the servers that place q was written to, D is the same by both
 pub duplicate-same : (n v m : ℕ) (ws : List Writing) (q : ℕ) → ((u : ℕ) → has m u ≡ writtenTo ws q u) → ((u : ℕ) → writtenTo ws q u ≡ true → u < n)

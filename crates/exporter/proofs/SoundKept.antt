@@ -1,5 +1,8 @@
--- Set-up gives a sound state, and every call keeps a state sound, whatever its history. Assumes nothing.
+-- Set-up gives a sound state, and every call keeps a state sound, whatever its history. A call is accepted only within the limits that
+-- soundness sets; it fills one entry, marks one, or moves all to the front, and leaves the others; then the choice is made anew.
+-- Assumes nothing.
 use mathlib.Core.Path.{_≡_, refl, sym, ap, _∙_}
+use mathlib.Core.Logic.{_≢_}
 use mathlib.Core.Bool.{Bool, true, false, not, _||_, cond, false≢true}
 use mathlib.Core.List.{List, _∷_}
 use Prim.Native.Nat.{ℕ, _+_, _-_, _%_, _^_, _≤_, _<_}
@@ -7,17 +10,19 @@ use native.Mathlib.Nat.{mod-lt}
 use native.Mathlib.Decide.{ℕ-discrete}
 use native.Mathlib.Omega.{arith}
 use lib.Bits.{or-lt}
-use lib.Dec.{eqb}
+use lib.Dec.{eqb, ltb}
 use lib.ListN.{length, getD, set, length-set}
 use lib.Pow.{pow-pos, pow-lt}
 use lib.Seq.{getD-set-same, getD-set-other}
-use borrow.Author.Tests.{leb-false, ltb-false, eqb-true, eq-eqb}
+use borrow.Author.Tests.{leb-false, ltb-false, eqb-true, eqb-false, eq-eqb}
 use Rattle.octets.specs.Answers.{_when_, judge, done, unsoundState, settingsOutsideLimits}
 use Rattle.octets.proofs.Judging.{passed}
-use Rattle.exporter.specs.Servers.{chosen, changed, settle, withServers, withCounts, transition, sentOne, acknowledged, ticked}
+use Rattle.exporter.specs.Servers.{isNobody, chosen, changed, settle, withServers, withCounts, transition, sentOne, acknowledged, lateServers, anotherAgreed, expired, tickedFor, ticked}
 use Rattle.exporter.specs.Queue.{sumOf, octetsTo, heldOctets, has, with, pushed, dropFront, marked}
 use Rattle.exporter.specs.Sound.{maxHeld, maxRecordOctets, settingsSound, sound}
-use Rattle.exporter.specs.Steps.{Call, put, nextData, tick, ack, move, ackCount, checks, soundFor, answer, withDelivery, after, settled, step, fresh, refusedState, setUp}
+use Rattle.exporter.specs.Steps.{Call, put, nextData, tick, ack, move, ackCount, checks, soundFor, answer, withDelivery, markedFor, after, settled, step, fresh, refusedState, setUp}
+use Rattle.exporter.specs.declared.state.Server as serverOf
+use Rattle.exporter.specs.declared.state.Active.{Active}
 use Rattle.exporter.specs.declared.state.Active.the-variants.{Nobody, Server}
 use Rattle.exporter.specs.declared.state.Settings.{Settings}
 use Rattle.exporter.specs.declared.state.Delivery.{Delivery}
@@ -28,8 +33,7 @@ use Rattle.exporter.proofs.Arrays.{sum-more}
 use Rattle.exporter.proofs.SoundFacts.{SettingsFacts, NumbersFacts, IdleFacts, SoundFacts, settings-facts, sound-facts, facts-sound}
 use Rattle.exporter.proofs.Choice.{chosen-below, settle-choice, all-closed}
 use Rattle.exporter.proofs.Changes.{step-done, step-refused}
-use Rattle.exporter.proofs.QueueLaws.{set-cases, shifted-at, sum-set, sum-shifted, has-with}
-use Rattle.exporter.proofs.Keeps.{Calm, move-calm, tick-calm, active-some}
+use Rattle.exporter.proofs.QueueLaws.{set-cases, shifted-length, shifted-at, sum-set, sum-shifted, has-with}
 
 -- ---- set-up
 
@@ -59,7 +63,7 @@ unsent-facts s z p few inside short known fits choice =
     }
 
 -- a state that holds nothing is sound where its settings are
-fresh-sound : (p : Settings) (capacity : ℕ) → settingsSound p capacity ≡ true → sound (fresh p capacity) ≡ true
+pub fresh-sound : (p : Settings) (capacity : ℕ) → settingsSound p capacity ≡ true → sound (fresh p capacity) ≡ true
 unfolding fresh sumOf
 fresh-sound p capacity e =
     let f = settings-facts p capacity e in
@@ -83,9 +87,10 @@ set-up-sound p capacity = go (settingsSound p capacity) refl
 -- ---- the choice
 
 -- the arrays have their 64 entries, as the code's types have it
-pub record Sized (s : State) : Type 0 where
-  pub lengths : length (s .queue .lengths) ≡ 64
-  pub receivers : length (s .queue .receivers) ≡ 64
+pub record Sized (q : Queue) : Type 0 where
+  pub lengths : length (q .lengths) ≡ 64
+  pub templates : length (q .templates) ≡ 64
+  pub receivers : length (q .receivers) ≡ 64
 
 -- what a state is known by before the choice is made anew: all that a sound one is, except the choice
 record Fit (s : State) : Type 0 where
@@ -127,17 +132,62 @@ settle-fit s f = facts-sound (settled s) (go (changed (s .settings) (s .delivery
     go false e =
         record { numbers = f .numbers; short = f .short; known = f .known; fits = f .fits; choice = e; idle = f .idle; received = f .received }
 
+-- ---- deliveries with the same choice, and as many records reached
+
+pub record Calm (p : Settings) (d e : Delivery) : Type 0 where
+  pub active : e .active ≡ d .active
+  pub reached : e .reached ≡ d .reached
+  pub sent : e .sent ≤ d .sent
+  pub timer : d .timer < p .duration → e .timer < p .duration
+  pub rest : d .active ≡ Nobody → d .timer ≡ 0 → e .timer ≡ 0
+
+-- moved servers
+pub move-calm : {p : Settings} {d : Delivery} (servers : List serverOf.Server) → Calm p d (withServers d servers)
+move-calm servers = record { active = refl; reached = refl; sent = omega arith; timer = λ h. h; rest = λ e h. h }
+
+-- a tick
+pub tick-calm : (p : Settings) (d : Delivery) → 0 < p .duration → Calm p d (ticked p d)
+unfolding ticked expired
+tick-calm p d patient = go (d .active) refl
+  where
+    go : (a : Active) → d .active ≡ a → Calm p d (tickedFor p d a)
+    go Nobody e = record { active = refl; reached = refl; sent = omega arith; timer = λ h. patient; rest = λ x h. refl }
+    go (Server v) e = at (ltb (d .reached) (p .threshold)) (eqb (d .timer + 1) (p .duration)) refl (anotherAgreed p v d)
+      where
+        never : {X : Type 0} → d .active ≡ Nobody → X
+        never x = let z : _≡_ {A = ℕ} 0 1 = cc in let y : ⊥ = omega arith in absurd y
+
+        at : (a b : Bool) → eqb (d .timer + 1) (p .duration) ≡ b → (k : Bool)
+            → Calm p d (cond a (withCounts d (d .sent) (d .reached) 0)
+            (cond b (cond k (withCounts (withServers d (lateServers d v)) (d .sent) (d .reached) 0) (withCounts d 0 (d .reached) 0))
+            (withCounts d (d .sent) (d .reached) (d .timer + 1))))
+        at true b z k = record { active = refl; reached = refl; sent = omega arith; timer = λ h. patient; rest = λ x h. refl }
+        at false true z true = record { active = refl; reached = refl; sent = omega arith; timer = λ h. patient; rest = λ x h. refl }
+        at false true z false = record { active = refl; reached = refl; sent = omega arith; timer = λ h. patient; rest = λ x h. refl }
+        at false false z k =
+            record {
+              active = refl;
+              reached = refl;
+              sent = omega arith;
+              timer = λ h. let y : d .timer + 1 ≢ p .duration = eqb-false (d .timer + 1) (p .duration) z in omega arith;
+              rest = λ x h. never x;
+            }
+
 -- ---- the calls
 
--- a delivery with n records fewer reached and the same choice
-record Lower (p : Settings) (n : ℕ) (d e : Delivery) : Type 0 where
-  active : e .active ≡ d .active
-  reached : e .reached ≡ d .reached - n
-  sent : e .sent ≤ e .reached
-  timer : e .timer < p .duration
-  rest : d .active ≡ Nobody → e .timer ≡ 0
+pub active-some : (a : Active) → isNobody a ≡ false → (v : ℕ) × (a ≡ Server v)
+active-some Nobody e = absurd (false≢true (sym e))
+active-some (Server v) e = (v, refl)
 
-module _ (s : State) (z : Sized s) (f : SoundFacts s) where
+-- a delivery with n records fewer reached and the same choice
+pub record Lower (p : Settings) (n : ℕ) (d e : Delivery) : Type 0 where
+  pub active : e .active ≡ d .active
+  pub reached : e .reached ≡ d .reached - n
+  pub sent : e .sent ≤ e .reached
+  pub timer : e .timer < p .duration
+  pub rest : d .active ≡ Nobody → e .timer ≡ 0
+
+module _ (s : State) (z : Sized (s .queue)) (f : SoundFacts s) where
   -- a queue whose entries are those from n on, and a delivery with n records fewer reached
   lower-fit : (n : ℕ) (d : Delivery) (q : Queue) (start : ℕ) → Lower (s .settings) n (s .delivery) d → start < s .capacity
       → q .count ≡ s .queue .count - n
@@ -186,7 +236,7 @@ module _ (s : State) (z : Sized s) (f : SoundFacts s) where
       (λ i l. ap (λ (j : ℕ). getD (s .queue .receivers) j 0) (omega arith)) (f .fits)
 
   -- a release of n
-  ack-lower : (n : ℕ) → Lower (s .settings) n (s .delivery) (acknowledged n (s .delivery))
+  pub ack-lower : (n : ℕ) → Lower (s .settings) n (s .delivery) (acknowledged n (s .delivery))
   unfolding acknowledged
   ack-lower n = go (eqb n 0) refl
     where
@@ -310,6 +360,46 @@ module _ (s : State) (z : Sized s) (f : SoundFacts s) where
       let servers = transition v m (s .delivery .servers) in
       calm-fit (withServers (s .delivery) servers) (move-calm servers)
 
+  -- it leaves the arrays their 64 entries
+  pub after-sized : (w : ℕ) (table : List ℕ) (room : ℕ) (c : Call) (store : List ℕ) → judge (checks w table room c s store) ≡ done
+      → Sized (after w c s .queue)
+  unfolding checks after pushed marked dropFront
+  after-sized w table room (put id r) store e =
+      let q = s .queue in
+      record {
+        lengths = length-set (q .lengths) (q .count) (length r) ∙ z .lengths;
+        templates = length-set (q .templates) (q .count) id ∙ z .templates;
+        receivers = length-set (q .receivers) (q .count) 0 ∙ z .receivers;
+      }
+  after-sized w table room nextData store e = go (s .delivery .active)
+    where
+      go : (a : Active) → Sized (markedFor a (s .queue) (s .delivery .sent))
+      go Nobody = z
+      go (Server v) =
+          let at : ℕ = s .delivery .sent in
+          record {
+            lengths = z .lengths;
+            templates = z .templates;
+            receivers = length-set (s .queue .receivers) at (with (getD (s .queue .receivers) at 0) v) ∙ z .receivers;
+          }
+  after-sized w table room tick store e = z
+  after-sized w table room (ack v dsn config) store e =
+      let q = s .queue in
+      let n : ℕ = ackCount w s dsn in
+      let b : n ≤ s .delivery .reached = ltb-false _ _ (passed (checks w table room (ack v dsn config) s store) tt e .1 .1 .1 .0) in
+      let h : n ≤ 64 = omega (arith, f .numbers .reachedHeld, f .numbers .few) in
+      record {
+        lengths = shifted-length (q .lengths) n (omega (arith, z .lengths)) ∙ z .lengths;
+        templates = shifted-length (q .templates) n (omega (arith, z .templates)) ∙ z .templates;
+        receivers = shifted-length (q .receivers) n (omega (arith, z .receivers)) ∙ z .receivers;
+      }
+  after-sized w table room (move v m) store e = z
+
+-- an accepted call leaves a sound state
+pub accepted-sound : (w : ℕ) (table : List ℕ) (room : ℕ) (c : Call) (s : State) (store : List ℕ) → Sized (s .queue) → sound s ≡ true
+    → judge (checks w table room c s store) ≡ done → sound (settled (after w c s)) ≡ true
+accepted-sound w table room c s store z e a = settle-fit (after w c s) (after-fit s z (sound-facts s e) w table room c store a)
+
 -- ---- every call
 
 -- an accepted call has passed its own checks
@@ -323,12 +413,11 @@ own-checks w table room c s store = go (not (soundFor c s store))
     go false e = e
 
 -- every call keeps a sound state sound
-pub kept-sound : (w : ℕ) (table : List ℕ) (room : ℕ) (c : Call) (s : State) (store : List ℕ) → Sized s → sound s ≡ true
+pub kept-sound : (w : ℕ) (table : List ℕ) (room : ℕ) (c : Call) (s : State) (store : List ℕ) → Sized (s .queue) → sound s ≡ true
     → sound (step w table room c s store .state) ≡ true
 kept-sound w table room c s store z e = go (ℕ-discrete (answer w table room c s store) 0)
   where
     go : Dec (answer w table room c s store ≡ 0) → sound (step w table room c s store .state) ≡ true
     go (yes a) =
-        rw (step-done w table room c s store a)
-        (settle-fit (after w c s) (after-fit s z (sound-facts s e) w table room c store (own-checks w table room c s store a)))
+        rw (step-done w table room c s store a) (accepted-sound w table room c s store z e (own-checks w table room c s store a))
     go (no n) = rw (step-refused w table room c s store _ n refl) e

@@ -17,7 +17,7 @@ use Rattle.exporter.specs.Servers.{sameActive, isNobody, phaseAt, offer,
 use Rattle.exporter.specs.Queue.{Entry, held}
 use Rattle.exporter.specs.Sound.{sound, maxHeld, maxRecordOctets}
 use Rattle.exporter.specs.Steps.{modulus, Call, put, nextData, tick, ack, move, received, isSessions, replyTo, transitionChecks, Outcome, putStep, nextDataStep, receiveStep, offerStep, lineDownStep, tickStep, setUp}
-use Rattle.exporter.specs.History.{Writing, Ledger, History, dsnOf, placeOf, ackPlace, afterCall, freshHistory, writtenIn, writtenDuring}
+use Rattle.exporter.specs.History.{Writing, Ledger, History, dsnOf, placeOf, ackPlace, afterCall, freshHistory, anyWriting, writtenIn, writtenDuring}
 use Rattle.exporter.specs.declared.state.Active.{Active}
 use Rattle.exporter.specs.declared.state.Active.the-variants as active
 use Rattle.exporter.specs.declared.state.Settings.{Settings}
@@ -155,9 +155,8 @@ abbrev pub nextPlace : History → ℕ
 nextPlace h = h .ledger .released + (h .delivery .sent + 1)
 
 -- Place q was written to a server other than v.
-unfoldable pub writtenToOther : List Writing → ℕ → ℕ → Bool
-writtenToOther [] q v = false
-writtenToOther (x ∷ xs) q v = (eqb (x .place) q && not (eqb (x .server) v)) || writtenToOther xs q v
+abbrev pub writtenToOther : List Writing → ℕ → ℕ → Bool
+writtenToOther ws q v = anyWriting (λ x. eqb (x .place) q && not (eqb (x .server) v)) ws
 
 -- D: the place was written to a server other than the active one.
 abbrev pub isDuplicateFor : Active → List Writing → ℕ → Bool

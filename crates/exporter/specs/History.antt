@@ -103,17 +103,15 @@ freshHistory =
 
 -- ---- questions to the writings
 
--- Place q was written to server v.
-unfoldable pub writtenTo : List Writing → ℕ → ℕ → Bool
-writtenTo [] q v = false
-writtenTo (x ∷ xs) q v = (eqb (x .place) q && eqb (x .server) v) || writtenTo xs q v
+-- One of the writings passes a test.
+unfoldable pub anyWriting : (Writing → Bool) → List Writing → Bool
+anyWriting test [] = false
+anyWriting test (x ∷ xs) = test x || anyWriting test xs
 
 -- Place q was written to server v in activation k.
-unfoldable pub writtenIn : List Writing → ℕ → ℕ → ℕ → Bool
-writtenIn [] q v k = false
-writtenIn (x ∷ xs) q v k = (eqb (x .place) q && eqb (x .server) v && eqb (x .activation) k) || writtenIn xs q v k
+abbrev pub writtenIn : List Writing → ℕ → ℕ → ℕ → Bool
+writtenIn ws q v k = anyWriting (λ x. eqb (x .place) q && eqb (x .server) v && eqb (x .activation) k) ws
 
 -- Something was written in activation k.
-unfoldable pub writtenDuring : List Writing → ℕ → Bool
-writtenDuring [] k = false
-writtenDuring (x ∷ xs) k = eqb (x .activation) k || writtenDuring xs k
+abbrev pub writtenDuring : List Writing → ℕ → Bool
+writtenDuring ws k = anyWriting (λ x. eqb (x .activation) k) ws

@@ -12,11 +12,11 @@ use borrow.Author.Tests.{eq-eqb, ne-eqb, eqb-true, leb-true}
 use lib.Dec.{eqb, leb}
 use lib.ListN.{length, drop, length-take, length-drop}
 use Rattle.octets.specs.Answers.{done}
-use Rattle.octets.specs.Numbers.{uintAt, Octets}
+use Rattle.octets.specs.Numbers.{Octets}
 use Rattle.octets.proofs.Numbers.{uint-below}
 use Rattle.wire.specs.Each.{every}
 use Rattle.exporter.specs.Steps.{setUp}
-use Rattle.exporter.specs.Claim.{Event, Put, NextData, Receive, OfferTemplates, LineDown, Tick, Session, sessionOf32, Exporter, outcome, storeLeft, advance, begin, AllOctets}
+use Rattle.exporter.specs.Claim.{Event, Put, NextData, Receive, OfferTemplates, LineDown, Tick, sessionOf32, Exporter, outcome, storeLeft, advance, begin, AllOctets}
 use Rattle.exporter.proofs.Demand.{demand3of32}
 use Rattle.exporter.specs.declared.state.Settings.{Settings}
 use Rattle.exporter.specs.declared.state.State.{State}
