@@ -13,7 +13,8 @@ use lib.Seq.{sets, length-sets, length-take-le, getD-append-add, getD-append-sea
 use Rattle.octets.specs.Answers.{done, recordInvalid, outputTooShort}
 use Rattle.octets.specs.Numbers.{uintAt, octetsOf}
 use Rattle.octets.proofs.Numbers.{uint-same, uint-front, octets-length, read-back}
-use Rattle.octets.proofs.Stores.{cond-cases, sets-at}
+use Rattle.octets.proofs.Judging.{kept}
+use Rattle.octets.proofs.Stores.{sets-at}
 use Rattle.wire.specs.Each.{every, firstFrom}
 use Rattle.wire.specs.FieldTypes.{widthOf, isNumber, isSigned, booleanType, stringType, terminatedType, blobType}
 use Rattle.wire.specs.Table.{keyAt, keyType}
@@ -25,8 +26,7 @@ use Rattle.wire.specs.declared.walk.Value.{Value}
 use Rattle.wire.specs.declared.walk.Value.the-variants.{Octets, Number, Negative}
 use Rattle.wire.specs.declared.walk.Cursor.{Cursor}
 use Rattle.wire.specs.declared.walk.Step.the-variants as step
-use Rattle.wire.specs.declared.append.Appended.{Appended}
-use Rattle.wire.specs.declared.append.Appended.the-variants.{Next, Refused}
+use Rattle.wire.specs.declared.append.Appended.the-variants.{Refused}
 use Rattle.wire.proofs.Each.{every-at, every-same}
 use Rattle.wire.proofs.TypeFacts.{number-width, signed-number, boolean-unsigned, boolean-width, string-varies, terminated-varies, blob-varies, no-number}
 use Rattle.wire.proofs.Appends.{octets-cases, NumberRange, number-range, negative-range, negative-signed}
@@ -255,12 +255,7 @@ stored-reads-back type value octets out at fits room =
 pub append-answer : (type : ℕ) (value : Value) (octets out : List ℕ) (at : ℕ)
     → appendedAnswer (appendOf type value octets out at) ≡ appendAnswer type value octets out at
 unfolding appendOf
-append-answer type value octets out at =
-    cond-cases (λ (a : Appended). appendedAnswer a ≡ answer) (eqb answer done) (Next (at + length (fieldOctets type value octets))) (Refused answer)
-    (λ e. sym (eqb-true answer done e)) (λ e. refl)
-  where
-    answer : ℕ
-    answer = appendAnswer type value octets out at
+append-answer type value octets out at = kept appendedAnswer _ Refused refl (λ a. refl) (appendAnswer type value octets out at)
 
 -- appending that was done: the value fits and so does its field, and it is read back from the output
 pub append-done : (type : ℕ) (value : Value) (octets out : List ℕ) (at : ℕ) → appendAnswer type value octets out at ≡ done

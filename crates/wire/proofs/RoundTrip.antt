@@ -24,7 +24,7 @@ use Rattle.wire.specs.declared.message.Message.the-variants.{Start, Star
 use Rattle.wire.specs.declared.message.HeaderReading.the-variants as header
 use Rattle.wire.specs.declared.message.Reading.the-variants as reading
 use Rattle.wire.specs.declared.message.Written.the-variants as written
-use Rattle.octets.proofs.Judging.{passed, judged-done}
+use Rattle.octets.proofs.Judging.{passed, judged-done, kept}
 use Rattle.wire.proofs.Messages.{not-both, Readable, readable, reads, part-of-data, part-of-table, part-of-other, message-length, table-small}
 
 -- ---- reading the octets of a layout
@@ -322,14 +322,6 @@ module _ (m : List ℕ) (octet : Octets m) (answer : readAnswer m ≡ done) (pla
   is-layout = each-row (λ n. messageNumber m ≡ n → m ≡ layoutOf (meaningOf m) (partOf m)) forms by-number (messageNumber m) (r .known) refl
 
 -- ---- THE ANSWER NUMBERS: the number of an answer that is an enum is the answer number that it was made from.
-kept : {A : Type 0} (number : A → ℕ) (ok : A) (refusal : ℕ → A) → number ok ≡ done → ((a : ℕ) → number (refusal a) ≡ a)
-    → (a : ℕ) → number (cond (eqb a done) ok (refusal a)) ≡ a
-kept number ok refusal o n a = go (eqb a done) refl
-  where
-    go : (b : Bool) → eqb a done ≡ b → number (cond b ok (refusal a)) ≡ a
-    go true q = o ∙ sym (eqb-true a done q)
-    go false q = n a
-
 pub header-number : (m : List ℕ) → headerReadingAnswer (headerOf m) ≡ headerAnswer m
 unfolding headerOf
 header-number m = kept headerReadingAnswer _ header.Refused refl (λ a. refl) (headerAnswer m)

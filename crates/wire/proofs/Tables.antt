@@ -9,8 +9,10 @@ use native.Mathlib.Numerals.{add-one}
 use borrow.Author.Tests.{ltb-true, ltb-false, leb-true, leb-false, eqb-true, ne-eqb}
 use lib.Dec.{ltb, leb, eqb, lit≤}
 use lib.ListN.{length}
+use Rattle.octets.specs.Answers.{done, templateNotFound}
+use Rattle.octets.proofs.Judging.{kept}
 use Rattle.wire.specs.Each.{every, allOf}
-use Rattle.wire.specs.Table.{keyCount, blockFlags, blockLength, blockOctets, blockEnd, headSound, blockSound, blockAt, blocksSound, templatesDiffer, tableFlags, templateCount, tableSound, isMissing, templateIndex, templateAt, templateOf, locateOf}
+use Rattle.wire.specs.Table.{keyCount, blockFlags, blockLength, blockOctets, blockEnd, headSound, blockSound, blockAt, blocksSound, templatesDiffer, tableFlags, templateCount, tableSound, isMissing, templateIndex, templateAt, templateOf, findAnswer, findOf, locateOf, foundAnswer}
 use Rattle.wire.specs.declared.table.Template.{Template}
 use Rattle.wire.specs.declared.table.Found.the-variants.{At, Refused}
 use Rattle.wire.proofs.Each.{clause-first, clause-rest, clause-last, every-at, every-step, every-intro, and-left, and-right}
@@ -145,6 +147,21 @@ not-located t id a = go (isMissing t id)
     go : (b : Bool) → cond b (Refused 15) (At (templateOf t id)) ≡ Refused a → (b ≡ true) × (a ≡ 15)
     go true e = (refl, cc)
     go false e = let z : _≡_ {A = ℕ} 0 1 = cc in absurd (omega arith)
+
+-- in a sound table finding is locating
+pub find-located : (t : List ℕ) (id : ℕ) → tableSound t ≡ true → findOf t id ≡ locateOf t id
+unfolding findOf locateOf
+find-located t id e = rw e (go (isMissing t id))
+  where
+    go : (b : Bool) → cond (eqb (cond b templateNotFound done) done) (At (templateOf t id)) (Refused (cond b templateNotFound done))
+        ≡ cond b (Refused templateNotFound) (At (templateOf t id))
+    go true = refl
+    go false = refl
+
+-- the answer number of finding a template is the number that it is judged by
+pub found-number : (t : List ℕ) (id : ℕ) → foundAnswer (findOf t id) ≡ findAnswer t id
+unfolding findOf
+found-number t id = kept foundAnswer (At (templateOf t id)) Refused refl (λ a. refl) (findAnswer t id)
 
 pub located-within : (t : List ℕ) (id : ℕ) (m : Template) → tableSound t ≡ true → locateOf t id ≡ At m → m .keys + 12 * m .count ≤ length t
 located-within t id m s e =

@@ -2,14 +2,14 @@
 -- Assumes nothing.
 use Prim.Native.Nat.{ℕ, zero, suc, _+_, _-_}
 use mathlib.Core.Bool.{Bool, cond, not, _&&_, _||_}
-use mathlib.Core.List.{List, [], _∷_}
+use mathlib.Core.List.{List, [], _∷_, _++_}
 use lib.Dec.{eqb, ltb}
 use lib.ListN.{length, getD}
-use Rattle.octets.specs.Answers.{_when_, judge, unsoundTable, templateNotFound, recordInvalid}
+use Rattle.octets.specs.Answers.{_when_, judge, recordInvalid}
 use Rattle.octets.specs.Numbers.{uintAt}
 use Rattle.wire.specs.Each.{every, firstFrom}
 use Rattle.wire.specs.FieldTypes.{widthOf, booleanType, stringType, terminatedType, blobType}
-use Rattle.wire.specs.Table.{keyAt, keyType, isEnabled, tableSound, isMissing, templateOf}
+use Rattle.wire.specs.Table.{keyAt, keyType, isEnabled, templateOf, templateChecks}
 use Rattle.wire.specs.declared.table.Template.{Template}
 
 -- ---- the length of the field that begins at a place of a record, 0 where no valid field of its type does (a field has an octet at least)
@@ -70,8 +70,4 @@ recordValid t m r = every (m .count) (fieldValid t m r) && eqb (fieldAt t m r (m
 -- A record under the template with an ID is judged 21, 15, 16.
 unfoldable pub recordAnswer : List ℕ → ℕ → List ℕ → ℕ
 recordAnswer t id r =
-    judge
-    ((unsoundTable when not (tableSound t))
-    ∷ (templateNotFound when isMissing t id)
-    ∷ (recordInvalid when not (recordValid t (templateOf t id) r))
-    ∷ [])
+    judge (templateChecks t id ++ ((recordInvalid when not (recordValid t (templateOf t id) r)) ∷ []))

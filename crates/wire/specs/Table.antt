@@ -4,7 +4,7 @@ use mathlib.Core.Bool.{Bool, cond, not, _&&_}
 use mathlib.Core.List.{List, [], _∷_}
 use lib.Dec.{eqb, leb}
 use lib.ListN.{length, getD}
-use Rattle.octets.specs.Answers.{done, unsoundTable, templateNotFound}
+use Rattle.octets.specs.Answers.{Check, _when_, judge, done, unsoundTable, templateNotFound}
 use Rattle.octets.specs.Numbers.{uintAt}
 use Rattle.wire.specs.Each.{every, firstFrom, allOf}
 use Rattle.wire.specs.FieldTypes.{isType}
@@ -175,15 +175,23 @@ templateAt t at = record { keys = keysAt t at; count = keyCount t at }
 abbrev pub templateOf : List ℕ → ℕ → Template
 templateOf t id = templateAt t (blockAt t (templateIndex t id))
 
--- 15 for an ID that the table does not have.
+-- What is asked of a template in a table is judged 21, 15: 21 for an unsound table, then 15 for an ID that it does not have.
+abbrev pub templateChecks : List ℕ → ℕ → List Check
+templateChecks t id = (unsoundTable when not (tableSound t)) ∷ (templateNotFound when isMissing t id) ∷ []
+
+-- The answer number of finding a template.
+abbrev pub findAnswer : List ℕ → ℕ → ℕ
+findAnswer t id = judge (templateChecks t id)
+
+-- Finding answers the template or the refusal.
+unfoldable pub findOf : List ℕ → ℕ → Found
+findOf t id = cond (eqb (findAnswer t id) done) (At (templateOf t id)) (Refused (findAnswer t id))
+
+-- The same in a table that is sound: the template, or 15.
 unfoldable pub locateOf : List ℕ → ℕ → Found
 locateOf t id = cond (isMissing t id) (Refused templateNotFound) (At (templateOf t id))
 
--- Finding a template is judged 21, 15.
-unfoldable pub findOf : List ℕ → ℕ → Found
-findOf t id = cond (tableSound t) (locateOf t id) (Refused unsoundTable)
-
--- The answer number of finding a template.
+-- The number of what finding answers: 0, or the refusal's.
 abbrev pub foundAnswer : Found → ℕ
 foundAnswer (At m) = done
 foundAnswer (Refused a) = a
