@@ -14,7 +14,7 @@ use Rattle.octets.specs.Numbers.{octetsOf, putAt}
 use Rattle.octets.proofs.Stores.{put-fits, put-short, sets-append}
 use Rattle.wire.specs.Messages.{Form, ofForm, forms, isMessage, bodyFits, messageNumber, versionOf, lengthField, headerChecks, bodyChecks, headerAnswer, readAnswer, sessionOf, meaningOf, readWhere, readTable, readOf, partAt, partOf, tmplData, dataNumber}
 use Rattle.wire.specs.Table.{tableSound}
-use Rattle.wire.specs.Messages.{headerOctetsOf, messageOf, dataFront, dataHeadOctets, Placed, isTmplData, isData, layoutOf, writeAnswer, writeOf, writeOut}
+use Rattle.wire.specs.Messages.{headerOctetsOf, messageOf, dataFront, dataHeadOctets, Placed, isTmplData, isData, layoutOf, writeChecks, writeAnswer, writeOf, writeOut, headWriteAnswer, headWriteOut}
 use Rattle.wire.specs.declared.message.DataHead.{DataHead}
 use Rattle.wire.specs.declared.message.Message.{Message}
 use Rattle.wire.specs.declared.message.Message.the-variants.{TmplData, Data}
@@ -251,6 +251,21 @@ data-layout h part =
 pub data-length : (h : DataHead) (part : List ℕ) → length (layoutOf (Data h) part) ≡ 16 + length part
 unfolding octetsOf
 data-length h part = ap length (data-layout h part) ∙ omega arith
+
+-- A DATA's head is judged as the whole message with any record of that length.
+pub head-answer : (h : DataHead) (part : List ℕ) (room : ℕ) → headWriteAnswer (length part) room ≡ writeAnswer (Data h) part room
+unfolding headWriteAnswer writeAnswer
+head-answer h part room = rw (data-length h part)
+
+-- The head, and the record put behind it, are the message.
+pub head-then-record : (h : DataHead) (part out : List ℕ) → writeAnswer (Data h) part (length out) ≡ done
+    → putAt (headWriteOut h (length part) out) 16 part ≡ writeOut (Data h) part out
+unfolding writeAnswer headWriteOut writeOut octetsOf
+head-then-record h part out e =
+    let fits = ltb-false (length out) (length (layoutOf (Data h) part)) (passed (writeChecks (Data h) part (length out)) tt e .1 .1 .0) in
+    rw (head-answer h part (length out), e)
+    (put-then out (dataHeadOctets h (length part)) part _ 16 refl refl (omega (arith, data-length h part))
+    ∙ ap (sets out 0) (sym (data-layout h part)))
 
 all-first : (a b : Bool) → cond a b false ≡ true → a ≡ true
 all-first true b e = refl

@@ -364,7 +364,9 @@ written-out m part out h =
     done-out m part out h ∙ sets-eq l out 0 (omega (arith, done-fits m part out h)) ∙ ap (λ (k : ℕ). l ++ drop k out) (zero-add (length l)) in
     (ap (take (length l)) e ∙ take-at l (drop (length l) out) (length l) refl, ap (drop (length l)) e ∙ drop-at l (drop (length l) out) (length l) refl)
 
--- So what was written to an output with room reads back from there.
+-- So what was written to an output with room reads back from there, and its part is handed back at its place.
 pub wrote-reads : (m : Message) (part out : List ℕ) → Writable m part → length (layoutOf m part) ≤ length out
-    → readOf (take (length (layoutOf m part)) (writeOut m part out)) ≡ reading.Message m
-wrote-reads m part out w h = ap readOf (written-out m part out (writes m part (length out) w h) .0) ∙ reads-back m part w .0
+    → (readOf (take (length (layoutOf m part)) (writeOut m part out)) ≡ reading.Message m)
+    × ((partOf (take (length (layoutOf m part)) (writeOut m part out)) ≡ carried m part)
+    × (partAt (take (length (layoutOf m part)) (writeOut m part out)) ≡ carriedAt m))
+wrote-reads m part out w h = rw (written-out m part out (writes m part (length out) w h) .0) (reads-back m part w)
