@@ -5,7 +5,7 @@ use mathlib.Core.List.{List, [], _∷_, _++_}
 use Prim.Native.Nat.{ℕ, _+_, _-_, _≤_, _<_}
 use native.Mathlib.Nat.{zero-add}
 use native.Mathlib.Omega.{arith}
-use borrow.Author.Tests.{ltb-true, ltb-false, eqb-true, leb-true, not-false, le-ltb, lt-ltb, le-leb, lt-leb, eq-eqb, ne-eqb}
+use borrow.Author.Tests.{ltb-true, ltb-false, eqb-true, not-false, le-ltb, lt-ltb, le-leb, lt-leb, eq-eqb, ne-eqb}
 use lib.Dec.{eqb, leb, ltb}
 use lib.ListN.{length, take, drop, length-drop}
 use lib.Seq.{take-all, sets, length-sets}
@@ -266,12 +266,3 @@ head-then-record h part out e =
     rw (head-answer h part (length out), e)
     (put-then out (dataHeadOctets h (length part)) part _ 16 refl refl (omega (arith, data-length h part))
     ∙ ap (sets out 0) (sym (data-layout h part)))
-
-all-first : (a b : Bool) → cond a b false ≡ true → a ≡ true
-all-first true b e = refl
-all-first false b e = e
-
--- a sound table has at most 16,384 octets
-pub table-small : (t : List ℕ) → tableSound t ≡ true → length t ≤ 16384
-unfolding tableSound
-table-small t e = leb-true (length t) 16384 (all-first _ _ e)

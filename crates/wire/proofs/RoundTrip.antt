@@ -15,7 +15,7 @@ use Rattle.octets.specs.Numbers.{numberOf, uintAt, octetsOf, Octets}
 use Rattle.octets.proofs.Numbers.{uint-one, uint-append, uint-front, read-back, write-back}
 use Rattle.wire.specs.Messages.{Form, ofForm, forms, isMessage, bodyFits, messageNumber, sessionOf, headerOctetsOf, messageOf, dataFront, flagsOf, flagFirst, flagDuplicate, layoutOf}
 use Rattle.wire.specs.Messages.{start, startAck, stop, stopAck, tmplData, finalTmplDataAck, startNegotiate, startNegotiateAck, dataNumber, dataAck}
-use Rattle.wire.specs.Messages.{headerAnswer, headerOf, readAnswer, dataHeadOf, meaningOf, readOf, partAt, partOf, writeAnswer, writeOf, writeOut, isData, isTmplData}
+use Rattle.wire.specs.Messages.{headerAnswer, headerOf, readAnswer, dataHeadOf, meaningOf, readOf, partAt, partOf, writeAnswer, writeOf, writeOut, headWriteAnswer, headWriteOf, isData, isTmplData}
 use Rattle.wire.specs.Messages.{writeChecks, carried, carriedAt, Writable, Plain, headerReadingAnswer, readingAnswer, writtenAnswer}
 use Rattle.wire.specs.Table.{tableSound}
 use Rattle.wire.specs.declared.message.DataHead.{DataHead}
@@ -25,7 +25,8 @@ use Rattle.wire.specs.declared.message.HeaderReading.the-variants as hea
 use Rattle.wire.specs.declared.message.Reading.the-variants as reading
 use Rattle.wire.specs.declared.message.Written.the-variants as written
 use Rattle.octets.proofs.Judging.{passed, judged-done, kept}
-use Rattle.wire.proofs.Messages.{not-both, Readable, readable, reads, part-of-data, part-of-table, part-of-other, message-length, table-small}
+use Rattle.wire.proofs.Messages.{not-both, Readable, readable, reads, part-of-data, part-of-table, part-of-other, message-length}
+use Rattle.wire.proofs.Tables.{table-facts}
 
 -- ---- reading the octets of a layout
 
@@ -155,7 +156,7 @@ reads-back (StartAck s boot) part w =
 reads-back (Stop s) part w = empty-back stop s Stop refl refl refl refl (λ m e. rw e)
 reads-back (StopAck s) part w = empty-back stopAck s StopAck refl refl refl refl (λ m e. rw e)
 reads-back (TmplData s) part w =
-    let h = answered tmplData s part (omega (arith, table-small part (w .table refl))) refl (le-leb 0 (length part) (omega arith)) (λ e. w .table refl) in
+    let h = answered tmplData s part (omega (arith, table-facts part (w .table refl) .short)) refl (le-leb 0 (length part) (omega arith)) (λ e. w .table refl) in
     let p = part-of-table (messageOf tmplData s part) h (number-of tmplData s part) in
     (read-as (messageOf tmplData s part) (TmplData s) h (rw (number-of tmplData s part) (ap TmplData (session-of tmplData s part))), (p .1, p .0))
 reads-back (FinalTmplDataAck s config) part w =
@@ -333,6 +334,10 @@ reading-number m = kept readingAnswer _ reading.Refused refl (λ a. refl) (readA
 pub written-number : (m : Message) (part out : List ℕ) → writtenAnswer (writeOf m part out) ≡ writeAnswer m part (length out)
 unfolding writeOf
 written-number m part out = kept writtenAnswer _ written.Refused refl (λ a. refl) (writeAnswer m part (length out))
+
+pub head-number : (n room : ℕ) → writtenAnswer (headWriteOf n room) ≡ headWriteAnswer n room
+unfolding headWriteOf
+head-number n room = kept writtenAnswer _ written.Refused refl (λ a. refl) (headWriteAnswer n room)
 
 -- ---- WRITING: a message that can be written, and has room, is not refused.
 pub writes : (m : Message) (part : List ℕ) (room : ℕ) → Writable m part → length (layoutOf m part) ≤ room → writeAnswer m part room ≡ done

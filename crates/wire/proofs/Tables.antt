@@ -1,7 +1,7 @@
 -- Laws of template tables. Assumes nothing.
-use mathlib.Core.Path.{_≡_, refl, sym, ap, _∙_, subst}
-use mathlib.Core.Bool.{Bool, true, false, cond, not, _&&_, false≢true}
-use mathlib.Core.List.{List, [], _∷_}
+use mathlib.Core.Path.{_≡_, refl, ap}
+use mathlib.Core.Bool.{Bool, true, false, cond, not, _&&_}
+use mathlib.Core.List.{List}
 use Prim.Native.Nat.{ℕ, zero, suc, _+_, _-_, _*_, _≤_, _<_}
 use native.Mathlib.Nat.{le-refl}
 use native.Mathlib.Omega.{arith}
@@ -11,11 +11,11 @@ use lib.Dec.{ltb, leb, eqb, lit≤}
 use lib.ListN.{length}
 use Rattle.octets.specs.Answers.{done, templateNotFound}
 use Rattle.octets.proofs.Judging.{kept}
-use Rattle.wire.specs.Each.{every, allOf}
+use Rattle.wire.specs.Each.{every}
 use Rattle.wire.specs.Table.{keyCount, blockFlags, blockLength, blockOctets, blockEnd, headSound, blockSound, blockAt, blocksSound, templatesDiffer, tableFlags, templateCount, tableSound, isMissing, templateIndex, templateAt, templateOf, findAnswer, findOf, locateOf, foundAnswer}
 use Rattle.wire.specs.declared.table.Template.{Template}
 use Rattle.wire.specs.declared.table.Found.the-variants.{At, Refused}
-use Rattle.wire.proofs.Each.{clause-first, clause-rest, clause-last, every-at, every-step, every-intro, and-left, and-right}
+use Rattle.wire.proofs.Each.{clause-first, clause-rest, every-at, every-step, every-intro, and-left, and-right}
 
 -- ---- IDs that rise all differ
 

@@ -55,10 +55,6 @@ fieldOctets type (Number n) octets = octetsOf (widthOf type) n
 fieldOctets type (Negative n) octets = octetsOf (widthOf type) (256 ^ widthOf type - n)
 fieldOctets type Octets octets = octetsField type octets
 
--- How many octets stand in front of a value's octets in its field: the 32-bit length of a string or blob.
-unfoldable pub prefixOctets : ℕ → ℕ
-prefixOctets type = cond (eqb type stringType) 4 (cond (eqb type blobType) 4 0)
-
 -- Appending is judged 16, 12.
 unfoldable pub appendAnswer : ℕ → Value → List ℕ → List ℕ → ℕ → ℕ
 appendAnswer type value octets out at =
