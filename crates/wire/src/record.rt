@@ -138,7 +138,7 @@ fn length_under(t: &[u8], m: Template, r: &[u8], k: usize, at: usize) -> usize
     requires { ⌜ m .keys + 12 * k + 12 ≤ length (now t) ⌝ }
     ensures { λ n. ⌜ n ≡ lengthUnder (now (t .entry)) m (now (r .entry)) k at ⌝ }
 {
-    // as in `field_length`, written out: this is the loop's hot path
+    // As in `field_length`, written out here: every field of every record that is judged comes this way.
     if is_enabled(t, m, k) {
         let kind = crate::within::u16_at(t, m.keys + 12 * k + 4);
         let width = FieldType { number: kind }.width() as usize;

@@ -6,7 +6,7 @@ ghost use Prim.Native.Nat.{_+_, _*_, _≤_, _<_};
 ghost use lib.Dec.{eqb};
 ghost use lib.ListN.{length, getD};
 ghost use Rattle.wire.specs.Each.{every, allOf};
-ghost use Rattle.wire.specs.Table.{configurationId, keyId, keyAt, keySound, keysSound, keysDiffer, keysAt, blockEnd, headSound, paddingSound, blockSound, blockAt, idAt, blocksSound, templatesDiffer, tableSound, templateAt, locateOf, findOf};
+ghost use Rattle.wire.specs.Table.{configurationId, keyId, keyAt, keySound, keysSound, keysDiffer, keysAt, padded, blockEnd, headSound, paddingSound, blockSound, blockAt, idAt, blocksSound, templatesDiffer, tableSound, templateAt, locateOf, findOf};
 use crate::field_type::FieldType;
 use octets::Answer;
 
@@ -132,14 +132,21 @@ fn all_zero(t: &[u8], at: usize, n: usize) -> bool
     true
 }
 
+// A length brought up to a multiple of 4.
+fn padded(n: u16) -> usize
+    ensures { λ r. ⌜ r ≡ padded n ⌝ }
+{
+    (n as usize + 3) / 4 * 4
+}
+
 // The key blocks of the template block at a place.
 fn template_at(t: &[u8], at: usize) -> Template
     requires { ⌜ (at ≤ 16384) × (at + 12 ≤ length (now t)) ⌝ }
     ensures { λ r. ⌜ r ≡ templateAt (now (t .entry)) at ⌝ }
 {
-    let description = crate::within::u16_at(t, at + 6) as usize;
+    let description = crate::within::u16_at(t, at + 6);
     Template {
-        keys: at + 12 + (description + 3) / 4 * 4,
+        keys: at + 12 + padded(description),
         count: crate::within::u16_at(t, at + 2) as usize,
     }
 }
@@ -149,9 +156,9 @@ fn block_end(t: &[u8], at: usize) -> usize
     requires { ⌜ (at ≤ 16384) × (at + 12 ≤ length (now t)) ⌝ }
     ensures { λ r. ⌜ r ≡ blockEnd (now (t .entry)) at ⌝ }
 {
-    let description = crate::within::u16_at(t, at + 6) as usize;
+    let description = crate::within::u16_at(t, at + 6);
     let count = crate::within::u16_at(t, at + 2) as usize;
-    at + 12 + (description + 3) / 4 * 4 + 12 * count
+    at + 12 + padded(description) + 12 * count
 }
 
 // Whether the head of the template block at a place is sound.
@@ -176,9 +183,9 @@ fn padding_sound(t: &[u8], at: usize) -> bool
     requires { ⌜ (at ≤ 16384) × (keysAt (now t) at ≤ length (now t)) ⌝ }
     ensures { λ r. ⌜ r ≡ paddingSound (now (t .entry)) at ⌝ }
 {
-    let description = crate::within::u16_at(t, at + 6) as usize;
-    let padded = (description + 3) / 4 * 4;
-    all_zero(t, at + 12 + description, padded - description)
+    let description = crate::within::u16_at(t, at + 6);
+    let len = description as usize;
+    all_zero(t, at + 12 + len, padded(description) - len)
 }
 
 // Whether the template block at a place is sound.
