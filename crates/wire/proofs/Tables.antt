@@ -11,17 +11,13 @@ use lib.Dec.{ltb, leb, eqb, lit≤}
 use lib.ListN.{length}
 use Rattle.octets.specs.Answers.{done, templateNotFound}
 use Rattle.octets.proofs.Judging.{kept}
-use Rattle.wire.specs.Each.{every}
+use Rattle.wire.specs.Each.{every, absent, differ}
 use Rattle.wire.specs.Table.{keyCount, blockFlags, blockLength, blockOctets, blockEnd, headSound, blockSound, blockAt, blocksSound, templatesDiffer, tableFlags, templateCount, tableSound, isMissing, templateIndex, templateAt, templateOf, findAnswer, findOf, locateOf, foundAnswer}
 use Rattle.wire.specs.declared.table.Template.{Template}
 use Rattle.wire.specs.declared.table.Found.the-variants.{At, Refused}
 use Rattle.wire.proofs.Each.{clause-first, clause-rest, every-at, every-step, every-intro, and-left, and-right}
 
 -- ---- IDs that rise all differ
-
--- no two of the first n have one ID
-abbrev differ : (ℕ → ℕ) → ℕ → Bool
-differ ids n = every n (λ k. every k (λ j. not (eqb (ids j) (ids k))))
 
 -- the first k IDs differ, and none is above the last of them
 abbrev pub Rising : (ℕ → ℕ) → ℕ → Type 0
@@ -33,7 +29,7 @@ rise-start ids = (refl, λ j l. let e : j ≡ 0 = omega arith in rw e (le-refl (
 
 pub rise-step : (ids : ℕ → ℕ) (k : ℕ) → 1 ≤ k → Rising ids k → ids (k - 1) < ids k → Rising ids (k + 1)
 rise-step ids k h r l = (
-  every-step k (λ k. every k (λ j. not (eqb (ids j) (ids k)))) (r .0)
+  every-step k (λ k. absent ids k (ids k)) (r .0)
       (every-intro k (λ j. not (eqb (ids j) (ids k))) (λ j b. ap not (ne-eqb (ids j) (ids k) (λ e. omega (arith, r .1 j b))))),
   λ j b. let e : k + 1 - 1 ≡ k = omega arith in rw e (go j b (ltb j k) refl),
 )

@@ -1,8 +1,8 @@
 -- The field types, one row each (01, "Template table"). Assumes nothing.
 use Prim.Native.Nat.{ℕ}
-use mathlib.Core.Bool.{Bool, true, false, cond}
+use mathlib.Core.Bool.{Bool, true, false}
 use mathlib.Core.List.{List, [], _∷_, map}
-use lib.Dec.{eqb}
+use Rattle.wire.specs.Each.{lookUp}
 
 -- What the octets of a field stand for: an unsigned number (floats by their bits, Booleans and times too), a signed number, or themselves.
 pub data Class : Type 0 where
@@ -128,8 +128,7 @@ typeNumbers = map (λ r. r .number) rows
 
 -- What f gives of the row with a number, or `other` where no row has it.
 abbrev pub ofRow : {A : Type 0} → (Row → A) → A → List Row → ℕ → A
-ofRow f other [] n = other
-ofRow f other (r ∷ rs) n = cond (eqb n (r .number)) (f r) (ofRow f other rs n)
+ofRow f other rs n = lookUp (λ r. r .number) f other rs n
 
 -- The width of a type's fields, 0 where it varies and for a number that is no type's.
 unfoldable pub widthOf : ℕ → ℕ

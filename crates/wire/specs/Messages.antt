@@ -8,6 +8,7 @@ use lib.ListN.{length, drop}
 use lib.Seq.{sets}
 use Rattle.octets.specs.Answers.{Check, _when_, judge, done, shortMessage, otherVersion, lengthDiffers, messageNotAccepted, bodyLengthWrong, outputTooShort, recordTooLong, unsoundTable}
 use Rattle.octets.specs.Numbers.{uintAt, octetsOf, putAt}
+use Rattle.wire.specs.Each.{lookUp}
 use Rattle.wire.specs.Table.{tableSound}
 use Rattle.wire.specs.declared.message.DataHead.{DataHead}
 use Rattle.wire.specs.declared.message.Message.{Message}
@@ -91,8 +92,7 @@ forms =
 
 -- What f gives of the row with a number; false where there is none.
 abbrev pub ofForm : (Form → Bool) → List Form → ℕ → Bool
-ofForm f [] n = false
-ofForm f (r ∷ rows) n = cond (eqb n (r .number)) (f r) (ofForm f rows n)
+ofForm f rows n = lookUp (λ r. r .number) f false rows n
 
 -- The number is a message's.
 unfoldable pub isMessage : ℕ → Bool
@@ -234,31 +234,26 @@ partOf m = cond (hasPart m) (drop (partAt m) m) []
 abbrev pub maxRecordOctets : ℕ
 maxRecordOctets = 1024
 
+-- The number of the message that says m.
+abbrev pub numberFor : Message → ℕ
+numberFor (Start s) = start
+numberFor (StartAck s boot) = startAck
+numberFor (Stop s) = stop
+numberFor (StopAck s) = stopAck
+numberFor (TmplData s) = tmplData
+numberFor (FinalTmplDataAck s config) = finalTmplDataAck
+numberFor (StartNegotiate s) = startNegotiate
+numberFor (StartNegotiateAck s) = startNegotiateAck
+numberFor (Data h) = dataNumber
+numberFor (DataAck s dsn config) = dataAck
+
 -- The message has a table as its part.
 abbrev pub isTmplData : Message → Bool
-isTmplData (Start s) = false
-isTmplData (StartAck s boot) = false
-isTmplData (Stop s) = false
-isTmplData (StopAck s) = false
-isTmplData (TmplData s) = true
-isTmplData (FinalTmplDataAck s config) = false
-isTmplData (StartNegotiate s) = false
-isTmplData (StartNegotiateAck s) = false
-isTmplData (Data h) = false
-isTmplData (DataAck s dsn config) = false
+isTmplData m = eqb (numberFor m) tmplData
 
 -- The message has a record as its part.
 abbrev pub isData : Message → Bool
-isData (Start s) = false
-isData (StartAck s boot) = false
-isData (Stop s) = false
-isData (StopAck s) = false
-isData (TmplData s) = false
-isData (FinalTmplDataAck s config) = false
-isData (StartNegotiate s) = false
-isData (StartNegotiateAck s) = false
-isData (Data h) = true
-isData (DataAck s dsn config) = false
+isData m = eqb (numberFor m) dataNumber
 
 -- Writing into an output of `room` octets is judged 21, 17, 12.
 abbrev pub writeChecks : Message → List ℕ → ℕ → List Check

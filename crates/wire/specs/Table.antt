@@ -6,7 +6,7 @@ use lib.Dec.{eqb, leb}
 use lib.ListN.{length, getD}
 use Rattle.octets.specs.Answers.{Check, _when_, judge, done, unsoundTable, templateNotFound}
 use Rattle.octets.specs.Numbers.{uintAt}
-use Rattle.wire.specs.Each.{every, firstFrom, allOf}
+use Rattle.wire.specs.Each.{every, firstFrom, differ, allOf}
 use Rattle.wire.specs.FieldTypes.{isType}
 use Rattle.wire.specs.declared.table.Template.{Template}
 use Rattle.wire.specs.declared.table.Found.{Found}
@@ -101,7 +101,7 @@ keysSound t keys n = every n (λ k. keySound t (keyAt keys k))
 
 -- No two of n key blocks have one ID.
 abbrev pub keysDiffer : List ℕ → ℕ → ℕ → Bool
-keysDiffer t keys n = every n (λ k. every k (λ j. not (eqb (keyId t (keyAt keys j)) (keyId t (keyAt keys k)))))
+keysDiffer t keys n = differ (λ k. keyId t (keyAt keys k)) n
 
 -- The block has a sound head, zero padding, and sound keys with different IDs.
 unfoldable pub blockSound : List ℕ → ℕ → Bool
@@ -142,7 +142,7 @@ blocksSound t n = every n (λ i. blockSound t (blockAt t i))
 
 -- No two of the first n blocks have one template ID.
 abbrev pub templatesDiffer : List ℕ → ℕ → Bool
-templatesDiffer t n = every n (λ i. every i (λ j. not (eqb (idAt t j) (idAt t i))))
+templatesDiffer t n = differ (idAt t) n
 
 -- At most 16,384 octets, flags 1, 1 to 8 sound blocks with different IDs, and nothing after the last.
 unfoldable pub tableSound : List ℕ → Bool

@@ -1,11 +1,11 @@
 // Template tables: whether octets are a sound one, and where a template's key blocks lie.
 ghost use mathlib.Core.Path.{_≡_};
-ghost use mathlib.Core.Bool.{true, not};
+ghost use mathlib.Core.Bool.{true};
 ghost use mathlib.Core.List.{[], _∷_};
 ghost use Prim.Native.Nat.{_+_, _*_, _≤_, _<_};
 ghost use lib.Dec.{eqb};
 ghost use lib.ListN.{length, getD};
-ghost use Rattle.wire.specs.Each.{every, allOf};
+ghost use Rattle.wire.specs.Each.{every, absent, allOf};
 ghost use Rattle.wire.specs.Table.{configurationId, keyId, keyAt, keySound, keysSound, keysDiffer, keysAt, padded, blockEnd, headSound, paddingSound, blockSound, blockAt, idAt, blocksSound, templatesDiffer, tableSound, templateAt, locateOf, findOf};
 use crate::field_type::FieldType;
 use octets::Answer;
@@ -86,7 +86,7 @@ fn keys_rise(t: &[u8], keys: usize, n: usize) -> bool
 // Whether key block k has another ID than each before it.
 fn key_is_new(t: &[u8], keys: usize, k: usize) -> bool
     requires { ⌜ (keys + 12 * k + 12 ≤ length (now t)) × (k ≤ 32) ⌝ }
-    ensures { λ r. ⌜ r ≡ every k (λ j. not (eqb (keyId (now (t .entry)) (keyAt keys j)) (keyId (now (t .entry)) (keyAt keys k)))) ⌝ }
+    ensures { λ r. ⌜ r ≡ absent (λ j. keyId (now (t .entry)) (keyAt keys j)) k (keyId (now (t .entry)) (keyAt keys k)) ⌝ }
 {
     let id = key_id(t, keys + 12 * k);
     let mut j: usize = 0;
@@ -209,7 +209,7 @@ fn block_sound(t: &[u8], at: usize) -> bool
 // Whether none of the first n templates has an ID.
 fn id_is_new(t: &[u8], n: usize, id: u16) -> bool
     requires { ⌜ (length (now t) ≤ 16384) × (blocksSound (now t) n ≡ true) ⌝ }
-    ensures { λ r. ⌜ r ≡ every n (λ i. not (eqb (idAt (now (t .entry)) i) id)) ⌝ }
+    ensures { λ r. ⌜ r ≡ absent (idAt (now (t .entry))) n id ⌝ }
 {
     let mut at: usize = 4;
     let mut i: usize = 0;
