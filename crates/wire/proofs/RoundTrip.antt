@@ -15,7 +15,7 @@ use Rattle.octets.specs.Numbers.{numberOf, uintAt, octetsOf, Octets}
 use Rattle.octets.proofs.Numbers.{uint-one, uint-append, uint-front, read-back, write-back}
 use Rattle.wire.specs.Messages.{Form, ofForm, forms, isMessage, bodyFits, messageNumber, sessionOf, headerOctetsOf, messageOf, dataFront, flagsOf, flagFirst, flagDuplicate, layoutOf}
 use Rattle.wire.specs.Messages.{start, startAck, stop, stopAck, tmplData, finalTmplDataAck, startNegotiate, startNegotiateAck, dataNumber, dataAck}
-use Rattle.wire.specs.Messages.{headerAnswer, headerOf, readAnswer, dataHeadOf, meaningOf, readOf, partAt, partOf, writeAnswer, writeOf, writeOut, headWriteAnswer, headWriteOf, isData, isTmplData}
+use Rattle.wire.specs.Messages.{maxRecordOctets, headerAnswer, headerOf, readAnswer, dataHeadOf, meaningOf, readOf, partAt, partOf, writeAnswer, writeOf, writeOut, headWriteAnswer, headWriteOf, isData, isTmplData}
 use Rattle.wire.specs.Messages.{writeChecks, carried, carriedAt, Writable, Plain, headerReadingAnswer, readingAnswer, writtenAnswer}
 use Rattle.wire.specs.Table.{tableSound}
 use Rattle.wire.specs.declared.message.DataHead.{DataHead}
@@ -346,7 +346,7 @@ writes m part room w h =
     judged-done (writeChecks m part room) (
       not-both (isTmplData m) (not (tableSound part)) (λ e. ap not (w .table e)),
       (
-        not-both (isData m) (ltb 1024 (length part)) (λ e. le-ltb 1024 (length part) (w .short e)),
+        not-both (isData m) (ltb maxRecordOctets (length part)) (λ e. le-ltb maxRecordOctets (length part) (w .short e)),
         (le-ltb room (length (layoutOf m part)) h, tt),
       ),
     )

@@ -12,7 +12,7 @@ use lib.ListN.{length}
 use Rattle.octets.specs.Answers.{done, templateNotFound}
 use Rattle.octets.proofs.Judging.{kept}
 use Rattle.wire.specs.Each.{every, absent, differ}
-use Rattle.wire.specs.Table.{keyCount, blockFlags, blockLength, blockOctets, blockEnd, headSound, blockSound, blockAt, blocksSound, templatesDiffer, tableFlags, templateCount, tableSound, isMissing, templateIndex, templateAt, templateOf, findAnswer, findOf, locateOf, foundAnswer}
+use Rattle.wire.specs.Table.{keyOctets, blockHeadOctets, maxKeys, maxTableOctets, maxTemplates, bigEndianFlags, keyCount, blockFlags, blockLength, blockOctets, blockEnd, headSound, blockSound, blockAt, blocksSound, templatesDiffer, tableFlags, templateCount, tableSound, isMissing, templateIndex, templateAt, templateOf, findAnswer, findOf, locateOf, foundAnswer}
 use Rattle.wire.specs.declared.table.Template.{Template}
 use Rattle.wire.specs.declared.table.Found.the-variants.{At, Refused}
 use Rattle.wire.proofs.Each.{clause-first, clause-rest, every-at, every-step, every-intro, and-left, and-right}
@@ -44,21 +44,21 @@ rise-step ids k h r l = (
 pub record HeadFacts (t : List ℕ) (at : ℕ) : Type 0 where
   pub within : blockEnd t at ≤ length t
   pub some : 1 ≤ keyCount t at
-  pub few : keyCount t at ≤ 32
+  pub few : keyCount t at ≤ maxKeys
 
 pub head-facts : (t : List ℕ) (at : ℕ) → headSound t at ≡ true → HeadFacts t at
 unfolding headSound
 head-facts t at e =
     let w = leb (blockEnd t at) (length t) in
     let s = leb 1 (keyCount t at) in
-    let f = leb (keyCount t at) 32 in
+    let f = leb (keyCount t at) maxKeys in
     let g = eqb (blockFlags t at) 0 in
     let three = and-left (w && s && f) g (and-left (w && s && f && g) (eqb (blockLength t at) (blockOctets t at)) e) in
     let two = and-left (w && s) f three in
     record {
       within = leb-true (blockEnd t at) (length t) (and-left w s two);
       some = leb-true 1 (keyCount t at) (and-right w s two);
-      few = leb-true (keyCount t at) 32 (and-right (w && s) f three);
+      few = leb-true (keyCount t at) maxKeys (and-right (w && s) f three);
     }
 
 -- a sound block has a sound head
@@ -67,7 +67,7 @@ unfolding blockSound
 block-head t at e = clause-first (headSound t at) _ e
 
 -- and its head lies within the table
-pub block-inside : (t : List ℕ) (at : ℕ) → blockSound t at ≡ true → at + 12 ≤ length t
+pub block-inside : (t : List ℕ) (at : ℕ) → blockSound t at ≡ true → at + blockHeadOctets ≤ length t
 unfolding blockEnd
 block-inside t at e = omega (arith, head-facts t at (block-head t at e) .within)
 
@@ -78,22 +78,22 @@ unfolding blockAt
 block-at-more t i = rw add-one refl
 
 -- behind sound blocks one is still within the table, or at the end of its head
-pub block-near : (t : List ℕ) (n : ℕ) → length t ≤ 16384 → blocksSound t n ≡ true → (j : ℕ) → j ≤ n → blockAt t j ≤ 16384
+pub block-near : (t : List ℕ) (n : ℕ) → length t ≤ maxTableOctets → blocksSound t n ≡ true → (j : ℕ) → j ≤ n → blockAt t j ≤ maxTableOctets
 unfolding blockAt
 block-near t n h e zero l = lit≤ tt
 block-near t n h e (suc j) l =
     omega (arith, head-facts t (blockAt t j) (block-head t (blockAt t j) (every-at n (λ i. blockSound t (blockAt t i)) e j l)) .within)
 
 -- each sound block begins within the table
-pub block-in : (t : List ℕ) (n : ℕ) → blocksSound t n ≡ true → (j : ℕ) → j < n → blockAt t j + 12 ≤ length t
+pub block-in : (t : List ℕ) (n : ℕ) → blocksSound t n ≡ true → (j : ℕ) → j < n → blockAt t j + blockHeadOctets ≤ length t
 block-in t n e j l = block-inside t (blockAt t j) (every-at n (λ i. blockSound t (blockAt t i)) e j l)
 
 -- ---- what a sound table says
 
 pub record TableFacts (t : List ℕ) : Type 0 where
-  pub short : length t ≤ 16384
+  pub short : length t ≤ maxTableOctets
   pub some : 1 ≤ templateCount t
-  pub few : templateCount t ≤ 8
+  pub few : templateCount t ≤ maxTemplates
   pub blocks : blocksSound t (templateCount t) ≡ true
   pub differ : templatesDiffer t (templateCount t) ≡ true
   pub ends : blockAt t (templateCount t) ≡ length t
@@ -101,16 +101,16 @@ pub record TableFacts (t : List ℕ) : Type 0 where
 pub table-facts : (t : List ℕ) → tableSound t ≡ true → TableFacts t
 unfolding tableSound
 table-facts t e =
-    let e₁ = clause-rest (leb (length t) 16384) _ e in
-    let e₂ = clause-rest (eqb (tableFlags t) 1) _ e₁ in
+    let e₁ = clause-rest (leb (length t) maxTableOctets) _ e in
+    let e₂ = clause-rest (eqb (tableFlags t) bigEndianFlags) _ e₁ in
     let e₃ = clause-rest (leb 1 (templateCount t)) _ e₂ in
-    let e₄ = clause-rest (leb (templateCount t) 8) _ e₃ in
+    let e₄ = clause-rest (leb (templateCount t) maxTemplates) _ e₃ in
     let e₅ = clause-rest (blocksSound t (templateCount t)) _ e₄ in
     let e₆ = clause-rest (templatesDiffer t (templateCount t)) _ e₅ in
     record {
-      short = leb-true (length t) 16384 (clause-first (leb (length t) 16384) _ e);
+      short = leb-true (length t) maxTableOctets (clause-first (leb (length t) maxTableOctets) _ e);
       some = leb-true 1 (templateCount t) (clause-first (leb 1 (templateCount t)) _ e₂);
-      few = leb-true (templateCount t) 8 (clause-first (leb (templateCount t) 8) _ e₃);
+      few = leb-true (templateCount t) maxTemplates (clause-first (leb (templateCount t) maxTemplates) _ e₃);
       blocks = clause-first (blocksSound t (templateCount t)) _ e₄;
       differ = clause-first (templatesDiffer t (templateCount t)) _ e₅;
       ends = eqb-true (blockAt t (templateCount t)) (length t) (clause-first (eqb (blockAt t (templateCount t)) (length t)) _ e₆);
@@ -118,7 +118,7 @@ table-facts t e =
 
 -- THE LAW OF A FOUND TEMPLATE: its key blocks lie within the table
 pub template-within : (t : List ℕ) (id : ℕ) → tableSound t ≡ true → isMissing t id ≡ false
-    → templateOf t id .keys + 12 * templateOf t id .count ≤ length t
+    → templateOf t id .keys + keyOctets * templateOf t id .count ≤ length t
 unfolding templateAt blockEnd
 template-within t id e m =
     let f = table-facts t e in
@@ -132,15 +132,15 @@ pub located : (t : List ℕ) (id : ℕ) (m : Template) → locateOf t id ≡ At 
 unfolding locateOf
 located t id m = go (isMissing t id)
   where
-    go : (b : Bool) → cond b (Refused 15) (At (templateOf t id)) ≡ At m → (b ≡ false) × (templateOf t id ≡ m)
+    go : (b : Bool) → cond b (Refused templateNotFound) (At (templateOf t id)) ≡ At m → (b ≡ false) × (templateOf t id ≡ m)
     go true e = let z : _≡_ {A = ℕ} 0 1 = cc in absurd (omega arith)
     go false e = (refl, cc)
 
-pub not-located : (t : List ℕ) (id a : ℕ) → locateOf t id ≡ Refused a → (isMissing t id ≡ true) × (a ≡ 15)
+pub not-located : (t : List ℕ) (id a : ℕ) → locateOf t id ≡ Refused a → (isMissing t id ≡ true) × (a ≡ templateNotFound)
 unfolding locateOf
 not-located t id a = go (isMissing t id)
   where
-    go : (b : Bool) → cond b (Refused 15) (At (templateOf t id)) ≡ Refused a → (b ≡ true) × (a ≡ 15)
+    go : (b : Bool) → cond b (Refused templateNotFound) (At (templateOf t id)) ≡ Refused a → (b ≡ true) × (a ≡ templateNotFound)
     go true e = (refl, cc)
     go false e = let z : _≡_ {A = ℕ} 0 1 = cc in absurd (omega arith)
 
@@ -159,7 +159,7 @@ pub found-number : (t : List ℕ) (id : ℕ) → foundAnswer (findOf t id) ≡ f
 unfolding findOf
 found-number t id = kept foundAnswer (At (templateOf t id)) Refused refl (λ a. refl) (findAnswer t id)
 
-pub located-within : (t : List ℕ) (id : ℕ) (m : Template) → tableSound t ≡ true → locateOf t id ≡ At m → m .keys + 12 * m .count ≤ length t
+pub located-within : (t : List ℕ) (id : ℕ) (m : Template) → tableSound t ≡ true → locateOf t id ≡ At m → m .keys + keyOctets * m .count ≤ length t
 located-within t id m s e =
     let l = located t id m e in
     rw (l .1) at (template-within t id s (l .0))

@@ -112,17 +112,29 @@ headerOctetsOf number session len = protocolVersion ∷ number ∷ session ∷ 0
 unfoldable pub messageOf : ℕ → ℕ → List ℕ → List ℕ
 messageOf number session body = headerOctetsOf number session (headerOctets + length body) ++ body
 
--- DATA's flags: S is 1, D is 2, the other bits 0.
+-- The S flag of DATA.
+abbrev pub sFlag : ℕ
+sFlag = 1
+
+-- The D flag of DATA.
+abbrev pub dFlag : ℕ
+dFlag = 2
+
+-- DATA's flags: S, D, and the other bits 0.
 abbrev pub flagsOf : Bool → Bool → ℕ
-flagsOf s d = cond s 1 0 + cond d 2 0
+flagsOf s d = cond s sFlag 0 + cond d dFlag 0
 
 -- DATA's body in front of the record: template ID, Configuration ID, flags, DSN.
 abbrev pub dataFront : DataHead → List ℕ
 dataFront h = octetsOf 2 (h .template) ++ (h .config ∷ flagsOf (h .first) (h .duplicate) ∷ octetsOf 4 (h .dsn))
 
+-- How many octets a DATA message has in front of its record.
+abbrev pub dataHeadLength : ℕ
+dataHeadLength = 16
+
 -- The octets of a DATA message in front of its record, which has n octets.
 abbrev pub dataHeadOctets : DataHead → ℕ → List ℕ
-dataHeadOctets h n = headerOctetsOf dataNumber (h .session) (16 + n) ++ dataFront h
+dataHeadOctets h n = headerOctetsOf dataNumber (h .session) (dataHeadLength + n) ++ dataFront h
 
 -- The octets of the message that says m; `part` is the record of a DATA and the table of a TMPL DATA, and no other message has one.
 unfoldable pub layoutOf : Message → List ℕ → List ℕ
@@ -223,7 +235,7 @@ hasPart m = eqb (readAnswer m) done && (eqb (messageNumber m) dataNumber || eqb 
 
 -- Where the part begins: a DATA's record at octet 16, a TMPL DATA's table at octet 8, no octets at octet 0.
 unfoldable pub partAt : List ℕ → ℕ
-partAt m = cond (hasPart m) (cond (eqb (messageNumber m) dataNumber) 16 8) 0
+partAt m = cond (hasPart m) (cond (eqb (messageNumber m) dataNumber) dataHeadLength headerOctets) 0
 
 -- The octets of the part, to the message's end.
 unfoldable pub partOf : List ℕ → List ℕ
@@ -280,12 +292,12 @@ writeOut m part out = cond (eqb (writeAnswer m part (length out)) done) (sets ou
 
 -- A DATA's octets in front of a record of n octets that the caller writes behind them: judged 17, 12 as the whole message is.
 unfoldable pub headWriteAnswer : ℕ → ℕ → ℕ
-headWriteAnswer n room = judge ((recordTooLong when ltb maxRecordOctets n) ∷ (outputTooShort when ltb room (16 + n)) ∷ [])
+headWriteAnswer n room = judge ((recordTooLong when ltb maxRecordOctets n) ∷ (outputTooShort when ltb room (dataHeadLength + n)) ∷ [])
 
 -- It answers the whole message's octets, or the refusal.
 unfoldable pub headWriteOf : ℕ → ℕ → Written
 headWriteOf n room =
-    cond (eqb (headWriteAnswer n room) done) (written.Octets (16 + n)) (written.Refused (headWriteAnswer n room))
+    cond (eqb (headWriteAnswer n room) done) (written.Octets (dataHeadLength + n)) (written.Refused (headWriteAnswer n room))
 
 -- The output afterwards: the 16 octets from its first one on, or as it was.
 unfoldable pub headWriteOut : DataHead → ℕ → List ℕ → List ℕ
@@ -305,7 +317,7 @@ carried m part = cond (isData m || isTmplData m) part []
 
 -- The octet at which it begins.
 abbrev pub carriedAt : Message → ℕ
-carriedAt m = cond (isData m) 16 (cond (isTmplData m) 8 0)
+carriedAt m = cond (isData m) dataHeadLength (cond (isTmplData m) headerOctets 0)
 
 -- The message's numbers fit their places.
 abbrev pub InRange : Message → Type 0

@@ -24,15 +24,24 @@ fixedLength type r at =
     cond (ltb (left r at) (widthOf type)) 0
     (cond (eqb type booleanType && ltb 1 (uintAt r at 1)) 0 (widthOf type))
 
+-- Octets of the 32-bit length of a string or blob.
+abbrev pub lengthOctets : ℕ
+lengthOctets = 4
+
+-- A string's octets are below this.
+abbrev pub asciiLimit : ℕ
+asciiLimit = 128
+
 -- A blob: a 32-bit length, then as many octets.
 unfoldable pub blobLength : List ℕ → ℕ → ℕ
 blobLength r at =
-    cond (ltb (left r at) 4) 0
-    (cond (ltb (left r (at + 4)) (uintAt r at 4)) 0 (4 + uintAt r at 4))
+    cond (ltb (left r at) lengthOctets) 0
+    (cond (ltb (left r (at + lengthOctets)) (uintAt r at lengthOctets)) 0 (lengthOctets + uintAt r at lengthOctets))
 
 -- A string: a blob whose octets after its length are below 128.
 unfoldable pub stringLength : List ℕ → ℕ → ℕ
-stringLength r at = cond (every (blobLength r at - 4) (λ i. ltb (getD r (at + 4 + i) 0) 128)) (blobLength r at) 0
+stringLength r at =
+    cond (every (blobLength r at - lengthOctets) (λ i. ltb (getD r (at + lengthOctets + i) 0) asciiLimit)) (blobLength r at) 0
 
 -- A zero-terminated string ends with the first zero from its place on, and that zero counts.
 unfoldable pub terminatedLength : List ℕ → ℕ → ℕ

@@ -80,12 +80,16 @@ blockOctets t at = blockHeadOctets + padded (descriptionLength t at) + keyOctets
 unfoldable pub blockEnd : List ℕ → ℕ → ℕ
 blockEnd t at = at + blockOctets t at
 
+-- The most keys of a template.
+abbrev pub maxKeys : ℕ
+maxKeys = 32
+
 -- Its head is sound: the block lies within the table, has 1 to 32 keys, flags 0, and the length of its parts as its block length.
 unfoldable pub headSound : List ℕ → ℕ → Bool
 headSound t at =
     leb (blockEnd t at) (length t)
     && leb 1 (keyCount t at)
-    && leb (keyCount t at) 32
+    && leb (keyCount t at) maxKeys
     && eqb (blockFlags t at) 0
     && eqb (blockLength t at) (blockOctets t at)
 
@@ -115,8 +119,21 @@ blockSound t at =
 
 -- ---- the table
 
+-- The most octets of a table.
 abbrev pub maxTableOctets : ℕ
 maxTableOctets = 16384
+
+-- The most templates of a table.
+abbrev pub maxTemplates : ℕ
+maxTemplates = 8
+
+-- The flags that a table has: its numbers are big-endian.
+abbrev pub bigEndianFlags : ℕ
+bigEndianFlags = 1
+
+-- Octets of a table in front of its first block.
+abbrev pub tableHeadOctets : ℕ
+tableHeadOctets = 4
 
 abbrev pub configurationId : List ℕ → ℕ
 configurationId t = uintAt t 0 1
@@ -127,9 +144,9 @@ tableFlags t = uintAt t 1 1
 abbrev pub templateCount : List ℕ → ℕ
 templateCount t = uintAt t 2 2
 
--- Where block i begins: the first follows the table's head of 4 octets, each other the block before it.
+-- Where block i begins: the first follows the table's head, each other the block before it.
 unfoldable pub blockAt : List ℕ → ℕ → ℕ
-blockAt t zero = 4
+blockAt t zero = tableHeadOctets
 blockAt t (suc i) = blockEnd t (blockAt t i)
 
 -- The ID of template i.
@@ -149,9 +166,9 @@ unfoldable pub tableSound : List ℕ → Bool
 tableSound t =
     allOf
     (leb (length t) maxTableOctets
-    ∷ eqb (tableFlags t) 1
+    ∷ eqb (tableFlags t) bigEndianFlags
     ∷ leb 1 (templateCount t)
-    ∷ leb (templateCount t) 8
+    ∷ leb (templateCount t) maxTemplates
     ∷ blocksSound t (templateCount t)
     ∷ templatesDiffer t (templateCount t)
     ∷ eqb (blockAt t (templateCount t)) (length t)

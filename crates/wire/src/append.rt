@@ -7,8 +7,10 @@ ghost use lib.Dec.{eqb};
 ghost use lib.ListN.{length, getD};
 ghost use Rattle.octets.specs.Numbers.{octetsOf};
 ghost use Rattle.wire.specs.Each.{every};
-ghost use Rattle.wire.specs.Append.{numberFits, negativeFits, octetsFit, octetsField, Stored, appendOf, appendOut};
+ghost use Rattle.wire.specs.Record.{lengthOctets};
+ghost use Rattle.wire.specs.Append.{lengthLimit, numberFits, negativeFits, octetsFit, octetsField, Stored, appendOf, appendOut};
 use crate::field_type::FieldType;
+use crate::record::LENGTH_OCTETS;
 use crate::walk::Value;
 use octets::Answer;
 
@@ -126,13 +128,13 @@ fn store_terminated(octets: &[u8], out: &mut [u8], at: usize) -> Appended
 
 // Octets behind their 32-bit length to a place.
 fn store_counted(octets: &[u8], out: &mut [u8], at: usize) -> Appended
-    requires { ⌜ length (now octets) < 4294967296 ⌝ }
-    ensures { λ r. ⌜ Stored (octetsOf 4 (length (now (octets .entry))) ++ now (octets .entry)) (now (out .entry)) at r (now (out .exit)) ⌝ }
+    requires { ⌜ length (now octets) < lengthLimit ⌝ }
+    ensures { λ r. ⌜ Stored (octetsOf lengthOctets (length (now (octets .entry))) ++ now (octets .entry)) (now (out .entry)) at r (now (out .exit)) ⌝ }
 {
-    if octets::room(out.len(), at) < 4 {
+    if octets::room(out.len(), at) < LENGTH_OCTETS {
         return Appended::Refused(Answer::OUTPUT_TOO_SHORT);
     }
-    let start = at + 4;
+    let start = at + LENGTH_OCTETS;
     if octets::room(out.len(), start) < octets.len() {
         return Appended::Refused(Answer::OUTPUT_TOO_SHORT);
     }

@@ -6,7 +6,8 @@ ghost use lib.Dec.{eqb, leb};
 ghost use lib.ListN.{length};
 ghost use lib.Seq.{sets};
 ghost use Rattle.octets.specs.Numbers.{uintAt, octetsOf};
-ghost use Rattle.wire.specs.Messages.{sessionOf, headerAnswer, headerOf, readWhere, readTable, dataHeadOf, readOf, partAt, partOf};
+ghost use Rattle.octets.specs.Answers.{done};
+ghost use Rattle.wire.specs.Messages.{headerOctets, dataHeadLength, maxRecordOctets, sessionOf, headerAnswer, headerOf, readWhere, readTable, dataHeadOf, readOf, partAt, partOf};
 ghost use Rattle.wire.specs.Messages.{headerOctetsOf, dataHeadOctets, messageOf, flagsOf, startAck, finalTmplDataAck, dataAck, Placed, headWriteOf, headWriteOut, writeOf, writeOut};
 ghost use Rattle.wire.specs.declared.message.Message.the-variants.{StartAck, TmplData, FinalTmplDataAck, Data, DataAck};
 use octets::Answer;
@@ -14,21 +15,41 @@ use octets::Answer;
 // The octets of a message's header.
 pub const HEADER_OCTETS: usize = 8;
 
+// The octets of a DATA message's body in front of its record.
+const DATA_FRONT_OCTETS: usize = 8;
+
 // The octets of a DATA message in front of its record.
-pub const DATA_HEAD_OCTETS: usize = 16;
+pub const DATA_HEAD_OCTETS: usize = HEADER_OCTETS + DATA_FRONT_OCTETS;
 
-// The octets of the acknowledgements that have a body.
-const START_ACK_OCTETS: usize = 12;
+// The octets of a START ACK's body: the boot time.
+const START_ACK_BODY: usize = 4;
 
-const FINAL_TMPL_DATA_ACK_OCTETS: usize = 12;
+// The octets of a START ACK.
+const START_ACK_OCTETS: usize = HEADER_OCTETS + START_ACK_BODY;
 
-const DATA_ACK_OCTETS: usize = 16;
+// The octets of a FINAL TMPL DATA ACK's body: Configuration ID and 3 reserved octets.
+const FINAL_TMPL_DATA_ACK_BODY: usize = 4;
+
+// The octets of a FINAL TMPL DATA ACK.
+const FINAL_TMPL_DATA_ACK_OCTETS: usize = HEADER_OCTETS + FINAL_TMPL_DATA_ACK_BODY;
+
+// The octets of a DATA ACK's body: DSN, Configuration ID and 3 reserved octets.
+const DATA_ACK_BODY: usize = 8;
+
+// The octets of a DATA ACK.
+const DATA_ACK_OCTETS: usize = HEADER_OCTETS + DATA_ACK_BODY;
 
 // The most octets that a record has in a message that is written.
 pub const MAX_RECORD_OCTETS: usize = 1024;
 
 // The version that the header of every message names.
 pub const VERSION: u8 = 1;
+
+// The S flag of a DATA message, `first` in its head.
+const S_FLAG: u8 = 1;
+
+// The D flag of a DATA message, `duplicate` in its head.
+const D_FLAG: u8 = 2;
 
 // What a DATA message says in front of its record; `first` is its S flag, `duplicate` its D flag.
 pub struct DataHead {
@@ -143,10 +164,10 @@ fn read_bare(body: usize, meaning: Message) -> Reading
 
 // Reads a START ACK behind its header.
 fn read_start_ack(message: &[u8]) -> Reading
-    requires { ⌜ 8 ≤ length (now message) ⌝ }
-    ensures { λ r. ⌜ r ≡ readWhere (eqb (length (now (message .entry)) - 8) 4) (StartAck (sessionOf (now (message .entry))) (uintAt (now (message .entry)) 8 4)) ⌝ }
+    requires { ⌜ headerOctets ≤ length (now message) ⌝ }
+    ensures { λ r. ⌜ r ≡ readWhere (eqb (length (now (message .entry)) - headerOctets) 4) (StartAck (sessionOf (now (message .entry))) (uintAt (now (message .entry)) 8 4)) ⌝ }
 {
-    if message.len() - HEADER_OCTETS != 4 {
+    if message.len() - HEADER_OCTETS != START_ACK_BODY {
         return Reading::Refused(Answer::BODY_LENGTH_WRONG);
     }
     Reading::Message(Message::StartAck {
@@ -157,7 +178,7 @@ fn read_start_ack(message: &[u8]) -> Reading
 
 // Reads a TMPL DATA behind its header.
 fn read_tmpl_data(message: &[u8]) -> Reading
-    requires { ⌜ 8 ≤ length (now message) ⌝ }
+    requires { ⌜ headerOctets ≤ length (now message) ⌝ }
     ensures { λ r. ⌜ r ≡ readTable (now (message .entry)) ⌝ }
 {
     if crate::table::table_sound(&message[HEADER_OCTETS..]) {
@@ -170,10 +191,10 @@ fn read_tmpl_data(message: &[u8]) -> Reading
 
 // Reads a FINAL TMPL DATA ACK behind its header.
 fn read_final_tmpl_data_ack(message: &[u8]) -> Reading
-    requires { ⌜ 8 ≤ length (now message) ⌝ }
-    ensures { λ r. ⌜ r ≡ readWhere (eqb (length (now (message .entry)) - 8) 4) (FinalTmplDataAck (sessionOf (now (message .entry))) (uintAt (now (message .entry)) 8 1)) ⌝ }
+    requires { ⌜ headerOctets ≤ length (now message) ⌝ }
+    ensures { λ r. ⌜ r ≡ readWhere (eqb (length (now (message .entry)) - headerOctets) 4) (FinalTmplDataAck (sessionOf (now (message .entry))) (uintAt (now (message .entry)) 8 1)) ⌝ }
 {
-    if message.len() - HEADER_OCTETS != 4 {
+    if message.len() - HEADER_OCTETS != FINAL_TMPL_DATA_ACK_BODY {
         return Reading::Refused(Answer::BODY_LENGTH_WRONG);
     }
     Reading::Message(Message::FinalTmplDataAck {
@@ -184,7 +205,7 @@ fn read_final_tmpl_data_ack(message: &[u8]) -> Reading
 
 // What a DATA message says in front of its record.
 fn data_head(message: &[u8]) -> DataHead
-    requires { ⌜ 16 ≤ length (now message) ⌝ }
+    requires { ⌜ dataHeadLength ≤ length (now message) ⌝ }
     ensures { λ r. ⌜ r ≡ dataHeadOf (now (message .entry)) ⌝ }
 {
     let flags = message[11];
@@ -200,10 +221,10 @@ fn data_head(message: &[u8]) -> DataHead
 
 // Reads a DATA behind its header.
 fn read_data(message: &[u8]) -> Reading
-    requires { ⌜ 8 ≤ length (now message) ⌝ }
-    ensures { λ r. ⌜ r ≡ readWhere (leb 8 (length (now (message .entry)) - 8)) (Data (dataHeadOf (now (message .entry)))) ⌝ }
+    requires { ⌜ headerOctets ≤ length (now message) ⌝ }
+    ensures { λ r. ⌜ r ≡ readWhere (leb 8 (length (now (message .entry)) - headerOctets)) (Data (dataHeadOf (now (message .entry)))) ⌝ }
 {
-    if message.len() - HEADER_OCTETS < 8 {
+    if message.len() - HEADER_OCTETS < DATA_FRONT_OCTETS {
         return Reading::Refused(Answer::BODY_LENGTH_WRONG);
     }
     Reading::Message(Message::Data(data_head(message)))
@@ -211,10 +232,10 @@ fn read_data(message: &[u8]) -> Reading
 
 // Reads a DATA ACK behind its header.
 fn read_data_ack(message: &[u8]) -> Reading
-    requires { ⌜ 8 ≤ length (now message) ⌝ }
-    ensures { λ r. ⌜ r ≡ readWhere (eqb (length (now (message .entry)) - 8) 8) (DataAck (sessionOf (now (message .entry))) (uintAt (now (message .entry)) 8 4) (uintAt (now (message .entry)) 12 1)) ⌝ }
+    requires { ⌜ headerOctets ≤ length (now message) ⌝ }
+    ensures { λ r. ⌜ r ≡ readWhere (eqb (length (now (message .entry)) - headerOctets) 8) (DataAck (sessionOf (now (message .entry))) (uintAt (now (message .entry)) 8 4) (uintAt (now (message .entry)) 12 1)) ⌝ }
 {
-    if message.len() - HEADER_OCTETS != 8 {
+    if message.len() - HEADER_OCTETS != DATA_ACK_BODY {
         return Reading::Refused(Answer::BODY_LENGTH_WRONG);
     }
     Reading::Message(Message::DataAck {
@@ -226,7 +247,7 @@ fn read_data_ack(message: &[u8]) -> Reading
 
 // Reads a message whose header is not refused; a DATA, the most frequent, first.
 fn read_body(message: &[u8]) -> Reading
-    requires { ⌜ headerAnswer (now message) ≡ 0 ⌝ }
+    requires { ⌜ headerAnswer (now message) ≡ done ⌝ }
     ensures { λ r. ⌜ r ≡ readOf (now (message .entry)) ⌝ }
 {
     let number = message[1];
@@ -287,7 +308,7 @@ pub fn message_part(message: &[u8]) -> &[u8]
 
 // The header of a message of `len` octets.
 fn put_header(number: u8, session: u8, len: u32, out: &mut [u8])
-    requires { ⌜ 8 ≤ length (now out) ⌝ }
+    requires { ⌜ headerOctets ≤ length (now out) ⌝ }
     ensures { λ _. ⌜ now (out .exit) ≡ sets (now (out .entry)) 0 (headerOctetsOf number session len) ⌝ }
 {
     out[0] = VERSION;
@@ -378,15 +399,15 @@ fn flags(first: bool, duplicate: bool) -> u8
     ensures { λ r. ⌜ r ≡ flagsOf first duplicate ⌝ }
 {
     if first {
-        if duplicate { 3 } else { 1 }
+        if duplicate { S_FLAG + D_FLAG } else { S_FLAG }
     } else {
-        if duplicate { 2 } else { 0 }
+        if duplicate { D_FLAG } else { 0 }
     }
 }
 
 // The octets of a DATA message in front of its record, which has `len` octets.
 fn put_data_head(head: DataHead, len: usize, out: &mut [u8])
-    requires { ⌜ (16 ≤ length (now out)) × (len ≤ 1024) ⌝ }
+    requires { ⌜ (dataHeadLength ≤ length (now out)) × (len ≤ maxRecordOctets) ⌝ }
     ensures { λ _. ⌜ now (out .exit) ≡ sets (now (out .entry)) 0 (dataHeadOctets head len) ⌝ }
 {
     let marks = flags(head.first, head.duplicate);

@@ -6,12 +6,36 @@ ghost use Prim.Native.Nat.{_+_, _*_, _≤_, _<_};
 ghost use lib.Dec.{eqb};
 ghost use lib.ListN.{length, getD};
 ghost use Rattle.wire.specs.Each.{every, absent, allOf};
-ghost use Rattle.wire.specs.Table.{configurationId, keyId, keyAt, keySound, keysSound, keysDiffer, keysAt, padded, blockEnd, headSound, paddingSound, blockSound, blockAt, idAt, blocksSound, templatesDiffer, tableSound, templateAt, locateOf, findOf};
+ghost use Rattle.wire.specs.Table.{maxTableOctets, maxKeys, keyOctets, blockHeadOctets, configurationId, keyId, keyAt, keySound, keysSound, keysDiffer, keysAt, padded, blockEnd, headSound, paddingSound, blockSound, blockAt, idAt, blocksSound, templatesDiffer, tableSound, templateAt, locateOf, findOf};
 use crate::field_type::FieldType;
 use octets::Answer;
 
 // The most octets that a table has.
 pub const MAX_TABLE_OCTETS: usize = 16384;
+
+// The most templates that a table has.
+pub const MAX_TEMPLATES: usize = 8;
+
+// The most keys that a template has.
+pub const MAX_KEYS: u16 = 32;
+
+// The flags of a table, which say that its numbers are big-endian.
+const BIG_ENDIAN: u8 = 1;
+
+// The octets of a table in front of its first block: Configuration ID, flags, template count.
+const TABLE_HEAD_OCTETS: usize = 4;
+
+// The octets of a template block in front of its description.
+const BLOCK_HEAD_OCTETS: usize = 12;
+
+// The octets of a key block.
+pub(crate) const KEY_OCTETS: usize = 12;
+
+// Where a key block's type begins in it: behind the key ID.
+pub(crate) const KEY_TYPE_AT: usize = 4;
+
+// Where its attributes begin: behind the reserved octets.
+pub(crate) const KEY_ATTRIBUTES_AT: usize = 8;
 
 // The key blocks of a template in a table: where the first begins, and how many there are.
 pub struct Template {
@@ -34,7 +58,7 @@ pub fn configuration_id(t: &[u8]) -> u8
 
 // Whether the key block at a place is sound by itself.
 fn key_sound(t: &[u8], at: usize) -> bool
-    requires { ⌜ at + 12 ≤ length (now t) ⌝ }
+    requires { ⌜ at + keyOctets ≤ length (now t) ⌝ }
     ensures { λ r. ⌜ r ≡ keySound (now (t .entry)) at ⌝ }
 {
     let kind = FieldType {
@@ -47,12 +71,12 @@ fn key_sound(t: &[u8], at: usize) -> bool
 
 // Whether each of n key blocks is sound by itself.
 fn keys_sound(t: &[u8], keys: usize, n: usize) -> bool
-    requires { ⌜ (keys + 12 * n ≤ length (now t)) × (n ≤ 32) ⌝ }
+    requires { ⌜ (keys + keyOctets * n ≤ length (now t)) × (n ≤ maxKeys) ⌝ }
     ensures { λ r. ⌜ r ≡ keysSound (now (t .entry)) keys n ⌝ }
 {
     let mut k: usize = 0;
     while k < n {
-        if !key_sound(t, keys + 12 * k) {
+        if !key_sound(t, keys + KEY_OCTETS * k) {
             return false;
         }
         k += 1;
@@ -62,7 +86,7 @@ fn keys_sound(t: &[u8], keys: usize, n: usize) -> bool
 
 // The ID in the key block at a place.
 fn key_id(t: &[u8], at: usize) -> u32
-    requires { ⌜ at + 12 ≤ length (now t) ⌝ }
+    requires { ⌜ at + keyOctets ≤ length (now t) ⌝ }
     ensures { λ r. ⌜ r ≡ keyId (now (t .entry)) at ⌝ }
 {
     crate::within::u32_at(t, at)
@@ -70,12 +94,12 @@ fn key_id(t: &[u8], at: usize) -> u32
 
 // Whether the IDs of n key blocks rise, so that no two are equal.
 fn keys_rise(t: &[u8], keys: usize, n: usize) -> bool
-    requires { ⌜ (keys + 12 * n ≤ length (now t)) × (n ≤ 32) ⌝ }
+    requires { ⌜ (keys + keyOctets * n ≤ length (now t)) × (n ≤ maxKeys) ⌝ }
     ensures { λ r. ⌜ (r ≡ true → keysDiffer (now (t .entry)) keys n ≡ true) ⌝ }
 {
     let mut k: usize = 1;
     while k < n {
-        if key_id(t, keys + 12 * k) <= key_id(t, keys + 12 * (k - 1)) {
+        if key_id(t, keys + KEY_OCTETS * k) <= key_id(t, keys + KEY_OCTETS * (k - 1)) {
             return false;
         }
         k += 1;
@@ -85,13 +109,13 @@ fn keys_rise(t: &[u8], keys: usize, n: usize) -> bool
 
 // Whether key block k has another ID than each before it.
 fn key_is_new(t: &[u8], keys: usize, k: usize) -> bool
-    requires { ⌜ (keys + 12 * k + 12 ≤ length (now t)) × (k ≤ 32) ⌝ }
+    requires { ⌜ (keys + keyOctets * k + keyOctets ≤ length (now t)) × (k ≤ maxKeys) ⌝ }
     ensures { λ r. ⌜ r ≡ absent (λ j. keyId (now (t .entry)) (keyAt keys j)) k (keyId (now (t .entry)) (keyAt keys k)) ⌝ }
 {
-    let id = key_id(t, keys + 12 * k);
+    let id = key_id(t, keys + KEY_OCTETS * k);
     let mut j: usize = 0;
     while j < k {
-        if key_id(t, keys + 12 * j) == id {
+        if key_id(t, keys + KEY_OCTETS * j) == id {
             return false;
         }
         j += 1;
@@ -101,7 +125,7 @@ fn key_is_new(t: &[u8], keys: usize, k: usize) -> bool
 
 // Whether no two of n key blocks have one ID.
 fn keys_differ(t: &[u8], keys: usize, n: usize) -> bool
-    requires { ⌜ (keys + 12 * n ≤ length (now t)) × (n ≤ 32) ⌝ }
+    requires { ⌜ (keys + keyOctets * n ≤ length (now t)) × (n ≤ maxKeys) ⌝ }
     ensures { λ r. ⌜ r ≡ keysDiffer (now (t .entry)) keys n ⌝ }
 {
     if keys_rise(t, keys, n) {
@@ -141,56 +165,56 @@ fn padded(n: u16) -> usize
 
 // The key blocks of the template block at a place.
 fn template_at(t: &[u8], at: usize) -> Template
-    requires { ⌜ (at ≤ 16384) × (at + 12 ≤ length (now t)) ⌝ }
+    requires { ⌜ (at ≤ maxTableOctets) × (at + blockHeadOctets ≤ length (now t)) ⌝ }
     ensures { λ r. ⌜ r ≡ templateAt (now (t .entry)) at ⌝ }
 {
     let description = crate::within::u16_at(t, at + 6);
     Template {
-        keys: at + 12 + padded(description),
+        keys: at + BLOCK_HEAD_OCTETS + padded(description),
         count: crate::within::u16_at(t, at + 2) as usize,
     }
 }
 
 // Where the template block at a place ends, by its key count and description length.
 fn block_end(t: &[u8], at: usize) -> usize
-    requires { ⌜ (at ≤ 16384) × (at + 12 ≤ length (now t)) ⌝ }
+    requires { ⌜ (at ≤ maxTableOctets) × (at + blockHeadOctets ≤ length (now t)) ⌝ }
     ensures { λ r. ⌜ r ≡ blockEnd (now (t .entry)) at ⌝ }
 {
     let description = crate::within::u16_at(t, at + 6);
     let count = crate::within::u16_at(t, at + 2) as usize;
-    at + 12 + padded(description) + 12 * count
+    at + BLOCK_HEAD_OCTETS + padded(description) + KEY_OCTETS * count
 }
 
 // Whether the head of the template block at a place is sound.
 fn head_sound(t: &[u8], at: usize) -> bool
-    requires { ⌜ at ≤ 16384 ⌝ }
+    requires { ⌜ at ≤ maxTableOctets ⌝ }
     ensures { λ r. ⌜ r ≡ headSound (now (t .entry)) at ⌝ }
 {
-    if t.len() < at + 12 {
+    if t.len() < at + BLOCK_HEAD_OCTETS {
         return false;
     }
     let end = block_end(t, at);
     let count = crate::within::u16_at(t, at + 2);
     (end <= t.len())
         & (1 <= count)
-        & (count <= 32)
+        & (count <= MAX_KEYS)
         & (crate::within::u16_at(t, at + 4) == 0)
         & (crate::within::u32_at(t, at + 8) as usize == end - at)
 }
 
 // Whether the octets that pad the description of the template block at a place are 0.
 fn padding_sound(t: &[u8], at: usize) -> bool
-    requires { ⌜ (at ≤ 16384) × (keysAt (now t) at ≤ length (now t)) ⌝ }
+    requires { ⌜ (at ≤ maxTableOctets) × (keysAt (now t) at ≤ length (now t)) ⌝ }
     ensures { λ r. ⌜ r ≡ paddingSound (now (t .entry)) at ⌝ }
 {
     let description = crate::within::u16_at(t, at + 6);
     let len = description as usize;
-    all_zero(t, at + 12 + len, padded(description) - len)
+    all_zero(t, at + BLOCK_HEAD_OCTETS + len, padded(description) - len)
 }
 
 // Whether the template block at a place is sound.
 fn block_sound(t: &[u8], at: usize) -> bool
-    requires { ⌜ at ≤ 16384 ⌝ }
+    requires { ⌜ at ≤ maxTableOctets ⌝ }
     ensures { λ r. ⌜ r ≡ blockSound (now (t .entry)) at ⌝ }
 {
     if !head_sound(t, at) {
@@ -208,10 +232,10 @@ fn block_sound(t: &[u8], at: usize) -> bool
 
 // Whether none of the first n templates has an ID.
 fn id_is_new(t: &[u8], n: usize, id: u16) -> bool
-    requires { ⌜ (length (now t) ≤ 16384) × (blocksSound (now t) n ≡ true) ⌝ }
+    requires { ⌜ (length (now t) ≤ maxTableOctets) × (blocksSound (now t) n ≡ true) ⌝ }
     ensures { λ r. ⌜ r ≡ absent (idAt (now (t .entry))) n id ⌝ }
 {
-    let mut at: usize = 4;
+    let mut at = TABLE_HEAD_OCTETS;
     let mut i: usize = 0;
     while i < n {
         if crate::within::u16_at(t, at) == id {
@@ -225,10 +249,10 @@ fn id_is_new(t: &[u8], n: usize, id: u16) -> bool
 
 // Whether n template blocks are sound, have different IDs and end where the table does.
 fn blocks_sound(t: &[u8], n: usize) -> bool
-    requires { ⌜ length (now t) ≤ 16384 ⌝ }
+    requires { ⌜ length (now t) ≤ maxTableOctets ⌝ }
     ensures { λ r. ⌜ r ≡ allOf (blocksSound (now (t .entry)) n ∷ templatesDiffer (now (t .entry)) n ∷ eqb (blockAt (now (t .entry)) n) (length (now (t .entry))) ∷ []) ⌝ }
 {
-    let mut at: usize = 4;
+    let mut at = TABLE_HEAD_OCTETS;
     let mut i: usize = 0;
     while i < n {
         if !block_sound(t, at) {
@@ -250,14 +274,14 @@ pub fn table_sound(t: &[u8]) -> bool
     if MAX_TABLE_OCTETS < t.len() {
         return false;
     }
-    if octets::get_u8(t, 1) != 1 {
+    if octets::get_u8(t, 1) != BIG_ENDIAN {
         return false;
     }
     let count = octets::get_u16(t, 2) as usize;
     if count < 1 {
         return false;
     }
-    if 8 < count {
+    if MAX_TEMPLATES < count {
         return false;
     }
     blocks_sound(t, count)
@@ -269,7 +293,7 @@ pub(crate) fn locate(t: &[u8], id: u16) -> Found
     ensures { λ r. ⌜ r ≡ locateOf (now (t .entry)) id ⌝ }
 {
     let count = octets::get_u16(t, 2) as usize;
-    let mut at: usize = 4;
+    let mut at = TABLE_HEAD_OCTETS;
     let mut i: usize = 0;
     while i < count {
         if crate::within::u16_at(t, at) == id {

@@ -7,6 +7,7 @@ use native.Mathlib.Omega.{arith}
 use borrow.Author.Tests.{not-false}
 use borrow.Author.Needs.{needs}
 use lib.ListN.{length}
+use Rattle.octets.specs.Answers.{unsoundTable}
 use Rattle.octets.specs.Numbers.{octetsOf}
 use Rattle.wire.specs.Messages.{headerOctetsOf, messageOf, tmplData, layoutOf, writeAnswer}
 use Rattle.wire.proofs.Messages.{placed-short, placed, put-then, allowed, refused, message-length}
@@ -19,7 +20,7 @@ table-sound-requires c κs = search needs
 
 returns : tie.Need-returns
 unfolding writeAnswer
-returns c = refused _ _ _ 21 (λ z. omega arith) (rw (← c .before .table-sound .ensures, c .if1 .taken))
+returns c = refused _ _ _ unsoundTable (λ z. omega arith) (rw (← c .before .table-sound .ensures, c .if1 .taken))
 
 add-len : tie.Need-add-len
 add-len c = search needs
