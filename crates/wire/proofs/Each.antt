@@ -1,4 +1,5 @@
--- Laws of `every`, `firstFrom` and `allOf`, which every loop's proof cites. Assumes nothing.
+-- Laws of Booleans and clauses, of `every` and of `firstFrom`, which every loop's proof cites. What every number below a bound passes goes
+-- by induction on the bound. Assumes nothing.
 use mathlib.Core.Path.{_≡_, refl, sym, ap, _∙_}
 use mathlib.Core.Bool.{Bool, true, false, cond, not, _&&_, false≢true}
 use Prim.Native.Nat.{ℕ, zero, suc, _+_, _-_, _≤_, _<_}

@@ -1,4 +1,5 @@
--- Laws of records under a template. Assumes nothing.
+-- A field that is due is valid exactly if its length is above 0, and lies within the record. `fields_valid` cites this at each key. Assumes
+-- nothing.
 use mathlib.Core.Path.{_≡_, refl}
 use mathlib.Core.Bool.{Bool, true, false, not, _&&_, _||_, false≢true}
 use mathlib.Core.List.{List}

@@ -1,4 +1,5 @@
--- Laws of template tables. Assumes nothing.
+-- Laws of template tables: IDs that rise all differ; what a sound block and a sound table say of their numbers; a found template's key
+-- blocks lie within the table. The code's loops over blocks and keys cite them. Assumes nothing.
 use mathlib.Core.Path.{_≡_, refl, ap}
 use mathlib.Core.Bool.{Bool, true, false, cond, not, _&&_}
 use mathlib.Core.List.{List}

@@ -21,8 +21,9 @@ use Rattle.wire.specs.declared.message.Reading.the-variants as reading
 use Rattle.wire.specs.declared.message.Written.{Written}
 use Rattle.wire.specs.declared.message.Written.the-variants as written
 
--- ---- the header, 8 octets
+-- ---- the header (01, "Messages")
 
+-- Octets of the header.
 abbrev pub headerOctets : ℕ
 headerOctets = 8
 
@@ -30,47 +31,61 @@ headerOctets = 8
 abbrev pub protocolVersion : ℕ
 protocolVersion = 1
 
+-- Octet 0: the version.
 abbrev pub versionOf : List ℕ → ℕ
 versionOf m = uintAt m 0 1
 
+-- Octet 1: the message number.
 abbrev pub messageNumber : List ℕ → ℕ
 messageNumber m = uintAt m 1 1
 
+-- Octet 2: the session.
 abbrev pub sessionOf : List ℕ → ℕ
 sessionOf m = uintAt m 2 1
 
+-- Octets 4 to 7: the length of the whole message; octet 3, the message flags, is not read.
 abbrev pub lengthField : List ℕ → ℕ
 lengthField m = uintAt m 4 4
 
--- ---- the table of messages
+-- ---- the table of messages (01, "Messages")
 
+-- START: no body.
 abbrev pub start : ℕ
 start = 0x01
 
+-- START ACK: the boot time.
 abbrev pub startAck : ℕ
 startAck = 0x02
 
+-- STOP: no body.
 abbrev pub stop : ℕ
 stop = 0x03
 
+-- STOP ACK: no body.
 abbrev pub stopAck : ℕ
 stopAck = 0x04
 
+-- TMPL DATA: a template table.
 abbrev pub tmplData : ℕ
 tmplData = 0x10
 
+-- FINAL TMPL DATA ACK: a Configuration ID and 3 reserved octets.
 abbrev pub finalTmplDataAck : ℕ
 finalTmplDataAck = 0x13
 
+-- START NEGOTIATE: no body.
 abbrev pub startNegotiate : ℕ
 startNegotiate = 0x18
 
+-- START NEGOTIATE ACK: no body.
 abbrev pub startNegotiateAck : ℕ
 startNegotiateAck = 0x19
 
+-- DATA: template ID, Configuration ID, flags, DSN, record.
 abbrev pub dataNumber : ℕ
 dataNumber = 0x20
 
+-- DATA ACK: a DSN, a Configuration ID and 3 reserved octets.
 abbrev pub dataAck : ℕ
 dataAck = 0x21
 
@@ -80,9 +95,11 @@ pub record Form : Type 0 where
   pub body : ℕ
   pub more : Bool
 
+-- A row, by its columns.
 abbrev pub form : ℕ → ℕ → Bool → Form
 form number body more = record { number = number; body = body; more = more }
 
+-- The ten messages, in the order of their numbers. A TMPL DATA's body is all table, a DATA's 8 octets and the record.
 abbrev pub forms : List Form
 forms =
     form start 0 false ∷ form startAck 4 false ∷ form stop 0 false ∷ form stopAck 0 false
@@ -102,7 +119,7 @@ isMessage n = ofForm (λ f. true) forms n
 unfoldable pub bodyFits : ℕ → ℕ → Bool
 bodyFits n body = ofForm (λ f. cond (f .more) (leb (f .body) body) (eqb body (f .body))) forms n
 
--- ---- layouts
+-- ---- layouts (01, "Messages")
 
 -- Version, message number, session, message flags 0, the length of the whole message.
 abbrev pub headerOctetsOf : ℕ → ℕ → ℕ → List ℕ
@@ -149,7 +166,7 @@ layoutOf (StartNegotiateAck s) part = messageOf startNegotiateAck s []
 layoutOf (Data h) part = messageOf dataNumber (h .session) (dataFront h ++ part)
 layoutOf (DataAck s dsn config) part = messageOf dataAck s (octetsOf 4 dsn ++ (config ∷ 0 ∷ 0 ∷ 0 ∷ []))
 
--- ---- reading alone
+-- ---- reading alone (01, "Answer numbers" and "Messages")
 
 -- The header is judged 3, 4, 5.
 abbrev pub headerChecks : List ℕ → List Check
@@ -182,10 +199,11 @@ bodyChecks m =
 unfoldable pub readAnswer : List ℕ → ℕ
 readAnswer m = judge (headerChecks m ++ bodyChecks m)
 
--- Of DATA's flags S is the lowest bit, D the next; the others are not looked at.
+-- Of DATA's flags S is the lowest bit; those above D are not looked at.
 abbrev pub flagFirst : ℕ → Bool
 flagFirst flags = eqb (flags % 2) 1
 
+-- D is the second lowest bit.
 abbrev pub flagDuplicate : ℕ → Bool
 flagDuplicate flags = eqb (flags / 2 % 2) 1
 
@@ -221,11 +239,11 @@ meaningOf m =
 unfoldable pub readOf : List ℕ → Reading
 readOf m = cond (eqb (readAnswer m) done) (reading.Message (meaningOf m)) (reading.Refused (readAnswer m))
 
--- What is read behind a header that is not refused: what the message says where its body's length fits, and of a TMPL DATA where its
--- table is sound.
+-- What is read behind a header that is not refused: what the message says where its body's length fits, else 8.
 abbrev pub readWhere : Bool → Message → Reading
 readWhere fits m = cond fits (reading.Message m) (reading.Refused bodyLengthWrong)
 
+-- Of a TMPL DATA: what it says where its table is sound, else 21, whatever its length.
 abbrev pub readTable : List ℕ → Reading
 readTable m = cond (tableSound (drop headerOctets m)) (reading.Message (TmplData (sessionOf m))) (reading.Refused unsoundTable)
 
@@ -241,8 +259,9 @@ partAt m = cond (hasPart m) (cond (eqb (messageNumber m) dataNumber) dataHeadLen
 unfoldable pub partOf : List ℕ → List ℕ
 partOf m = cond (hasPart m) (drop (partAt m) m) []
 
--- ---- writing alone
+-- ---- writing alone (01, "Answer numbers")
 
+-- The most octets of a record in a DATA that is written (17).
 abbrev pub maxRecordOctets : ℕ
 maxRecordOctets = 1024
 
@@ -290,7 +309,8 @@ writeOf m part out =
 unfoldable pub writeOut : Message → List ℕ → List ℕ → List ℕ
 writeOut m part out = cond (eqb (writeAnswer m part (length out)) done) (sets out 0 (layoutOf m part)) out
 
--- A DATA's octets in front of a record of n octets that the caller writes behind them: judged 17, 12 as the whole message is.
+-- A DATA's octets in front of a record of n octets that the caller writes behind them: judged 17, 12 as the whole message is (law
+-- `head-answer`).
 unfoldable pub headWriteAnswer : ℕ → ℕ → ℕ
 headWriteAnswer n room = judge ((recordTooLong when ltb maxRecordOctets n) ∷ (outputTooShort when ltb room (dataHeadLength + n)) ∷ [])
 
@@ -309,7 +329,7 @@ pub record Placed (octets out : List ℕ) (answer : Written) (after : List ℕ) 
   pub answered : answer ≡ cond (ltb (length out) (length octets)) (written.Refused outputTooShort) (written.Octets (length octets))
   pub left : after ≡ putAt out 0 octets
 
--- ---- what is written, and what can be written
+-- ---- what is written, and what can be written; for theorems only: no contract cites these
 
 -- The part that the message hands back when it is read: a TMPL DATA's table, a DATA's record, and else no octets.
 abbrev pub carried : Message → List ℕ → List ℕ
@@ -347,14 +367,17 @@ pub record Plain (m : List ℕ) : Type 0 where
 
 -- ---- the answer numbers of the answers that are enums
 
+-- The answer number of reading a header: 0, or the refusal's.
 abbrev pub headerReadingAnswer : HeaderReading → ℕ
 headerReadingAnswer (header.Header h) = done
 headerReadingAnswer (header.Refused a) = a
 
+-- The answer number of reading a message: 0, or the refusal's.
 abbrev pub readingAnswer : Reading → ℕ
 readingAnswer (reading.Message m) = done
 readingAnswer (reading.Refused a) = a
 
+-- The answer number of writing: 0, or the refusal's.
 abbrev pub writtenAnswer : Written → ℕ
 writtenAnswer (written.Octets n) = done
 writtenAnswer (written.Refused a) = a

@@ -12,20 +12,25 @@ use Rattle.wire.specs.declared.table.Template.{Template}
 use Rattle.wire.specs.declared.table.Found.{Found}
 use Rattle.wire.specs.declared.table.Found.the-variants.{At, Refused}
 
--- ---- the key block at a place: 12 octets
+-- ---- the key block at a place
 
+-- Octets of a key block.
 abbrev pub keyOctets : ℕ
 keyOctets = 12
 
+-- Its key ID, 32 bits.
 abbrev pub keyId : List ℕ → ℕ → ℕ
 keyId t at = uintAt t at 4
 
+-- Its field type, 16 bits.
 abbrev pub keyType : List ℕ → ℕ → ℕ
 keyType t at = uintAt t (at + 4) 2
 
+-- Its reserved 16 bits.
 abbrev pub keyReserved : List ℕ → ℕ → ℕ
 keyReserved t at = uintAt t (at + 6) 2
 
+-- Its attributes, 32 bits.
 abbrev pub keyAttributes : List ℕ → ℕ → ℕ
 keyAttributes t at = uintAt t (at + 8) 4
 
@@ -39,21 +44,27 @@ isEnabled t at = eqb (keyAttributes t at) 0
 
 -- ---- the template block at a place
 
+-- Octets of a block in front of its description.
 abbrev pub blockHeadOctets : ℕ
 blockHeadOctets = 12
 
+-- Its template ID, 16 bits.
 abbrev pub templateId : List ℕ → ℕ → ℕ
 templateId t at = uintAt t at 2
 
+-- Its key count, 16 bits.
 abbrev pub keyCount : List ℕ → ℕ → ℕ
 keyCount t at = uintAt t (at + 2) 2
 
+-- Its flags, 16 bits.
 abbrev pub blockFlags : List ℕ → ℕ → ℕ
 blockFlags t at = uintAt t (at + 4) 2
 
+-- Its description's length without padding, 16 bits.
 abbrev pub descriptionLength : List ℕ → ℕ → ℕ
 descriptionLength t at = uintAt t (at + 6) 2
 
+-- The block length that it states, 32 bits.
 abbrev pub blockLength : List ℕ → ℕ → ℕ
 blockLength t at = uintAt t (at + 8) 4
 
@@ -61,10 +72,11 @@ blockLength t at = uintAt t (at + 8) 4
 abbrev pub padded : ℕ → ℕ
 padded n = (n + 3) / 4 * 4
 
--- Where its description begins, and where its key blocks do.
+-- Where its description begins: behind its head.
 abbrev pub descriptionAt : ℕ → ℕ
 descriptionAt at = at + blockHeadOctets
 
+-- Where its key blocks begin: behind the padded description.
 abbrev pub keysAt : List ℕ → ℕ → ℕ
 keysAt t at = descriptionAt at + padded (descriptionLength t at)
 
@@ -135,12 +147,15 @@ bigEndianFlags = 1
 abbrev pub tableHeadOctets : ℕ
 tableHeadOctets = 4
 
+-- Octet 0: the Configuration ID.
 abbrev pub configurationId : List ℕ → ℕ
 configurationId t = uintAt t 0 1
 
+-- Octet 1: the flags.
 abbrev pub tableFlags : List ℕ → ℕ
 tableFlags t = uintAt t 1 1
 
+-- Octets 2 and 3: how many templates follow.
 abbrev pub templateCount : List ℕ → ℕ
 templateCount t = uintAt t 2 2
 

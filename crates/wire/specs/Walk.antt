@@ -82,7 +82,7 @@ stepAnswer (step.Next f c) = done
 stepAnswer step.End = done
 stepAnswer (step.Refused a) = a
 
--- ---- a whole walk, by any step function
+-- ---- a whole walk, by any step function; for theorems only: no contract cites these
 
 -- What follows a step: where it answered a field and a cursor, what `next` makes of them, and otherwise `stop`.
 abbrev pub afterStep : {A : Type 0} → (Field → Cursor → A) → A → Step → A
@@ -114,12 +114,14 @@ unfoldable pub enabledFrom : List ℕ → Template → ℕ → ℕ → List ℕ
 enabledFrom t m k zero = []
 enabledFrom t m k (suc n) = cond (isEnabled t (keyAt (m .keys) k)) (k ∷ enabledFrom t m (k + 1) n) (enabledFrom t m (k + 1) n)
 
--- The enabled keys of a template, their types, and the fields of a record that they have under it.
+-- The enabled keys of a template, in order.
 abbrev pub enabledKeys : List ℕ → Template → List ℕ
 enabledKeys t m = enabledFrom t m 0 (m .count)
 
+-- The field types of the enabled keys, in order.
 abbrev pub enabledTypes : List ℕ → Template → List ℕ
 enabledTypes t m = map (λ k. keyType t (keyAt (m .keys) k)) (enabledKeys t m)
 
+-- The field of key k in a record that is valid under the template.
 abbrev pub fieldUnder : List ℕ → Template → List ℕ → ℕ → Field
 fieldUnder t m r k = fieldOf (keyType t (keyAt (m .keys) k)) r (fieldAt t m r k)

@@ -61,7 +61,8 @@ pub struct DataHead {
     pub dsn: u32,
 }
 
-// What a message says. A TMPL DATA's table and a DATA's record lie in the message itself.
+// What a message says. A TMPL DATA's table and a DATA's record are not in it: reading hands them back as a part of the message, writing
+// takes them beside it.
 pub enum Message {
     Start { session: u8 },
     StartAck { session: u8, boot_time: u32 },
@@ -75,25 +76,36 @@ pub enum Message {
     DataAck { session: u8, dsn: u32, config: u8 },
 }
 
+// The numbers of the messages.
 impl Message {
+    // START: no body.
     pub const START: u8 = 0x01;
 
+    // START ACK: the boot time.
     pub const START_ACK: u8 = 0x02;
 
+    // STOP: no body.
     pub const STOP: u8 = 0x03;
 
+    // STOP ACK: no body.
     pub const STOP_ACK: u8 = 0x04;
 
+    // TMPL DATA: a template table.
     pub const TMPL_DATA: u8 = 0x10;
 
+    // FINAL TMPL DATA ACK: a Configuration ID.
     pub const FINAL_TMPL_DATA_ACK: u8 = 0x13;
 
+    // START NEGOTIATE: no body.
     pub const START_NEGOTIATE: u8 = 0x18;
 
+    // START NEGOTIATE ACK: no body.
     pub const START_NEGOTIATE_ACK: u8 = 0x19;
 
+    // DATA: what `DataHead` says, then a record.
     pub const DATA: u8 = 0x20;
 
+    // DATA ACK: a DSN and a Configuration ID.
     pub const DATA_ACK: u8 = 0x21;
 }
 
@@ -115,7 +127,7 @@ pub enum Reading {
     Refused(u8),
 }
 
-// What writing a message answers: how many octets were written, or the refusal.
+// What writing answers: how many octets the message has, or the refusal.
 pub enum Written {
     Octets(usize),
     Refused(u8),
@@ -165,7 +177,8 @@ fn read_bare(body: usize, meaning: Message) -> Reading
 // Reads a START ACK behind its header.
 fn read_start_ack(message: &[u8]) -> Reading
     requires { ⌜ headerOctets ≤ length (now message) ⌝ }
-    ensures { λ r. ⌜ r ≡ readWhere (eqb (length (now (message .entry)) - headerOctets) 4) (StartAck (sessionOf (now (message .entry))) (uintAt (now (message .entry)) 8 4)) ⌝ }
+    ensures { λ r. ⌜ r ≡ readWhere (eqb (length (now (message .entry)) - headerOctets) 4)
+        (StartAck (sessionOf (now (message .entry))) (uintAt (now (message .entry)) 8 4)) ⌝ }
 {
     if message.len() - HEADER_OCTETS != START_ACK_BODY {
         return Reading::Refused(Answer::BODY_LENGTH_WRONG);
@@ -192,7 +205,8 @@ fn read_tmpl_data(message: &[u8]) -> Reading
 // Reads a FINAL TMPL DATA ACK behind its header.
 fn read_final_tmpl_data_ack(message: &[u8]) -> Reading
     requires { ⌜ headerOctets ≤ length (now message) ⌝ }
-    ensures { λ r. ⌜ r ≡ readWhere (eqb (length (now (message .entry)) - headerOctets) 4) (FinalTmplDataAck (sessionOf (now (message .entry))) (uintAt (now (message .entry)) 8 1)) ⌝ }
+    ensures { λ r. ⌜ r ≡ readWhere (eqb (length (now (message .entry)) - headerOctets) 4)
+        (FinalTmplDataAck (sessionOf (now (message .entry))) (uintAt (now (message .entry)) 8 1)) ⌝ }
 {
     if message.len() - HEADER_OCTETS != FINAL_TMPL_DATA_ACK_BODY {
         return Reading::Refused(Answer::BODY_LENGTH_WRONG);
@@ -233,7 +247,8 @@ fn read_data(message: &[u8]) -> Reading
 // Reads a DATA ACK behind its header.
 fn read_data_ack(message: &[u8]) -> Reading
     requires { ⌜ headerOctets ≤ length (now message) ⌝ }
-    ensures { λ r. ⌜ r ≡ readWhere (eqb (length (now (message .entry)) - headerOctets) 8) (DataAck (sessionOf (now (message .entry))) (uintAt (now (message .entry)) 8 4) (uintAt (now (message .entry)) 12 1)) ⌝ }
+    ensures { λ r. ⌜ r ≡ readWhere (eqb (length (now (message .entry)) - headerOctets) 8)
+        (DataAck (sessionOf (now (message .entry))) (uintAt (now (message .entry)) 8 4) (uintAt (now (message .entry)) 12 1)) ⌝ }
 {
     if message.len() - HEADER_OCTETS != DATA_ACK_BODY {
         return Reading::Refused(Answer::BODY_LENGTH_WRONG);
@@ -423,8 +438,8 @@ fn put_data_head(head: DataHead, len: usize, out: &mut [u8])
     octets::put_u32(out, 12, head.dsn);
 }
 
-// Writes a DATA's octets in front of a record of `len` octets, which the caller writes behind them, where the whole message fits.
-// Answers the whole message's octets, or 17 or 12.
+// Writes a DATA's head, the 16 octets in front of a record of `len` octets, where the whole message fits; the record is for the caller to
+// write behind them. Answers how many octets the whole message has, or 17 or 12.
 pub fn write_data_head(head: DataHead, len: usize, out: &mut [u8]) -> Written
     ensures { λ r. ⌜ (r ≡ headWriteOf len (length (now (out .entry)))) × (now (out .exit) ≡ headWriteOut head len (now (out .entry))) ⌝ }
 {

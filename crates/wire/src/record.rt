@@ -178,7 +178,8 @@ fn fields_valid(t: &[u8], m: Template, r: &[u8]) -> bool
     at == r.len()
 }
 
-// 0 for a valid record under the template with an ID, 21 for an unsound table, 15 for an ID that it does not have, 16 for another record.
+// 0 for a valid record under the template with an ID, 21 for an unsound table, 15 for an ID that it does not have, 16 for a record that is
+// not valid under it.
 pub fn record_valid(t: &[u8], id: u16, r: &[u8]) -> u8
     ensures { λ n. ⌜ n ≡ recordAnswer (now (t .entry)) id (now (r .entry)) ⌝ }
 {

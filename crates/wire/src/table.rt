@@ -92,7 +92,8 @@ fn key_id(t: &[u8], at: usize) -> u32
     crate::within::u32_at(t, at)
 }
 
-// Whether the IDs of n key blocks rise, so that no two are equal.
+// Whether the IDs of n key blocks rise, so that no two are equal. Only a shortcut: it may answer false for IDs that differ, and they are
+// then compared pairwise.
 fn keys_rise(t: &[u8], keys: usize, n: usize) -> bool
     requires { ⌜ (keys + keyOctets * n ≤ length (now t)) × (n ≤ maxKeys) ⌝ }
     ensures { λ r. ⌜ (r ≡ true → keysDiffer (now (t .entry)) keys n ≡ true) ⌝ }
@@ -250,7 +251,8 @@ fn id_is_new(t: &[u8], n: usize, id: u16) -> bool
 // Whether n template blocks are sound, have different IDs and end where the table does.
 fn blocks_sound(t: &[u8], n: usize) -> bool
     requires { ⌜ length (now t) ≤ maxTableOctets ⌝ }
-    ensures { λ r. ⌜ r ≡ allOf (blocksSound (now (t .entry)) n ∷ templatesDiffer (now (t .entry)) n ∷ eqb (blockAt (now (t .entry)) n) (length (now (t .entry))) ∷ []) ⌝ }
+    ensures { λ r. ⌜ r ≡ allOf (blocksSound (now (t .entry)) n ∷ templatesDiffer (now (t .entry)) n
+        ∷ eqb (blockAt (now (t .entry)) n) (length (now (t .entry))) ∷ []) ⌝ }
 {
     let mut at = TABLE_HEAD_OCTETS;
     let mut i: usize = 0;
