@@ -110,7 +110,7 @@ string-field r at octets few low h =
     (ap (λ (j : ℕ). getD r j 0) (add-assoc at 4 i) ∙ h .octet (4 + i) (omega arith) ∙ behind-length octets i)) in
     rw (b, m, same, low)
 
--- ---- zero-terminated strings
+-- ---- null terminated strings
 
 -- the first that passes, where none before it does
 first-at : (p : ℕ → Bool) (i n k : ℕ) → k < n → ((j : ℕ) → j < k → p (i + j) ≡ false) → p (i + k) ≡ true → firstFrom i n p ≡ i + k

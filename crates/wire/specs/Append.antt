@@ -33,7 +33,7 @@ abbrev pub lengthLimit : ℕ
 lengthLimit = 2 ^ 32
 
 -- Octets are of a type: as many as an address has; for a string or blob no more than a 32-bit length can say, a string's each below
--- 128; for a zero-terminated string, which comes without its zero, none of them 0.
+-- 128; for a null terminated string, which comes without its zero, none of them 0.
 unfoldable pub octetsFit : ℕ → List ℕ → Bool
 octetsFit type octets =
     cond (eqb type stringType) (ltb (length octets) lengthLimit && every (length octets) (λ i. ltb (getD octets i 0) asciiLimit))
@@ -47,7 +47,7 @@ valueFits type (Number n) octets = numberFits type n
 valueFits type (Negative n) octets = negativeFits type n
 valueFits type Octets octets = octetsFit type octets
 
--- The field that holds octets: a zero-terminated string in front of its zero, an address alone, a string or blob behind its 32-bit
+-- The field that holds octets: a null terminated string in front of its zero, an address alone, a string or blob behind its 32-bit
 -- length; asked only of octets that fit.
 unfoldable pub octetsField : ℕ → List ℕ → List ℕ
 octetsField type octets =

@@ -43,7 +43,7 @@ unfoldable pub stringLength : List ℕ → ℕ → ℕ
 stringLength r at =
     cond (every (blobLength r at - lengthOctets) (λ i. ltb (getD r (at + lengthOctets + i) 0) asciiLimit)) (blobLength r at) 0
 
--- A zero-terminated string ends with the first zero from its place on, and that zero counts.
+-- A null terminated string ends with the first zero from its place on, and that zero counts.
 unfoldable pub terminatedLength : List ℕ → ℕ → ℕ
 terminatedLength r at =
     let zeroAt = firstFrom at (left r at) (λ p. eqb (getD r p 0) 0) in

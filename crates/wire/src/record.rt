@@ -95,7 +95,7 @@ fn first_zero(r: &[u8], at: usize) -> usize
     p
 }
 
-// The length of the zero-terminated string at a place, 0 where none is valid there.
+// The length of the null terminated string at a place, 0 where none is valid there.
 fn terminated_length(r: &[u8], at: usize) -> usize
     ensures { λ n. ⌜ n ≡ terminatedLength (now (r .entry)) at ⌝ }
 {
