@@ -1,11 +1,13 @@
--- Laws of judging: what an answer of 0 says of the checks, and one list of checks behind another. Assumes nothing.
-use mathlib.Core.Path.{_≡_, refl}
-use mathlib.Core.Bool.{true, false}
+-- Laws of judging: what an answer of 0 says of the checks, one list of checks behind another, and the number of an answer that is an enum.
+-- Each goes by the checks in their order, or by whether the answer is 0. Assumes nothing.
+use mathlib.Core.Path.{_≡_, refl, sym, _∙_}
+use mathlib.Core.Bool.{Bool, true, false, cond}
 use mathlib.Core.List.{List, [], _∷_, _++_}
-use Prim.Native.Nat.{zero, suc}
+use Prim.Native.Nat.{ℕ, zero, suc}
 use native.Mathlib.Omega.{arith}
 use borrow.Author.Needs.{needs}
-use borrow.Author.Tests.{lt-ltb, le-ltb, le-leb, lt-leb, eq-eqb, ne-eqb}
+use borrow.Author.Tests.{lt-ltb, le-ltb, le-leb, lt-leb, eq-eqb, ne-eqb, eqb-true}
+use lib.Dec.{eqb}
 use Rattle.octets.specs.Answers.{Check, _when_, judge, done}
 
 -- what a search for a return needs: the value of each test on the way
@@ -46,3 +48,12 @@ judged-next [] more r e = refl
 judged-next ((zero when test) ∷ checks) more r e = absurd r
 judged-next ((suc n when true) ∷ checks) more r e = absurd (omega arith)
 judged-next ((suc n when false) ∷ checks) more r e = judged-next checks more r e
+
+-- the number of an answer that was made from a judged number is that number
+pub kept : {A : Type 0} (number : A → ℕ) (ok : A) (refusal : ℕ → A) → number ok ≡ done → ((a : ℕ) → number (refusal a) ≡ a)
+    → (a : ℕ) → number (cond (eqb a done) ok (refusal a)) ≡ a
+kept number ok refusal o n a = go (eqb a done) refl
+  where
+    go : (b : Bool) → eqb a done ≡ b → number (cond b ok (refusal a)) ≡ a
+    go true q = o ∙ sym (eqb-true a done q)
+    go false q = n a

@@ -2,12 +2,12 @@
 use mathlib.Core.Path.{_≡_, refl, sym, ap, _∙_}
 use mathlib.Core.List.{List, [], _∷_, _++_, append-nil, append-assoc}
 use Prim.Native.Nat.{ℕ, zero, suc, _+_, _-_, _*_, _/_, _%_, _^_, _≤_, _<_}
-use native.Mathlib.Nat.{add-zero, zero-add, add-suc, add-assoc, le-refl, pow-zero, pow-suc, mul-assoc, mul-comm, div-one, mod-one, mod-lt, div-add-mod', div-lt-iff-lt-mul, div-div-eq-div-mul, mod-eq-of-lt, pow-le-pow-right, zero-lt-suc, lt-of-lt-of-le}
+use native.Mathlib.Nat.{add-zero, zero-add, add-suc, add-assoc, le-refl, pow-zero, pow-suc, mul-assoc, mul-comm, div-one, div-add-mod', div-lt-iff-lt-mul, div-div-eq-div-mul}
 use native.Mathlib.Numerals.{add-one}
 use native.Mathlib.Omega.{arith}
 use lib.Dec.{lit<}
 use lib.ListN.{length, getD, take, drop, length-append, length-drop, List·getD-append, List·getD-eq-default}
-use lib.Seq.{take-suc, getD-drop, getD-append-add, length-take-le}
+use lib.Seq.{take-suc, getD-drop, getD-append-add}
 use Rattle.octets.specs.Numbers.{numberOf, uintAt, octetsOf, Octets}
 
 -- ---- the number of given digits
@@ -77,10 +77,6 @@ pub uint-past : (s : List ℕ) (at w : ℕ) → length s ≤ at → uintAt s at 
 unfolding uintAt numberOf
 uint-past s at zero h = refl
 uint-past s at (suc w) h = omega (arith, uint-past s at w h, List·getD-eq-default s 0 {n = at + w} (omega arith))
-
--- of the part from k on
-pub uint-drop : (s : List ℕ) (k at w : ℕ) → uintAt (drop k s) at w ≡ uintAt s (k + at) w
-uint-drop s k at w = uint-same (drop k s) s at (k + at) w (λ i l. getD-drop k s (at + i) 0 ∙ ap (λ (n : ℕ). getD s n 0) (sym (add-assoc k at i)))
 
 -- behind other octets
 pub uint-append : (s t : List ℕ) (at w : ℕ) → uintAt (s ++ t) (length s + at) w ≡ uintAt t at w

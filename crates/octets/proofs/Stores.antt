@@ -1,14 +1,14 @@
--- Laws of octets stored at a place. Assumes nothing.
+-- Octets stored at a place: what fits is stored and what does not changes nothing; two stores, one behind the other, are one. A number is
+-- stored in two halves, or octet by octet from its last one. Assumes nothing.
 use mathlib.Core.Path.{_≡_, refl, sym, ap, _∙_}
 use mathlib.Core.Bool.{Bool, true, false, cond}
 use mathlib.Core.List.{List, [], _∷_, _++_, append-assoc}
 use Prim.Native.Nat.{ℕ, zero, suc, _+_, _-_, _/_, _%_, _^_, _≤_, _<_}
-use native.Mathlib.Nat.{add-suc, add-zero, suc-add, add-assoc, zero-add}
+use native.Mathlib.Nat.{add-suc, add-zero, suc-add, zero-add}
 use native.Mathlib.Numerals.{add-one}
 use native.Mathlib.Omega.{arith}
 use borrow.Author.Tests.{le-leb, lt-leb}
-use lib.Dec.{leb}
-use lib.ListN.{length, getD, take, drop, set, length-append, length-take, drop-of-length-le, List·getD-append}
+use lib.ListN.{length, getD, take, drop, set, length-append, drop-of-length-le, List·getD-append}
 use lib.Seq.{sets, sets-eq, length-sets, drop-cons, length-take-le, getD-append-add, set-comm}
 use Rattle.octets.specs.Numbers.{uintAt, octetsOf, putAt}
 use Rattle.octets.proofs.Numbers.{uint-same, octets-length, octets-join, octets-mod, read-back}
@@ -28,11 +28,6 @@ pub put-short : (out : List ℕ) (at : ℕ) (vs : List ℕ) → length out < at 
 unfolding putAt
 put-short out at vs h = rw (lt-leb (at + length vs) (length out) h)
 
--- a put keeps the length
-pub put-length : (out : List ℕ) (at : ℕ) (vs : List ℕ) → length (putAt out at vs) ≡ length out
-unfolding putAt
-put-length out at vs = cond-cases (λ l. length l ≡ length out) (leb (at + length vs) (length out)) (sets out at vs) out (λ e. length-sets out at vs) (λ e. refl)
-
 -- what follows is stored next
 pub sets-append : (a l : List ℕ) (at : ℕ) (b : List ℕ) → sets (sets l at a) (at + length a) b ≡ sets l at (a ++ b)
 sets-append [] l at b = ap (λ (n : ℕ). sets l n b) (add-zero at)
@@ -49,7 +44,7 @@ put-join out at a b h =
     ∙ sym (put-fits out at (a ++ b) (omega (arith, length-append a b)))
 
 -- a number written in two halves, of a and of b octets
-pub put-halves : (out : List ℕ) (at a b v : ℕ) → at + a + b ≤ length out
+put-halves : (out : List ℕ) (at a b v : ℕ) → at + a + b ≤ length out
     → putAt (putAt out at (octetsOf a (v / 256 ^ b))) (at + a) (octetsOf b (v % 256 ^ b)) ≡ putAt out at (octetsOf (a + b) v)
 put-halves out at a b v h =
     let x = octetsOf a (v / 256 ^ b) in
@@ -59,6 +54,11 @@ put-halves out at a b v h =
     ∙ ap (λ (k : ℕ). putAt (putAt out at x) (at + k) (octetsOf b v)) (sym n)
     ∙ put-join out at x (octetsOf b v) (omega arith)
     ∙ ap (putAt out at) (sym (octets-join a b v))
+
+-- the same of what two stores left: `mid` between them, `after` in the end
+pub put-twice : (out mid after : List ℕ) (at a b v : ℕ) → mid ≡ putAt out at (octetsOf a (v / 256 ^ b))
+    → after ≡ putAt mid (at + a) (octetsOf b (v % 256 ^ b)) → at + a + b ≤ length out → after ≡ putAt out at (octetsOf (a + b) v)
+put-twice out mid after at a b v p q h = q ∙ ap (λ (l : List ℕ). putAt l (at + a) (octetsOf b (v % 256 ^ b))) p ∙ put-halves out at a b v h
 
 -- the octets that were stored stand at their place
 pub sets-at : (out : List ℕ) (at : ℕ) (vs : List ℕ) (i : ℕ) → at + length vs ≤ length out → i < length vs → getD (sets out at vs) (at + i) 0 ≡ getD vs i 0

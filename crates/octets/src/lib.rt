@@ -8,56 +8,79 @@ ghost use Prim.Native.Nat.{_+_, _-_, _%_, _^_};
 ghost use lib.ListN.{getD};
 ghost use Rattle.octets.specs.Numbers.{uintAt, octetsOf, putAt};
 
-// The answer numbers of every call, by name.
+// A name for the constants below, the answer numbers of every call; answers themselves are `u8`.
 pub struct Answer {
     pub number: u8,
 }
 
 impl Answer {
+    // 0: done.
     pub const DONE: u8 = 0;
 
+    // 1: the state is not sound, or the lent store has not the length set.
     pub const UNSOUND_STATE: u8 = 1;
 
+    // 2: the server's number is not below the server count.
     pub const NO_SUCH_SERVER: u8 = 2;
 
+    // 3: fewer than 8 octets.
     pub const SHORT_MESSAGE: u8 = 3;
 
+    // 4: a version other than 1.
     pub const OTHER_VERSION: u8 = 4;
 
+    // 5: the length field is not the number of octets given.
     pub const LENGTH_DIFFERS: u8 = 5;
 
+    // 6: another session's message.
     pub const OTHER_SESSION: u8 = 6;
 
+    // 7: a message number that is not accepted here.
     pub const MESSAGE_NOT_ACCEPTED: u8 = 7;
 
+    // 8: the body has not its message's length.
     pub const BODY_LENGTH_WRONG: u8 = 8;
 
+    // 9: not this server's or this message's turn.
     pub const OUT_OF_TURN: u8 = 9;
 
+    // 10: another Configuration ID.
     pub const OTHER_CONFIGURATION: u8 = 10;
 
+    // 11: a DSN that cannot be acknowledged now.
     pub const DSN_NOT_ACKNOWLEDGEABLE: u8 = 11;
 
+    // 12: what is to be written does not fit the output.
     pub const OUTPUT_TOO_SHORT: u8 = 12;
 
+    // 13: no server is active.
     pub const NO_ACTIVE_SERVER: u8 = 13;
 
+    // 14: every held record was sent.
     pub const NOTHING_TO_SEND: u8 = 14;
 
+    // 15: the table has no template with the ID.
     pub const TEMPLATE_NOT_FOUND: u8 = 15;
 
+    // 16: the record, or the value, is not valid under its template or type.
     pub const RECORD_INVALID: u8 = 16;
 
+    // 17: the record has more than 1,024 octets.
     pub const RECORD_TOO_LONG: u8 = 17;
 
+    // 18: 64 records are held.
     pub const QUEUE_FULL: u8 = 18;
 
+    // 19: the record does not fit the store beside the held ones.
     pub const STORE_FULL: u8 = 19;
 
+    // 20: a setting, or the store, is outside its limits.
     pub const SETTINGS_OUTSIDE_LIMITS: u8 = 20;
 
+    // 21: the table is unsound, or, in an exporter's call, of another configuration.
     pub const UNSOUND_TABLE: u8 = 21;
 
+    // 22: the tape is unsound.
     pub const UNSOUND_TAPE: u8 = 22;
 }
 

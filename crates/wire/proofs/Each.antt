@@ -1,15 +1,15 @@
--- Laws of `every`, `firstFrom` and `allOf`, which every loop's proof cites. Assumes nothing.
+-- Laws of Booleans and clauses, of `every` and of `firstFrom`, which every loop's proof cites. What every number below a bound passes goes
+-- by induction on the bound. Assumes nothing.
 use mathlib.Core.Path.{_≡_, refl, sym, ap, _∙_}
-use mathlib.Core.Bool.{Bool, true, false, cond, not, _&&_, _||_, false≢true}
-use mathlib.Core.List.{List, [], _∷_}
+use mathlib.Core.Bool.{Bool, true, false, cond, not, _&&_, false≢true}
 use Prim.Native.Nat.{ℕ, zero, suc, _+_, _-_, _≤_, _<_}
-use native.Mathlib.Nat.{not-suc-le-zero, le-of-suc-le-suc, le-refl}
+use native.Mathlib.Nat.{not-suc-le-zero, le-refl}
 use native.Mathlib.Numerals.{add-one}
 use native.Mathlib.Omega.{arith}
-use borrow.Author.Tests.{lt-ltb, le-ltb, ltb-true, ltb-false}
-use lib.Dec.{ltb, eqb}
+use borrow.Author.Tests.{ltb-true, ltb-false}
+use lib.Dec.{ltb}
 use Rattle.octets.proofs.Stores.{cond-cases}
-use Rattle.wire.specs.Each.{every, firstFrom, allOf}
+use Rattle.wire.specs.Each.{every, firstFrom}
 
 -- ---- bools
 

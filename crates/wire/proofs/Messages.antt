@@ -5,16 +5,16 @@ use mathlib.Core.List.{List, [], _∷_, _++_}
 use Prim.Native.Nat.{ℕ, _+_, _-_, _≤_, _<_}
 use native.Mathlib.Nat.{zero-add}
 use native.Mathlib.Omega.{arith}
-use borrow.Author.Tests.{ltb-true, ltb-false, eqb-true, leb-true, not-false, le-ltb, lt-ltb, le-leb, lt-leb, eq-eqb, ne-eqb}
+use borrow.Author.Tests.{ltb-true, ltb-false, eqb-true, not-false, le-ltb, lt-ltb, le-leb, lt-leb, eq-eqb, ne-eqb}
 use lib.Dec.{eqb, leb, ltb}
 use lib.ListN.{length, take, drop, length-drop}
 use lib.Seq.{take-all, sets, length-sets}
-use Rattle.octets.specs.Answers.{judge, done, outputTooShort}
+use Rattle.octets.specs.Answers.{judge, done, messageNotAccepted, bodyLengthWrong, outputTooShort, unsoundTable}
 use Rattle.octets.specs.Numbers.{octetsOf, putAt}
 use Rattle.octets.proofs.Stores.{put-fits, put-short, sets-append}
 use Rattle.wire.specs.Messages.{Form, ofForm, forms, isMessage, bodyFits, messageNumber, versionOf, lengthField, headerChecks, bodyChecks, headerAnswer, readAnswer, sessionOf, meaningOf, readWhere, readTable, readOf, partAt, partOf, tmplData, dataNumber}
 use Rattle.wire.specs.Table.{tableSound}
-use Rattle.wire.specs.Messages.{headerOctetsOf, messageOf, dataFront, dataHeadOctets, Placed, isTmplData, isData, layoutOf, writeAnswer, writeOf, writeOut}
+use Rattle.wire.specs.Messages.{headerOctets, protocolVersion, dataHeadLength, maxRecordOctets, headerOctetsOf, messageOf, dataFront, dataHeadOctets, Placed, isTmplData, isData, layoutOf, writeChecks, writeAnswer, writeOf, writeOut, headWriteAnswer, headWriteOut}
 use Rattle.wire.specs.declared.message.DataHead.{DataHead}
 use Rattle.wire.specs.declared.message.Message.{Message}
 use Rattle.wire.specs.declared.message.Message.the-variants.{TmplData, Data}
@@ -49,12 +49,12 @@ no-message n h = no-row (Unit {0}) (λ f. true) forms n h .0
 
 -- What an answer of 0 says of a message.
 pub record Readable (m : List ℕ) : Type 0 where
-  pub long : 8 ≤ length m
-  pub version : versionOf m ≡ 1
+  pub long : headerOctets ≤ length m
+  pub version : versionOf m ≡ protocolVersion
   pub field : lengthField m ≡ length m
   pub known : isMessage (messageNumber m) ≡ true
-  pub fits : bodyFits (messageNumber m) (length m - 8) ≡ true
-  pub table : messageNumber m ≡ tmplData → tableSound (drop 8 m) ≡ true
+  pub fits : bodyFits (messageNumber m) (length m - headerOctets) ≡ true
+  pub table : messageNumber m ≡ tmplData → tableSound (drop headerOctets m) ≡ true
 
 -- a header's refusal is the message's
 pub header-refused : (m : List ℕ) → (headerAnswer m ≡ done → ⊥) → readAnswer m ≡ headerAnswer m
@@ -67,14 +67,14 @@ unfolding headerAnswer readAnswer
 header-passed m h = judged-next (headerChecks m) (bodyChecks m) tt h
 
 -- a header that is not refused has 8 octets
-pub header-long : (m : List ℕ) → headerAnswer m ≡ done → 8 ≤ length m
+pub header-long : (m : List ℕ) → headerAnswer m ≡ done → headerOctets ≤ length m
 unfolding headerAnswer
 header-long m h = ltb-false (length m) 8 (passed (headerChecks m) tt h .0)
 
 -- ---- what is read behind a header that is not refused
 
 fits-judged : (fits : Bool) (x : Message)
-    → cond (eqb (cond (not fits) 8 0) 0) (reading.Message x) (reading.Refused (cond (not fits) 8 0)) ≡ readWhere fits x
+    → cond (eqb (cond (not fits) bodyLengthWrong done) done) (reading.Message x) (reading.Refused (cond (not fits) bodyLengthWrong done)) ≡ readWhere fits x
 fits-judged true x = refl
 fits-judged false x = refl
 
@@ -85,11 +85,12 @@ unfolding readOf
 read-fits m n x h e s k t = rw (header-passed m h, e, s, k, t) (fits-judged (bodyFits n (length m - 8)) x)
 
 table-judged : (sound : Bool) (x : Message)
-    → cond (eqb (cond (not sound) 21 0) 0) (reading.Message x) (reading.Refused (cond (not sound) 21 0)) ≡ cond sound (reading.Message x) (reading.Refused 21)
+    → cond (eqb (cond (not sound) unsoundTable done) done) (reading.Message x) (reading.Refused (cond (not sound) unsoundTable done))
+    ≡ cond sound (reading.Message x) (reading.Refused unsoundTable)
 table-judged true x = refl
 table-judged false x = refl
 
-pub answer-table : (m : List ℕ) → headerAnswer m ≡ done → messageNumber m ≡ tmplData → readAnswer m ≡ cond (not (tableSound (drop 8 m))) 21 0
+pub answer-table : (m : List ℕ) → headerAnswer m ≡ done → messageNumber m ≡ tmplData → readAnswer m ≡ cond (not (tableSound (drop headerOctets m))) unsoundTable done
 unfolding isMessage bodyFits
 answer-table m h e = header-passed m h ∙ rw (e, le-leb 0 (length m - 8) (omega arith))
 
@@ -99,11 +100,11 @@ unfolding readOf meaningOf
 read-table m h e = rw (answer-table m h e, e) (table-judged (tableSound (drop 8 m)) (TmplData (sessionOf m)))
 
 -- a number that is no message's is refused
-pub read-unknown : (m : List ℕ) → headerAnswer m ≡ done → isMessage (messageNumber m) ≡ false → readOf m ≡ reading.Refused 7
+pub read-unknown : (m : List ℕ) → headerAnswer m ≡ done → isMessage (messageNumber m) ≡ false → readOf m ≡ reading.Refused messageNotAccepted
 unfolding readOf
 read-unknown m h k = rw (header-passed m h, k)
 
-pub answer-data : (m : List ℕ) → headerAnswer m ≡ done → messageNumber m ≡ dataNumber → readAnswer m ≡ cond (not (leb 8 (length m - 8))) 8 0
+pub answer-data : (m : List ℕ) → headerAnswer m ≡ done → messageNumber m ≡ dataNumber → readAnswer m ≡ cond (not (leb 8 (length m - headerOctets))) bodyLengthWrong done
 unfolding isMessage bodyFits
 answer-data m h e = header-passed m h ∙ rw e
 
@@ -150,11 +151,11 @@ reads m r =
 
 -- ---- the part that a message carries
 
-pub part-of-data : (m : List ℕ) → readAnswer m ≡ done → messageNumber m ≡ dataNumber → (partAt m ≡ 16) × (partOf m ≡ drop 16 m)
+pub part-of-data : (m : List ℕ) → readAnswer m ≡ done → messageNumber m ≡ dataNumber → (partAt m ≡ dataHeadLength) × (partOf m ≡ drop dataHeadLength m)
 unfolding partAt partOf
 part-of-data m h e = (rw (h, e), rw (h, e))
 
-pub part-of-table : (m : List ℕ) → readAnswer m ≡ done → messageNumber m ≡ tmplData → (partAt m ≡ 8) × (partOf m ≡ drop 8 m)
+pub part-of-table : (m : List ℕ) → readAnswer m ≡ done → messageNumber m ≡ tmplData → (partAt m ≡ headerOctets) × (partOf m ≡ drop headerOctets m)
 unfolding partAt partOf
 part-of-table m h e = (rw (h, e), rw (h, e))
 
@@ -172,20 +173,20 @@ part-of-other m d t =
     (rw (a, b, n), rw (a, b, n))
 
 -- a DATA whose body is too short and a TMPL DATA whose table is unsound are refused
-pub short-refused : (m : List ℕ) → headerAnswer m ≡ done → messageNumber m ≡ dataNumber → length m < 16 → readAnswer m ≡ done → ⊥
+pub short-refused : (m : List ℕ) → headerAnswer m ≡ done → messageNumber m ≡ dataNumber → length m < dataHeadLength → readAnswer m ≡ done → ⊥
 short-refused m h e l z =
-    let short : readAnswer m ≡ 8 = answer-data m h e ∙ rw (lt-leb 8 (length m - 8) (omega arith)) in
+    let short : readAnswer m ≡ bodyLengthWrong = answer-data m h e ∙ rw (lt-leb 8 (length m - 8) (omega arith)) in
     omega arith
 
-pub long-read : (m : List ℕ) → headerAnswer m ≡ done → messageNumber m ≡ dataNumber → 16 ≤ length m → readAnswer m ≡ done
+pub long-read : (m : List ℕ) → headerAnswer m ≡ done → messageNumber m ≡ dataNumber → dataHeadLength ≤ length m → readAnswer m ≡ done
 long-read m h e l = answer-data m h e ∙ rw (le-leb 8 (length m - 8) (omega arith))
 
-pub unsound-refused : (m : List ℕ) → headerAnswer m ≡ done → messageNumber m ≡ tmplData → tableSound (drop 8 m) ≡ false → readAnswer m ≡ done → ⊥
+pub unsound-refused : (m : List ℕ) → headerAnswer m ≡ done → messageNumber m ≡ tmplData → tableSound (drop headerOctets m) ≡ false → readAnswer m ≡ done → ⊥
 unsound-refused m h e t z =
-    let unsound : readAnswer m ≡ 21 = answer-table m h e ∙ rw t in
+    let unsound : readAnswer m ≡ unsoundTable = answer-table m h e ∙ rw t in
     omega arith
 
-pub sound-read : (m : List ℕ) → headerAnswer m ≡ done → messageNumber m ≡ tmplData → tableSound (drop 8 m) ≡ true → readAnswer m ≡ done
+pub sound-read : (m : List ℕ) → headerAnswer m ≡ done → messageNumber m ≡ tmplData → tableSound (drop headerOctets m) ≡ true → readAnswer m ≡ done
 sound-read m h e t = answer-table m h e ∙ rw t
 
 -- ---- writing
@@ -213,18 +214,19 @@ placed octets out after n e h s =
     }
 
 room-answered : (short : Bool) (n : ℕ)
-    → cond short (written.Refused 12) (written.Octets n) ≡ cond (eqb (cond short 12 0) 0) (written.Octets n) (written.Refused (cond short 12 0))
+    → cond short (written.Refused outputTooShort) (written.Octets n)
+    ≡ cond (eqb (cond short outputTooShort done) done) (written.Octets n) (written.Refused (cond short outputTooShort done))
 room-answered true n = refl
 room-answered false n = refl
 
-room-left : (short : Bool) (out octets : List ℕ) → ltb (length out) (length octets) ≡ short → putAt out 0 octets ≡ cond (eqb (cond short 12 0) 0) (sets out 0 octets) out
+room-left : (short : Bool) (out octets : List ℕ) → ltb (length out) (length octets) ≡ short → putAt out 0 octets ≡ cond (eqb (cond short outputTooShort done) done) (sets out 0 octets) out
 room-left true out octets e = put-short out 0 octets (omega (arith, ltb-true (length out) (length octets) e))
 room-left false out octets e = put-fits out 0 octets (omega (arith, ltb-false (length out) (length octets) e))
 
 -- where neither the table nor the record is refused, the room alone decides
 pub allowed : (m : Message) (part out : List ℕ) (answer : Written) (after : List ℕ)
     → (isTmplData m && not (tableSound part)) ≡ false
-    → (isData m && ltb 1024 (length part)) ≡ false
+    → (isData m && ltb maxRecordOctets (length part)) ≡ false
     → Placed (layoutOf m part) out answer after
     → (answer ≡ writeOf m part out) × (after ≡ writeOut m part out)
 unfolding writeAnswer writeOf writeOut
@@ -238,7 +240,7 @@ pub refused : (m : Message) (part out : List ℕ) (a : ℕ) → (a ≡ done → 
 unfolding writeOf writeOut
 refused m part out a h e = (rw (e, ne-eqb a done h), rw (e, ne-eqb a done h))
 
-pub message-length : (number session : ℕ) (body : List ℕ) → length (messageOf number session body) ≡ 8 + length body
+pub message-length : (number session : ℕ) (body : List ℕ) → length (messageOf number session body) ≡ headerOctets + length body
 unfolding messageOf octetsOf
 message-length number session body = omega arith
 
@@ -248,15 +250,21 @@ unfolding layoutOf messageOf octetsOf
 data-layout h part =
     ap (λ (n : ℕ). (headerOctetsOf dataNumber (h .session) n ++ dataFront h) ++ part) (omega arith)
 
-pub data-length : (h : DataHead) (part : List ℕ) → length (layoutOf (Data h) part) ≡ 16 + length part
+pub data-length : (h : DataHead) (part : List ℕ) → length (layoutOf (Data h) part) ≡ dataHeadLength + length part
 unfolding octetsOf
 data-length h part = ap length (data-layout h part) ∙ omega arith
 
-all-first : (a b : Bool) → cond a b false ≡ true → a ≡ true
-all-first true b e = refl
-all-first false b e = e
+-- A DATA's head is judged as the whole message with any record of that length.
+pub head-answer : (h : DataHead) (part : List ℕ) (room : ℕ) → headWriteAnswer (length part) room ≡ writeAnswer (Data h) part room
+unfolding headWriteAnswer writeAnswer
+head-answer h part room = rw (data-length h part)
 
--- a sound table has at most 16,384 octets
-pub table-small : (t : List ℕ) → tableSound t ≡ true → length t ≤ 16384
-unfolding tableSound
-table-small t e = leb-true (length t) 16384 (all-first _ _ e)
+-- The head, and the record put behind it, are the message.
+pub head-then-record : (h : DataHead) (part out : List ℕ) → writeAnswer (Data h) part (length out) ≡ done
+    → putAt (headWriteOut h (length part) out) dataHeadLength part ≡ writeOut (Data h) part out
+unfolding writeAnswer headWriteOut writeOut octetsOf
+head-then-record h part out e =
+    let fits = ltb-false (length out) (length (layoutOf (Data h) part)) (passed (writeChecks (Data h) part (length out)) tt e .1 .1 .0) in
+    rw (head-answer h part (length out), e)
+    (put-then out (dataHeadOctets h (length part)) part _ 16 refl refl (omega (arith, data-length h part))
+    ∙ ap (sets out 0) (sym (data-layout h part)))

@@ -13,22 +13,22 @@ use lib.Seq.{sets, length-sets, length-take-le, getD-append-add, getD-append-sea
 use Rattle.octets.specs.Answers.{done, recordInvalid, outputTooShort}
 use Rattle.octets.specs.Numbers.{uintAt, octetsOf}
 use Rattle.octets.proofs.Numbers.{uint-same, uint-front, octets-length, read-back}
-use Rattle.octets.proofs.Stores.{cond-cases, sets-at}
+use Rattle.octets.proofs.Judging.{kept}
+use Rattle.octets.proofs.Stores.{sets-at}
 use Rattle.wire.specs.Each.{every, firstFrom}
 use Rattle.wire.specs.FieldTypes.{widthOf, isNumber, isSigned, booleanType, stringType, terminatedType, blobType}
 use Rattle.wire.specs.Table.{keyAt, keyType}
 use Rattle.wire.specs.Record.{left, fixedLength, blobLength, stringLength, terminatedLength, fieldLength}
 use Rattle.wire.specs.Walk.{signedAt, valueAt, nextKey, stepUnder}
-use Rattle.wire.specs.Append.{numberFits, negativeFits, valueFits, octetsField, fieldOctets, prefixOctets, appendAnswer, appendOf, appendOut, appendedAnswer}
+use Rattle.wire.specs.Append.{numberFits, negativeFits, valueFits, octetsField, fieldOctets, appendAnswer, appendOf, appendOut, appendedAnswer}
 use Rattle.wire.specs.declared.table.Template.{Template}
 use Rattle.wire.specs.declared.walk.Value.{Value}
 use Rattle.wire.specs.declared.walk.Value.the-variants.{Octets, Number, Negative}
 use Rattle.wire.specs.declared.walk.Cursor.{Cursor}
 use Rattle.wire.specs.declared.walk.Step.the-variants as step
-use Rattle.wire.specs.declared.append.Appended.{Appended}
-use Rattle.wire.specs.declared.append.Appended.the-variants.{Next, Refused}
+use Rattle.wire.specs.declared.append.Appended.the-variants.{Refused}
 use Rattle.wire.proofs.Each.{every-at, every-same}
-use Rattle.wire.proofs.TypeFacts.{number-width, signed-number, boolean-unsigned, boolean-width, string-varies, terminated-varies, blob-varies, no-number}
+use Rattle.wire.proofs.TypeFacts.{number-width, signed-number, boolean-unsigned, boolean-width, fixed-type, no-number}
 use Rattle.wire.proofs.Appends.{octets-cases, NumberRange, number-range, negative-range, negative-signed}
 
 -- ---- octets that stand at a place of a record
@@ -110,7 +110,7 @@ string-field r at octets few low h =
     (ap (λ (j : ℕ). getD r j 0) (add-assoc at 4 i) ∙ h .octet (4 + i) (omega arith) ∙ behind-length octets i)) in
     rw (b, m, same, low)
 
--- ---- zero-terminated strings
+-- ---- null terminated strings
 
 -- the first that passes, where none before it does
 first-at : (p : ℕ → Bool) (i n k : ℕ) → k < n → ((j : ℕ) → j < k → p (i + j) ≡ false) → p (i + k) ≡ true → firstFrom i n p ≡ i + k
@@ -134,6 +134,10 @@ terminated-field r at octets nonzero h =
     rw (first, lt-ltb (at + length octets) (length r) (omega (arith, h .within))) (omega arith)
 
 -- ---- what is read where the field of a value stands
+
+-- How many octets stand in front of a value's octets in its field: the 32-bit length of a string or blob.
+unfoldable pub prefixOctets : ℕ → ℕ
+prefixOctets type = cond (eqb type stringType) 4 (cond (eqb type blobType) 4 0)
 
 -- The field has octets, its length is that of the value's field, its value is the value, and a value's octets stand in it.
 pub record ReadsBack (type : ℕ) (value : Value) (octets r : List ℕ) (at : ℕ) : Type 0 where
@@ -177,28 +181,27 @@ negative-read type n octets r at fits h =
       stands = λ e. let y : _≡_ {A = ℕ} 0 1 = cc in absurd (omega arith);
     }
 
+-- octets behind their 32-bit length
+counted-read : (type : ℕ) (octets r : List ℕ) (at : ℕ) → octetsField type octets ≡ octetsOf 4 (length octets) ++ octets
+    → fieldLength type r at ≡ 4 + length octets → valueAt type r at ≡ Octets → prefixOctets type ≡ 4
+    → Holds r at (octetsOf 4 (length octets) ++ octets) → ReadsBack type Octets octets r at
+counted-read type octets r at field len same front h =
+    let n = counted-length octets in
+    record {
+      some = rw field (omega arith);
+      len = rw field (len ∙ sym n);
+      same = same;
+      stands = λ e. rw front (holds-part r at (octetsOf 4 (length octets) ++ octets) octets 4 h (omega arith) (λ i l. behind-length octets i));
+    }
+
 string-read : (octets r : List ℕ) (at : ℕ) → length octets < 2 ^ 32 → every (length octets) (λ i. ltb (getD octets i 0) 128) ≡ true
     → Holds r at (octetsField stringType octets) → ReadsBack stringType Octets octets r at
 unfolding octetsField widthOf isNumber isSigned fieldLength valueAt prefixOctets
-string-read octets r at few low h =
-    let n = counted-length octets in
-    record {
-      some = omega arith;
-      len = string-field r at octets few low h ∙ sym n;
-      same = refl;
-      stands = λ e. holds-part r at (octetsOf 4 (length octets) ++ octets) octets 4 h (omega arith) (λ i l. behind-length octets i);
-    }
+string-read octets r at few low h = counted-read stringType octets r at refl (string-field r at octets few low h) refl refl h
 
 blob-read : (octets r : List ℕ) (at : ℕ) → length octets < 2 ^ 32 → Holds r at (octetsField blobType octets) → ReadsBack blobType Octets octets r at
 unfolding octetsField widthOf isNumber isSigned fieldLength valueAt prefixOctets
-blob-read octets r at few h =
-    let n = counted-length octets in
-    record {
-      some = omega arith;
-      len = blob-field r at octets few h ∙ sym n;
-      same = refl;
-      stands = λ e. holds-part r at (octetsOf 4 (length octets) ++ octets) octets 4 h (omega arith) (λ i l. behind-length octets i);
-    }
+blob-read octets r at few h = counted-read blobType octets r at refl (blob-field r at octets few h) refl refl h
 
 terminated-read : (octets r : List ℕ) (at : ℕ) → every (length octets) (λ i. not (eqb (getD octets i 0) 0)) ≡ true
     → Holds r at (octetsField terminatedType octets) → ReadsBack terminatedType Octets octets r at
@@ -219,16 +222,14 @@ address-read : (type : ℕ) (octets r : List ℕ) (at : ℕ) → 0 < widthOf typ
 unfolding octetsField valueAt prefixOctets
 address-read type octets r at some number size h =
     let q = no-number type number in
-    let s : eqb type stringType ≡ false = ne-eqb type stringType (λ e. omega (arith, string-varies type e .0)) in
-    let t : eqb type terminatedType ≡ false = ne-eqb type terminatedType (λ e. omega (arith, terminated-varies type e .0)) in
-    let b : eqb type blobType ≡ false = ne-eqb type blobType (λ e. omega (arith, blob-varies type e .0)) in
-    let f : octetsField type octets ≡ octets = rw (t, lt-ltb 0 (widthOf type) some) in
+    let v = fixed-type type some in
+    let f : octetsField type octets ≡ octets = rw (v .1 .0, lt-ltb 0 (widthOf type) some) in
     let k : Holds r at octets = rw f at h in
     record {
       some = rw f (omega arith);
       len = rw f (fixed-field type r at some (rw size at (k .within)) (λ e. absurd (eqb-false type booleanType (q .1) e)) ∙ sym size);
       same = rw (q .0, number);
-      stands = λ e. rw (s, b) (holds-part r at octets octets 0 k (omega arith) (λ i l. ap (λ (j : ℕ). getD octets j 0) (zero-add i)));
+      stands = λ e. rw (v .0, v .1 .1) (holds-part r at octets octets 0 k (omega arith) (λ i l. ap (λ (j : ℕ). getD octets j 0) (zero-add i)));
     }
 
 -- The theorem: where the field of a value that fits its type stands in a record, whatever follows it, it is read back.
@@ -255,12 +256,7 @@ stored-reads-back type value octets out at fits room =
 pub append-answer : (type : ℕ) (value : Value) (octets out : List ℕ) (at : ℕ)
     → appendedAnswer (appendOf type value octets out at) ≡ appendAnswer type value octets out at
 unfolding appendOf
-append-answer type value octets out at =
-    cond-cases (λ (a : Appended). appendedAnswer a ≡ answer) (eqb answer done) (Next (at + length (fieldOctets type value octets))) (Refused answer)
-    (λ e. sym (eqb-true answer done e)) (λ e. refl)
-  where
-    answer : ℕ
-    answer = appendAnswer type value octets out at
+append-answer type value octets out at = kept appendedAnswer _ Refused refl (λ a. refl) (appendAnswer type value octets out at)
 
 -- appending that was done: the value fits and so does its field, and it is read back from the output
 pub append-done : (type : ℕ) (value : Value) (octets out : List ℕ) (at : ℕ) → appendAnswer type value octets out at ≡ done

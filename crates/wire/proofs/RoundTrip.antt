@@ -15,7 +15,7 @@ use Rattle.octets.specs.Numbers.{numberOf, uintAt, octetsOf, Octets}
 use Rattle.octets.proofs.Numbers.{uint-one, uint-append, uint-front, read-back, write-back}
 use Rattle.wire.specs.Messages.{Form, ofForm, forms, isMessage, bodyFits, messageNumber, sessionOf, headerOctetsOf, messageOf, dataFront, flagsOf, flagFirst, flagDuplicate, layoutOf}
 use Rattle.wire.specs.Messages.{start, startAck, stop, stopAck, tmplData, finalTmplDataAck, startNegotiate, startNegotiateAck, dataNumber, dataAck}
-use Rattle.wire.specs.Messages.{headerAnswer, headerOf, readAnswer, dataHeadOf, meaningOf, readOf, partAt, partOf, writeAnswer, writeOf, writeOut, isData, isTmplData}
+use Rattle.wire.specs.Messages.{maxRecordOctets, headerAnswer, headerOf, readAnswer, dataHeadOf, meaningOf, readOf, partAt, partOf, writeAnswer, writeOf, writeOut, headWriteAnswer, headWriteOf, isData, isTmplData}
 use Rattle.wire.specs.Messages.{writeChecks, carried, carriedAt, Writable, Plain, headerReadingAnswer, readingAnswer, writtenAnswer}
 use Rattle.wire.specs.Table.{tableSound}
 use Rattle.wire.specs.declared.message.DataHead.{DataHead}
@@ -24,8 +24,9 @@ use Rattle.wire.specs.declared.message.Message.the-variants.{Start, Star
 use Rattle.wire.specs.declared.message.HeaderReading.the-variants as header
 use Rattle.wire.specs.declared.message.Reading.the-variants as reading
 use Rattle.wire.specs.declared.message.Written.the-variants as written
-use Rattle.octets.proofs.Judging.{passed, judged-done}
-use Rattle.wire.proofs.Messages.{not-both, Readable, readable, reads, part-of-data, part-of-table, part-of-other, message-length, table-small}
+use Rattle.octets.proofs.Judging.{passed, judged-done, kept}
+use Rattle.wire.proofs.Messages.{not-both, Readable, readable, reads, part-of-data, part-of-table, part-of-other, message-length}
+use Rattle.wire.proofs.Tables.{table-facts}
 
 -- ---- reading the octets of a layout
 
@@ -155,7 +156,7 @@ reads-back (StartAck s boot) part w =
 reads-back (Stop s) part w = empty-back stop s Stop refl refl refl refl (λ m e. rw e)
 reads-back (StopAck s) part w = empty-back stopAck s StopAck refl refl refl refl (λ m e. rw e)
 reads-back (TmplData s) part w =
-    let h = answered tmplData s part (omega (arith, table-small part (w .table refl))) refl (le-leb 0 (length part) (omega arith)) (λ e. w .table refl) in
+    let h = answered tmplData s part (omega (arith, table-facts part (w .table refl) .short)) refl (le-leb 0 (length part) (omega arith)) (λ e. w .table refl) in
     let p = part-of-table (messageOf tmplData s part) h (number-of tmplData s part) in
     (read-as (messageOf tmplData s part) (TmplData s) h (rw (number-of tmplData s part) (ap TmplData (session-of tmplData s part))), (p .1, p .0))
 reads-back (FinalTmplDataAck s config) part w =
@@ -322,14 +323,6 @@ module _ (m : List ℕ) (octet : Octets m) (answer : readAnswer m ≡ done) (pla
   is-layout = each-row (λ n. messageNumber m ≡ n → m ≡ layoutOf (meaningOf m) (partOf m)) forms by-number (messageNumber m) (r .known) refl
 
 -- ---- THE ANSWER NUMBERS: the number of an answer that is an enum is the answer number that it was made from.
-kept : {A : Type 0} (number : A → ℕ) (ok : A) (refusal : ℕ → A) → number ok ≡ done → ((a : ℕ) → number (refusal a) ≡ a)
-    → (a : ℕ) → number (cond (eqb a done) ok (refusal a)) ≡ a
-kept number ok refusal o n a = go (eqb a done) refl
-  where
-    go : (b : Bool) → eqb a done ≡ b → number (cond b ok (refusal a)) ≡ a
-    go true q = o ∙ sym (eqb-true a done q)
-    go false q = n a
-
 pub header-number : (m : List ℕ) → headerReadingAnswer (headerOf m) ≡ headerAnswer m
 unfolding headerOf
 header-number m = kept headerReadingAnswer _ header.Refused refl (λ a. refl) (headerAnswer m)
@@ -342,6 +335,10 @@ pub written-number : (m : Message) (part out : List ℕ) → writtenAnswer (writ
 unfolding writeOf
 written-number m part out = kept writtenAnswer _ written.Refused refl (λ a. refl) (writeAnswer m part (length out))
 
+pub head-number : (n room : ℕ) → writtenAnswer (headWriteOf n room) ≡ headWriteAnswer n room
+unfolding headWriteOf
+head-number n room = kept writtenAnswer _ written.Refused refl (λ a. refl) (headWriteAnswer n room)
+
 -- ---- WRITING: a message that can be written, and has room, is not refused.
 pub writes : (m : Message) (part : List ℕ) (room : ℕ) → Writable m part → length (layoutOf m part) ≤ room → writeAnswer m part room ≡ done
 unfolding writeAnswer
@@ -349,7 +346,7 @@ writes m part room w h =
     judged-done (writeChecks m part room) (
       not-both (isTmplData m) (not (tableSound part)) (λ e. ap not (w .table e)),
       (
-        not-both (isData m) (ltb 1024 (length part)) (λ e. le-ltb 1024 (length part) (w .short e)),
+        not-both (isData m) (ltb maxRecordOctets (length part)) (λ e. le-ltb maxRecordOctets (length part) (w .short e)),
         (le-ltb room (length (layoutOf m part)) h, tt),
       ),
     )
@@ -372,7 +369,9 @@ written-out m part out h =
     done-out m part out h ∙ sets-eq l out 0 (omega (arith, done-fits m part out h)) ∙ ap (λ (k : ℕ). l ++ drop k out) (zero-add (length l)) in
     (ap (take (length l)) e ∙ take-at l (drop (length l) out) (length l) refl, ap (drop (length l)) e ∙ drop-at l (drop (length l) out) (length l) refl)
 
--- So what was written to an output with room reads back from there.
+-- So what was written to an output with room reads back from there, and its part is handed back at its place.
 pub wrote-reads : (m : Message) (part out : List ℕ) → Writable m part → length (layoutOf m part) ≤ length out
-    → readOf (take (length (layoutOf m part)) (writeOut m part out)) ≡ reading.Message m
-wrote-reads m part out w h = ap readOf (written-out m part out (writes m part (length out) w h) .0) ∙ reads-back m part w .0
+    → (readOf (take (length (layoutOf m part)) (writeOut m part out)) ≡ reading.Message m)
+    × ((partOf (take (length (layoutOf m part)) (writeOut m part out)) ≡ carried m part)
+    × (partAt (take (length (layoutOf m part)) (writeOut m part out)) ≡ carriedAt m))
+wrote-reads m part out w h = rw (written-out m part out (writes m part (length out) w h) .0) (reads-back m part w)

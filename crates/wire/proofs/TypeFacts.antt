@@ -1,9 +1,10 @@
 -- Facts of the table of field types. What a test finds of every row holds of the row with any number, and the test is computed once.
 -- Assumes nothing.
-use mathlib.Core.Path.{_≡_, refl, sym, _∙_}
+use mathlib.Core.Path.{_≡_, refl, sym, ap, _∙_}
 use mathlib.Core.Bool.{Bool, true, false, cond, _&&_, false≢true}
 use mathlib.Core.List.{List, [], _∷_}
-use Prim.Native.Nat.{ℕ, _≤_}
+use Prim.Native.Nat.{ℕ, _≤_, _<_}
+use native.Mathlib.Omega.{arith}
 use borrow.Author.Tests.{leb-true, ne-eqb}
 use lib.Dec.{eqb, leb}
 use Rattle.wire.specs.FieldTypes.{Row, rows, ofRow, widthOf, isNumber, isSigned, isNumberClass, isSignedClass, booleanType, stringType, terminatedType, blobType}
@@ -55,21 +56,13 @@ pub boolean-width : (type : ℕ) → type ≡ booleanType → widthOf type ≡ 1
 unfolding widthOf
 boolean-width type e = rw e
 
--- strings, zero-terminated strings and blobs vary in width and are no numbers
-abbrev pub Varies : ℕ → Type 0
-Varies type = (widthOf type ≡ 0) × ((isNumber type ≡ false) × (isSigned type ≡ false))
+-- a type of a fixed width is none whose width varies
+not-varying : (type other : ℕ) → 0 < widthOf type → widthOf other ≡ 0 → eqb type other ≡ false
+not-varying type other some none = ne-eqb type other (λ e. omega (arith, ap widthOf e))
 
-pub string-varies : (type : ℕ) → type ≡ stringType → Varies type
-unfolding widthOf isNumber isSigned
-string-varies type e = rw e (refl, (refl, refl))
-
-pub terminated-varies : (type : ℕ) → type ≡ terminatedType → Varies type
-unfolding widthOf isNumber isSigned
-terminated-varies type e = rw e (refl, (refl, refl))
-
-pub blob-varies : (type : ℕ) → type ≡ blobType → Varies type
-unfolding widthOf isNumber isSigned
-blob-varies type e = rw e (refl, (refl, refl))
+pub fixed-type : (type : ℕ) → 0 < widthOf type → (eqb type stringType ≡ false) × ((eqb type terminatedType ≡ false) × (eqb type blobType ≡ false))
+unfolding widthOf
+fixed-type type some = (not-varying type stringType some refl, (not-varying type terminatedType some refl, not-varying type blobType some refl))
 
 -- what is no number is not signed, and no Boolean
 pub no-number : (type : ℕ) → isNumber type ≡ false → (isSigned type ≡ false) × (eqb type booleanType ≡ false)

@@ -2,20 +2,21 @@
 -- the fields, laid end to end, are the record. From key k on the claim goes by the keys that are left: a disabled key changes nothing, and
 -- an enabled one gives one field and leaves the rest of the record. Assumes nothing.
 use mathlib.Core.Path.{_≡_, refl, sym, ap, _∙_, fun-ext}
-use mathlib.Core.Bool.{Bool, true, false, cond, not}
+use mathlib.Core.Bool.{Bool, true, false, cond, not, _&&_}
 use mathlib.Core.List.{List, [], _∷_, _++_, map, map-map}
 use Prim.Native.Nat.{ℕ, zero, suc, _+_, _-_, _≤_, _<_}
 use native.Mathlib.Nat.{add-zero}
 use native.Mathlib.Numerals.{add-one}
 use native.Mathlib.Omega.{arith}
 use borrow.Author.Tests.{le-leb, lt-leb, ne-eqb, ltb-true, eqb-true}
-use lib.Dec.{eqb, ltb}
+use lib.Dec.{eqb, leb, ltb}
 use lib.ListN.{length, take, drop, take-append-drop, drop-of-length-le}
 use lib.Seq.{drop-drop}
 use Rattle.octets.specs.Answers.{done, unsoundTable, templateNotFound, recordInvalid}
 use Rattle.wire.specs.Each.{every}
 use Rattle.wire.specs.Table.{keyAt, keyType, isEnabled, tableSound, isMissing, templateOf}
 use Rattle.wire.specs.Record.{fieldLength, lengthUnder, fieldAt, fieldValid, recordValid, recordAnswer}
+use Rattle.wire.specs.Walk.{fieldOf, stepJudged, openAnswer, stepAnswer}
 use Rattle.wire.specs.Walk.{nextKey, stepUnder, stepOf, walkStart, openOf, afterStep, visited, lastCursor, lastAnswer, laidOut, enabledFrom, enabledKeys, enabledTypes, fieldUnder}
 use Rattle.wire.specs.declared.table.Template.{Template}
 use Rattle.wire.specs.declared.walk.Field.{Field}
@@ -23,6 +24,7 @@ use Rattle.wire.specs.declared.walk.Cursor.{Cursor}
 use Rattle.wire.specs.declared.walk.Opened.the-variants as opened
 use Rattle.wire.specs.declared.walk.Step.{Step}
 use Rattle.wire.specs.declared.walk.Step.the-variants as step
+use Rattle.octets.proofs.Judging.{kept}
 use Rattle.wire.proofs.Each.{and-left, and-right, every-at, first-here, first-on, first-none}
 
 -- ---- walks by any step function
@@ -191,6 +193,40 @@ module _ (t : List ℕ) (m : Template) (r : List ℕ) (valid : recordValid t m r
 -- The types of the fields that it visits are those of the enabled keys, in order.
 pub walk-types : (t : List ℕ) (m : Template) (r : List ℕ) → map (λ f. f .kind) (map (fieldUnder t m r) (enabledKeys t m)) ≡ enabledTypes t m
 walk-types t m r = map-map (λ f. f .kind) (fieldUnder t m r) (enabledKeys t m)
+
+-- ---- THE ANSWER NUMBERS: the number of an opening and of a step is the number that it is judged by
+
+pub open-number : (t : List ℕ) (id : ℕ) (r : List ℕ) → openAnswer (openOf t id r) ≡ recordAnswer t id r
+unfolding openOf
+open-number t id r = kept openAnswer (opened.At walkStart) opened.Refused refl (λ a. refl) (recordAnswer t id r)
+
+pub step-number : (t : List ℕ) (id : ℕ) (r : List ℕ) (c : Cursor) → stepAnswer (stepOf t id r c) ≡ stepJudged t id r c
+unfolding stepOf stepUnder stepJudged
+step-number t id r c = go (tableSound t) (isMissing t id) (leb (m .count) k) (eqb (fieldLength type r (c .at)) 0)
+  where
+    m : Template
+    m = templateOf t id
+
+    k : ℕ
+    k = nextKey t m (c .index)
+
+    type : ℕ
+    type = keyType t (keyAt (m .keys) k)
+
+    judged : Bool → Bool → ℕ → ℕ
+    judged sound missing rest = cond (not sound) unsoundTable (cond missing templateNotFound rest)
+
+    go : (sound missing last none : Bool)
+        → stepAnswer
+        (cond (eqb (judged sound missing done) done)
+        (cond last step.End (cond none (step.Refused recordInvalid) (step.Next (fieldOf type r (c .at)) (record { index = k + 1; at = c .at + fieldLength type r (c .at) }))))
+        (step.Refused (judged sound missing done)))
+        ≡ judged sound missing (cond (not last && none) recordInvalid done)
+    go false missing last none = refl
+    go true true last none = refl
+    go true false true none = refl
+    go true false false true = refl
+    go true false false false = refl
 
 -- ---- the same of the public calls
 

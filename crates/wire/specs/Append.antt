@@ -10,6 +10,7 @@ use Rattle.octets.specs.Answers.{done, _when_, judge, recordInvalid, outputTooS
 use Rattle.octets.specs.Numbers.{octetsOf, putAt}
 use Rattle.wire.specs.Each.{every}
 use Rattle.wire.specs.FieldTypes.{widthOf, isNumber, isSigned, booleanType, stringType, terminatedType, blobType}
+use Rattle.wire.specs.Record.{lengthOctets, asciiLimit}
 use Rattle.wire.specs.declared.walk.Value.{Value}
 use Rattle.wire.specs.declared.walk.Value.the-variants.{Octets, Number, Negative}
 use Rattle.wire.specs.declared.append.Appended.{Appended}
@@ -27,13 +28,17 @@ numberFits type n =
 unfoldable pub negativeFits : ℕ → ℕ → Bool
 negativeFits type n = isSigned type && (leb 1 n && leb (2 * n) (256 ^ widthOf type))
 
+-- The length of a string or blob is below this: it has 32 bits.
+abbrev pub lengthLimit : ℕ
+lengthLimit = 2 ^ 32
+
 -- Octets are of a type: as many as an address has; for a string or blob no more than a 32-bit length can say, a string's each below
--- 128; for a zero-terminated string, which comes without its zero, none of them 0.
+-- 128; for a null terminated string, which comes without its zero, none of them 0.
 unfoldable pub octetsFit : ℕ → List ℕ → Bool
 octetsFit type octets =
-    cond (eqb type stringType) (ltb (length octets) (2 ^ 32) && every (length octets) (λ i. ltb (getD octets i 0) 128))
+    cond (eqb type stringType) (ltb (length octets) lengthLimit && every (length octets) (λ i. ltb (getD octets i 0) asciiLimit))
     (cond (eqb type terminatedType) (every (length octets) (λ i. not (eqb (getD octets i 0) 0)))
-    (cond (eqb type blobType) (ltb (length octets) (2 ^ 32))
+    (cond (eqb type blobType) (ltb (length octets) lengthLimit)
     (ltb 0 (widthOf type) && (not (isNumber type) && eqb (length octets) (widthOf type)))))
 
 -- A value is of a type; the octets count where the value says that it is octets.
@@ -42,22 +47,18 @@ valueFits type (Number n) octets = numberFits type n
 valueFits type (Negative n) octets = negativeFits type n
 valueFits type Octets octets = octetsFit type octets
 
--- The field that holds octets: a zero-terminated string in front of its zero, an address alone, a string or blob behind its 32-bit
+-- The field that holds octets: a null terminated string in front of its zero, an address alone, a string or blob behind its 32-bit
 -- length; asked only of octets that fit.
 unfoldable pub octetsField : ℕ → List ℕ → List ℕ
 octetsField type octets =
     cond (eqb type terminatedType) (octets ++ (0 ∷ []))
-    (cond (ltb 0 (widthOf type)) octets (octetsOf 4 (length octets) ++ octets))
+    (cond (ltb 0 (widthOf type)) octets (octetsOf lengthOctets (length octets) ++ octets))
 
 -- The octets of the field that holds a value: a number in the type's width, two's complement where it is below 0.
 abbrev pub fieldOctets : ℕ → Value → List ℕ → List ℕ
 fieldOctets type (Number n) octets = octetsOf (widthOf type) n
 fieldOctets type (Negative n) octets = octetsOf (widthOf type) (256 ^ widthOf type - n)
 fieldOctets type Octets octets = octetsField type octets
-
--- How many octets stand in front of a value's octets in its field: the 32-bit length of a string or blob.
-unfoldable pub prefixOctets : ℕ → ℕ
-prefixOctets type = cond (eqb type stringType) 4 (cond (eqb type blobType) 4 0)
 
 -- Appending is judged 16, 12.
 unfoldable pub appendAnswer : ℕ → Value → List ℕ → List ℕ → ℕ → ℕ

@@ -8,6 +8,7 @@ use lib.ListN.{length, drop}
 use lib.Seq.{sets}
 use Rattle.octets.specs.Answers.{Check, _when_, judge, done, shortMessage, otherVersion, lengthDiffers, messageNotAccepted, bodyLengthWrong, outputTooShort, recordTooLong, unsoundTable}
 use Rattle.octets.specs.Numbers.{uintAt, octetsOf, putAt}
+use Rattle.wire.specs.Each.{lookUp}
 use Rattle.wire.specs.Table.{tableSound}
 use Rattle.wire.specs.declared.message.DataHead.{DataHead}
 use Rattle.wire.specs.declared.message.Message.{Message}
@@ -20,8 +21,9 @@ use Rattle.wire.specs.declared.message.Reading.the-variants as reading
 use Rattle.wire.specs.declared.message.Written.{Written}
 use Rattle.wire.specs.declared.message.Written.the-variants as written
 
--- ---- the header, 8 octets
+-- ---- the header (01, "Messages")
 
+-- Octets of the header.
 abbrev pub headerOctets : ℕ
 headerOctets = 8
 
@@ -29,47 +31,61 @@ headerOctets = 8
 abbrev pub protocolVersion : ℕ
 protocolVersion = 1
 
+-- Octet 0: the version.
 abbrev pub versionOf : List ℕ → ℕ
 versionOf m = uintAt m 0 1
 
+-- Octet 1: the message number.
 abbrev pub messageNumber : List ℕ → ℕ
 messageNumber m = uintAt m 1 1
 
+-- Octet 2: the session.
 abbrev pub sessionOf : List ℕ → ℕ
 sessionOf m = uintAt m 2 1
 
+-- Octets 4 to 7: the length of the whole message; octet 3, the message flags, is not read.
 abbrev pub lengthField : List ℕ → ℕ
 lengthField m = uintAt m 4 4
 
--- ---- the table of messages
+-- ---- the table of messages (01, "Messages")
 
+-- START: no body.
 abbrev pub start : ℕ
 start = 0x01
 
+-- START ACK: the boot time.
 abbrev pub startAck : ℕ
 startAck = 0x02
 
+-- STOP: no body.
 abbrev pub stop : ℕ
 stop = 0x03
 
+-- STOP ACK: no body.
 abbrev pub stopAck : ℕ
 stopAck = 0x04
 
+-- TMPL DATA: a template table.
 abbrev pub tmplData : ℕ
 tmplData = 0x10
 
+-- FINAL TMPL DATA ACK: a Configuration ID and 3 reserved octets.
 abbrev pub finalTmplDataAck : ℕ
 finalTmplDataAck = 0x13
 
+-- START NEGOTIATE: no body.
 abbrev pub startNegotiate : ℕ
 startNegotiate = 0x18
 
+-- START NEGOTIATE ACK: no body.
 abbrev pub startNegotiateAck : ℕ
 startNegotiateAck = 0x19
 
+-- DATA: template ID, Configuration ID, flags, DSN, record.
 abbrev pub dataNumber : ℕ
 dataNumber = 0x20
 
+-- DATA ACK: a DSN, a Configuration ID and 3 reserved octets.
 abbrev pub dataAck : ℕ
 dataAck = 0x21
 
@@ -79,9 +95,11 @@ pub record Form : Type 0 where
   pub body : ℕ
   pub more : Bool
 
+-- A row, by its columns.
 abbrev pub form : ℕ → ℕ → Bool → Form
 form number body more = record { number = number; body = body; more = more }
 
+-- The ten messages, in the order of their numbers. A TMPL DATA's body is all table, a DATA's 8 octets and the record.
 abbrev pub forms : List Form
 forms =
     form start 0 false ∷ form startAck 4 false ∷ form stop 0 false ∷ form stopAck 0 false
@@ -91,8 +109,7 @@ forms =
 
 -- What f gives of the row with a number; false where there is none.
 abbrev pub ofForm : (Form → Bool) → List Form → ℕ → Bool
-ofForm f [] n = false
-ofForm f (r ∷ rows) n = cond (eqb n (r .number)) (f r) (ofForm f rows n)
+ofForm f rows n = lookUp (λ r. r .number) f false rows n
 
 -- The number is a message's.
 unfoldable pub isMessage : ℕ → Bool
@@ -102,7 +119,7 @@ isMessage n = ofForm (λ f. true) forms n
 unfoldable pub bodyFits : ℕ → ℕ → Bool
 bodyFits n body = ofForm (λ f. cond (f .more) (leb (f .body) body) (eqb body (f .body))) forms n
 
--- ---- layouts
+-- ---- layouts (01, "Messages")
 
 -- Version, message number, session, message flags 0, the length of the whole message.
 abbrev pub headerOctetsOf : ℕ → ℕ → ℕ → List ℕ
@@ -112,17 +129,29 @@ headerOctetsOf number session len = protocolVersion ∷ number ∷ session ∷ 0
 unfoldable pub messageOf : ℕ → ℕ → List ℕ → List ℕ
 messageOf number session body = headerOctetsOf number session (headerOctets + length body) ++ body
 
--- DATA's flags: S is 1, D is 2, the other bits 0.
+-- The S flag of DATA.
+abbrev pub sFlag : ℕ
+sFlag = 1
+
+-- The D flag of DATA.
+abbrev pub dFlag : ℕ
+dFlag = 2
+
+-- DATA's flags: S, D, and the other bits 0.
 abbrev pub flagsOf : Bool → Bool → ℕ
-flagsOf s d = cond s 1 0 + cond d 2 0
+flagsOf s d = cond s sFlag 0 + cond d dFlag 0
 
 -- DATA's body in front of the record: template ID, Configuration ID, flags, DSN.
 abbrev pub dataFront : DataHead → List ℕ
 dataFront h = octetsOf 2 (h .template) ++ (h .config ∷ flagsOf (h .first) (h .duplicate) ∷ octetsOf 4 (h .dsn))
 
+-- How many octets a DATA message has in front of its record.
+abbrev pub dataHeadLength : ℕ
+dataHeadLength = 16
+
 -- The octets of a DATA message in front of its record, which has n octets.
 abbrev pub dataHeadOctets : DataHead → ℕ → List ℕ
-dataHeadOctets h n = headerOctetsOf dataNumber (h .session) (16 + n) ++ dataFront h
+dataHeadOctets h n = headerOctetsOf dataNumber (h .session) (dataHeadLength + n) ++ dataFront h
 
 -- The octets of the message that says m; `part` is the record of a DATA and the table of a TMPL DATA, and no other message has one.
 unfoldable pub layoutOf : Message → List ℕ → List ℕ
@@ -137,7 +166,7 @@ layoutOf (StartNegotiateAck s) part = messageOf startNegotiateAck s []
 layoutOf (Data h) part = messageOf dataNumber (h .session) (dataFront h ++ part)
 layoutOf (DataAck s dsn config) part = messageOf dataAck s (octetsOf 4 dsn ++ (config ∷ 0 ∷ 0 ∷ 0 ∷ []))
 
--- ---- reading alone
+-- ---- reading alone (01, "Answer numbers" and "Messages")
 
 -- The header is judged 3, 4, 5.
 abbrev pub headerChecks : List ℕ → List Check
@@ -170,10 +199,11 @@ bodyChecks m =
 unfoldable pub readAnswer : List ℕ → ℕ
 readAnswer m = judge (headerChecks m ++ bodyChecks m)
 
--- Of DATA's flags S is the lowest bit, D the next; the others are not looked at.
+-- Of DATA's flags S is the lowest bit; those above D are not looked at.
 abbrev pub flagFirst : ℕ → Bool
 flagFirst flags = eqb (flags % 2) 1
 
+-- D is the second lowest bit.
 abbrev pub flagDuplicate : ℕ → Bool
 flagDuplicate flags = eqb (flags / 2 % 2) 1
 
@@ -209,11 +239,11 @@ meaningOf m =
 unfoldable pub readOf : List ℕ → Reading
 readOf m = cond (eqb (readAnswer m) done) (reading.Message (meaningOf m)) (reading.Refused (readAnswer m))
 
--- What is read behind a header that is not refused: what the message says where its body's length fits, and of a TMPL DATA where its
--- table is sound.
+-- What is read behind a header that is not refused: what the message says where its body's length fits, else 8.
 abbrev pub readWhere : Bool → Message → Reading
 readWhere fits m = cond fits (reading.Message m) (reading.Refused bodyLengthWrong)
 
+-- Of a TMPL DATA: what it says where its table is sound, else 21, whatever its length.
 abbrev pub readTable : List ℕ → Reading
 readTable m = cond (tableSound (drop headerOctets m)) (reading.Message (TmplData (sessionOf m))) (reading.Refused unsoundTable)
 
@@ -223,42 +253,38 @@ hasPart m = eqb (readAnswer m) done && (eqb (messageNumber m) dataNumber || eqb 
 
 -- Where the part begins: a DATA's record at octet 16, a TMPL DATA's table at octet 8, no octets at octet 0.
 unfoldable pub partAt : List ℕ → ℕ
-partAt m = cond (hasPart m) (cond (eqb (messageNumber m) dataNumber) 16 8) 0
+partAt m = cond (hasPart m) (cond (eqb (messageNumber m) dataNumber) dataHeadLength headerOctets) 0
 
 -- The octets of the part, to the message's end.
 unfoldable pub partOf : List ℕ → List ℕ
 partOf m = cond (hasPart m) (drop (partAt m) m) []
 
--- ---- writing alone
+-- ---- writing alone (01, "Answer numbers")
 
+-- The most octets of a record in a DATA that is written (17).
 abbrev pub maxRecordOctets : ℕ
 maxRecordOctets = 1024
 
+-- The number of the message that says m.
+abbrev pub numberFor : Message → ℕ
+numberFor (Start s) = start
+numberFor (StartAck s boot) = startAck
+numberFor (Stop s) = stop
+numberFor (StopAck s) = stopAck
+numberFor (TmplData s) = tmplData
+numberFor (FinalTmplDataAck s config) = finalTmplDataAck
+numberFor (StartNegotiate s) = startNegotiate
+numberFor (StartNegotiateAck s) = startNegotiateAck
+numberFor (Data h) = dataNumber
+numberFor (DataAck s dsn config) = dataAck
+
 -- The message has a table as its part.
 abbrev pub isTmplData : Message → Bool
-isTmplData (Start s) = false
-isTmplData (StartAck s boot) = false
-isTmplData (Stop s) = false
-isTmplData (StopAck s) = false
-isTmplData (TmplData s) = true
-isTmplData (FinalTmplDataAck s config) = false
-isTmplData (StartNegotiate s) = false
-isTmplData (StartNegotiateAck s) = false
-isTmplData (Data h) = false
-isTmplData (DataAck s dsn config) = false
+isTmplData m = eqb (numberFor m) tmplData
 
 -- The message has a record as its part.
 abbrev pub isData : Message → Bool
-isData (Start s) = false
-isData (StartAck s boot) = false
-isData (Stop s) = false
-isData (StopAck s) = false
-isData (TmplData s) = false
-isData (FinalTmplDataAck s config) = false
-isData (StartNegotiate s) = false
-isData (StartNegotiateAck s) = false
-isData (Data h) = true
-isData (DataAck s dsn config) = false
+isData m = eqb (numberFor m) dataNumber
 
 -- Writing into an output of `room` octets is judged 21, 17, 12.
 abbrev pub writeChecks : Message → List ℕ → ℕ → List Check
@@ -283,14 +309,15 @@ writeOf m part out =
 unfoldable pub writeOut : Message → List ℕ → List ℕ → List ℕ
 writeOut m part out = cond (eqb (writeAnswer m part (length out)) done) (sets out 0 (layoutOf m part)) out
 
--- A DATA's octets in front of a record of n octets that the caller writes behind them: judged 17, 12 as the whole message is.
+-- A DATA's octets in front of a record of n octets that the caller writes behind them: judged 17, 12 as the whole message is (law
+-- `head-answer`).
 unfoldable pub headWriteAnswer : ℕ → ℕ → ℕ
-headWriteAnswer n room = judge ((recordTooLong when ltb maxRecordOctets n) ∷ (outputTooShort when ltb room (16 + n)) ∷ [])
+headWriteAnswer n room = judge ((recordTooLong when ltb maxRecordOctets n) ∷ (outputTooShort when ltb room (dataHeadLength + n)) ∷ [])
 
 -- It answers the whole message's octets, or the refusal.
 unfoldable pub headWriteOf : ℕ → ℕ → Written
 headWriteOf n room =
-    cond (eqb (headWriteAnswer n room) done) (written.Octets (16 + n)) (written.Refused (headWriteAnswer n room))
+    cond (eqb (headWriteAnswer n room) done) (written.Octets (dataHeadLength + n)) (written.Refused (headWriteAnswer n room))
 
 -- The output afterwards: the 16 octets from its first one on, or as it was.
 unfoldable pub headWriteOut : DataHead → ℕ → List ℕ → List ℕ
@@ -302,7 +329,7 @@ pub record Placed (octets out : List ℕ) (answer : Written) (after : List ℕ) 
   pub answered : answer ≡ cond (ltb (length out) (length octets)) (written.Refused outputTooShort) (written.Octets (length octets))
   pub left : after ≡ putAt out 0 octets
 
--- ---- what is written, and what can be written
+-- ---- what is written, and what can be written; for theorems only: no contract cites these
 
 -- The part that the message hands back when it is read: a TMPL DATA's table, a DATA's record, and else no octets.
 abbrev pub carried : Message → List ℕ → List ℕ
@@ -310,7 +337,7 @@ carried m part = cond (isData m || isTmplData m) part []
 
 -- The octet at which it begins.
 abbrev pub carriedAt : Message → ℕ
-carriedAt m = cond (isData m) 16 (cond (isTmplData m) 8 0)
+carriedAt m = cond (isData m) dataHeadLength (cond (isTmplData m) headerOctets 0)
 
 -- The message's numbers fit their places.
 abbrev pub InRange : Message → Type 0
@@ -340,14 +367,17 @@ pub record Plain (m : List ℕ) : Type 0 where
 
 -- ---- the answer numbers of the answers that are enums
 
+-- The answer number of reading a header: 0, or the refusal's.
 abbrev pub headerReadingAnswer : HeaderReading → ℕ
 headerReadingAnswer (header.Header h) = done
 headerReadingAnswer (header.Refused a) = a
 
+-- The answer number of reading a message: 0, or the refusal's.
 abbrev pub readingAnswer : Reading → ℕ
 readingAnswer (reading.Message m) = done
 readingAnswer (reading.Refused a) = a
 
+-- The answer number of writing: 0, or the refusal's.
 abbrev pub writtenAnswer : Written → ℕ
 writtenAnswer (written.Octets n) = done
 writtenAnswer (written.Refused a) = a

@@ -2,14 +2,14 @@
 -- Assumes nothing.
 use Prim.Native.Nat.{ℕ, zero, suc, _+_, _-_}
 use mathlib.Core.Bool.{Bool, cond, not, _&&_, _||_}
-use mathlib.Core.List.{List, [], _∷_}
+use mathlib.Core.List.{List, [], _∷_, _++_}
 use lib.Dec.{eqb, ltb}
 use lib.ListN.{length, getD}
-use Rattle.octets.specs.Answers.{_when_, judge, unsoundTable, templateNotFound, recordInvalid}
+use Rattle.octets.specs.Answers.{_when_, judge, recordInvalid}
 use Rattle.octets.specs.Numbers.{uintAt}
 use Rattle.wire.specs.Each.{every, firstFrom}
 use Rattle.wire.specs.FieldTypes.{widthOf, booleanType, stringType, terminatedType, blobType}
-use Rattle.wire.specs.Table.{keyAt, keyType, isEnabled, tableSound, isMissing, templateOf}
+use Rattle.wire.specs.Table.{keyAt, keyType, isEnabled, templateOf, templateChecks}
 use Rattle.wire.specs.declared.table.Template.{Template}
 
 -- ---- the length of the field that begins at a place of a record, 0 where no valid field of its type does (a field has an octet at least)
@@ -24,17 +24,26 @@ fixedLength type r at =
     cond (ltb (left r at) (widthOf type)) 0
     (cond (eqb type booleanType && ltb 1 (uintAt r at 1)) 0 (widthOf type))
 
+-- Octets of the 32-bit length of a string or blob.
+abbrev pub lengthOctets : ℕ
+lengthOctets = 4
+
+-- A string's octets are below this.
+abbrev pub asciiLimit : ℕ
+asciiLimit = 128
+
 -- A blob: a 32-bit length, then as many octets.
 unfoldable pub blobLength : List ℕ → ℕ → ℕ
 blobLength r at =
-    cond (ltb (left r at) 4) 0
-    (cond (ltb (left r (at + 4)) (uintAt r at 4)) 0 (4 + uintAt r at 4))
+    cond (ltb (left r at) lengthOctets) 0
+    (cond (ltb (left r (at + lengthOctets)) (uintAt r at lengthOctets)) 0 (lengthOctets + uintAt r at lengthOctets))
 
 -- A string: a blob whose octets after its length are below 128.
 unfoldable pub stringLength : List ℕ → ℕ → ℕ
-stringLength r at = cond (every (blobLength r at - 4) (λ i. ltb (getD r (at + 4 + i) 0) 128)) (blobLength r at) 0
+stringLength r at =
+    cond (every (blobLength r at - lengthOctets) (λ i. ltb (getD r (at + lengthOctets + i) 0) asciiLimit)) (blobLength r at) 0
 
--- A zero-terminated string ends with the first zero from its place on, and that zero counts.
+-- A null terminated string ends with the first zero from its place on, and that zero counts.
 unfoldable pub terminatedLength : List ℕ → ℕ → ℕ
 terminatedLength r at =
     let zeroAt = firstFrom at (left r at) (λ p. eqb (getD r p 0) 0) in
@@ -70,8 +79,4 @@ recordValid t m r = every (m .count) (fieldValid t m r) && eqb (fieldAt t m r (m
 -- A record under the template with an ID is judged 21, 15, 16.
 unfoldable pub recordAnswer : List ℕ → ℕ → List ℕ → ℕ
 recordAnswer t id r =
-    judge
-    ((unsoundTable when not (tableSound t))
-    ∷ (templateNotFound when isMissing t id)
-    ∷ (recordInvalid when not (recordValid t (templateOf t id) r))
-    ∷ [])
+    judge (templateChecks t id ++ ((recordInvalid when not (recordValid t (templateOf t id) r)) ∷ []))

@@ -1,14 +1,14 @@
 -- Going through a record field by field (01, "Template table"). Assumes nothing.
 use Prim.Native.Nat.{ℕ, zero, suc, _+_, _-_, _*_, _^_}
-use mathlib.Core.Bool.{cond, not}
+use mathlib.Core.Bool.{Bool, cond, not, _&&_}
 use mathlib.Core.List.{List, [], _∷_, _++_, map}
 use lib.Dec.{eqb, leb, ltb}
 use lib.ListN.{take, drop}
-use Rattle.octets.specs.Answers.{done, unsoundTable, templateNotFound, recordInvalid}
+use Rattle.octets.specs.Answers.{_when_, judge, done, recordInvalid}
 use Rattle.octets.specs.Numbers.{uintAt}
 use Rattle.wire.specs.Each.{firstFrom}
 use Rattle.wire.specs.FieldTypes.{widthOf, isNumber, isSigned}
-use Rattle.wire.specs.Table.{keyAt, keyType, isEnabled, tableSound, isMissing, templateOf}
+use Rattle.wire.specs.Table.{keyAt, keyType, isEnabled, templateOf, templateChecks, findAnswer}
 use Rattle.wire.specs.Record.{fieldLength, fieldAt, recordAnswer}
 use Rattle.wire.specs.declared.table.Template.{Template}
 use Rattle.wire.specs.declared.walk.Value.{Value}
@@ -48,12 +48,20 @@ stepUnder t m r c =
     (cond (eqb (fieldLength type r (c .at)) 0) (step.Refused recordInvalid)
     (step.Next (fieldOf type r (c .at)) (record { index = k + 1; at = c .at + fieldLength type r (c .at) })))
 
--- A step is judged 21, 15, then by its field alone.
+-- An enabled key is left, and no valid field of its type begins where the cursor stands.
+abbrev pub fieldMissing : List ℕ → Template → List ℕ → Cursor → Bool
+fieldMissing t m r c =
+    let k = nextKey t m (c .index) in
+    not (leb (m .count) k) && eqb (fieldLength (keyType t (keyAt (m .keys) k)) r (c .at)) 0
+
+-- A step is judged 21, 15, then 16 by its field alone.
+unfoldable pub stepJudged : List ℕ → ℕ → List ℕ → Cursor → ℕ
+stepJudged t id r c = judge (templateChecks t id ++ ((recordInvalid when fieldMissing t (templateOf t id) r c) ∷ []))
+
+-- It answers what the step under the template does, or the refusal.
 unfoldable pub stepOf : List ℕ → ℕ → List ℕ → Cursor → Step
 stepOf t id r c =
-    cond (not (tableSound t)) (step.Refused unsoundTable)
-    (cond (isMissing t id) (step.Refused templateNotFound)
-    (stepUnder t (templateOf t id) r c))
+    cond (eqb (findAnswer t id) done) (stepUnder t (templateOf t id) r c) (step.Refused (findAnswer t id))
 
 -- Before the first key, at the first octet.
 abbrev pub walkStart : Cursor
@@ -63,17 +71,18 @@ walkStart = record { index = 0; at = 0 }
 unfoldable pub openOf : List ℕ → ℕ → List ℕ → Opened
 openOf t id r = cond (eqb (recordAnswer t id r) done) (opened.At walkStart) (opened.Refused (recordAnswer t id r))
 
--- The answer number of an opening and of a step.
+-- The answer number of an opening: 0, or the refusal's.
 abbrev pub openAnswer : Opened → ℕ
 openAnswer (opened.At c) = done
 openAnswer (opened.Refused a) = a
 
+-- The answer number of a step: 0 for a field and for the end, or the refusal's.
 abbrev pub stepAnswer : Step → ℕ
 stepAnswer (step.Next f c) = done
 stepAnswer step.End = done
 stepAnswer (step.Refused a) = a
 
--- ---- a whole walk, by any step function
+-- ---- a whole walk, by any step function; for theorems only: no contract cites these
 
 -- What follows a step: where it answered a field and a cursor, what `next` makes of them, and otherwise `stop`.
 abbrev pub afterStep : {A : Type 0} → (Field → Cursor → A) → A → Step → A
@@ -105,12 +114,14 @@ unfoldable pub enabledFrom : List ℕ → Template → ℕ → ℕ → List ℕ
 enabledFrom t m k zero = []
 enabledFrom t m k (suc n) = cond (isEnabled t (keyAt (m .keys) k)) (k ∷ enabledFrom t m (k + 1) n) (enabledFrom t m (k + 1) n)
 
--- The enabled keys of a template, their types, and the fields of a record that they have under it.
+-- The enabled keys of a template, in order.
 abbrev pub enabledKeys : List ℕ → Template → List ℕ
 enabledKeys t m = enabledFrom t m 0 (m .count)
 
+-- The field types of the enabled keys, in order.
 abbrev pub enabledTypes : List ℕ → Template → List ℕ
 enabledTypes t m = map (λ k. keyType t (keyAt (m .keys) k)) (enabledKeys t m)
 
+-- The field of key k in a record that is valid under the template.
 abbrev pub fieldUnder : List ℕ → Template → List ℕ → ℕ → Field
 fieldUnder t m r k = fieldOf (keyType t (keyAt (m .keys) k)) r (fieldAt t m r k)

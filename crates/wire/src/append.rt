@@ -7,8 +7,10 @@ ghost use lib.Dec.{eqb};
 ghost use lib.ListN.{length, getD};
 ghost use Rattle.octets.specs.Numbers.{octetsOf};
 ghost use Rattle.wire.specs.Each.{every};
-ghost use Rattle.wire.specs.Append.{numberFits, negativeFits, octetsFit, octetsField, Stored, appendOf, appendOut};
+ghost use Rattle.wire.specs.Record.{lengthOctets};
+ghost use Rattle.wire.specs.Append.{lengthLimit, numberFits, negativeFits, octetsFit, octetsField, Stored, appendOf, appendOut};
 use crate::field_type::FieldType;
+use crate::record::LENGTH_OCTETS;
 use crate::walk::Value;
 use octets::Answer;
 
@@ -83,7 +85,7 @@ fn octets_fit(kind: u16, octets: &[u8]) -> bool
     (0 < width) & (!field_type.is_number() & (octets.len() == width))
 }
 
-// A number to the w octets at a place.
+// Stores a number in w octets at a place: the place after it, or 12 where it does not fit.
 fn store_number(w: usize, n: u64, out: &mut [u8], at: usize) -> Appended
     ensures { λ r. ⌜ Stored (octetsOf w n) (now (out .entry)) at r (now (out .exit)) ⌝ }
 {
@@ -97,7 +99,7 @@ fn store_number(w: usize, n: u64, out: &mut [u8], at: usize) -> Appended
     Appended::Next(at + w)
 }
 
-// Octets to a place.
+// Stores octets at a place: the place after them, or 12 where they do not fit.
 fn store_plain(octets: &[u8], out: &mut [u8], at: usize) -> Appended
     ensures { λ r. ⌜ Stored (now (octets .entry)) (now (out .entry)) at r (now (out .exit)) ⌝ }
 {
@@ -111,7 +113,7 @@ fn store_plain(octets: &[u8], out: &mut [u8], at: usize) -> Appended
     Appended::Next(at + octets.len())
 }
 
-// Octets and a zero behind them to a place.
+// Stores octets and a zero behind them at a place: the place after the zero, or 12 where they do not fit.
 fn store_terminated(octets: &[u8], out: &mut [u8], at: usize) -> Appended
     ensures { λ r. ⌜ Stored (now (octets .entry) ++ (0 ∷ [])) (now (out .entry)) at r (now (out .exit)) ⌝ }
 {
@@ -124,15 +126,15 @@ fn store_terminated(octets: &[u8], out: &mut [u8], at: usize) -> Appended
     Appended::Next(end + 1)
 }
 
-// Octets behind their 32-bit length to a place.
+// Stores octets behind their 32-bit length at a place: the place after them, or 12 where they do not fit.
 fn store_counted(octets: &[u8], out: &mut [u8], at: usize) -> Appended
-    requires { ⌜ length (now octets) < 4294967296 ⌝ }
-    ensures { λ r. ⌜ Stored (octetsOf 4 (length (now (octets .entry))) ++ now (octets .entry)) (now (out .entry)) at r (now (out .exit)) ⌝ }
+    requires { ⌜ length (now octets) < lengthLimit ⌝ }
+    ensures { λ r. ⌜ Stored (octetsOf lengthOctets (length (now (octets .entry))) ++ now (octets .entry)) (now (out .entry)) at r (now (out .exit)) ⌝ }
 {
-    if octets::room(out.len(), at) < 4 {
+    if octets::room(out.len(), at) < LENGTH_OCTETS {
         return Appended::Refused(Answer::OUTPUT_TOO_SHORT);
     }
-    let start = at + 4;
+    let start = at + LENGTH_OCTETS;
     if octets::room(out.len(), start) < octets.len() {
         return Appended::Refused(Answer::OUTPUT_TOO_SHORT);
     }
@@ -141,7 +143,7 @@ fn store_counted(octets: &[u8], out: &mut [u8], at: usize) -> Appended
     Appended::Next(start + octets.len())
 }
 
-// The field that holds octets of a type to a place.
+// Stores the field that holds octets of a type at a place: the place after it, or 12 where it does not fit.
 fn store_octets(kind: u16, octets: &[u8], out: &mut [u8], at: usize) -> Appended
     requires { ⌜ octetsFit kind (now octets) ≡ true ⌝ }
     ensures { λ r. ⌜ Stored (octetsField kind (now (octets .entry))) (now (out .entry)) at r (now (out .exit)) ⌝ }
@@ -159,7 +161,8 @@ fn store_octets(kind: u16, octets: &[u8], out: &mut [u8], at: usize) -> Appended
 // Appends the field of a type that holds a value, at a place of the output: the place after it, or 16 for a value that is not of the type
 // and 12 for an output that is too short. The octets count where the value is octets.
 pub fn append(kind: u16, value: Value, octets: &[u8], out: &mut [u8], at: usize) -> Appended
-    ensures { λ r. ⌜ (r ≡ appendOf kind value (now (octets .entry)) (now (out .entry)) at) × (now (out .exit) ≡ appendOut kind value (now (octets .entry)) (now (out .entry)) at) ⌝ }
+    ensures { λ r. ⌜ (r ≡ appendOf kind value (now (octets .entry)) (now (out .entry)) at)
+        × (now (out .exit) ≡ appendOut kind value (now (octets .entry)) (now (out .entry)) at) ⌝ }
 {
     let width = FieldType { number: kind }.width() as usize;
     match value {

@@ -6,7 +6,8 @@ ghost use lib.Dec.{eqb, leb};
 ghost use lib.ListN.{length};
 ghost use lib.Seq.{sets};
 ghost use Rattle.octets.specs.Numbers.{uintAt, octetsOf};
-ghost use Rattle.wire.specs.Messages.{sessionOf, headerAnswer, headerOf, readWhere, readTable, dataHeadOf, readOf, partAt, partOf};
+ghost use Rattle.octets.specs.Answers.{done};
+ghost use Rattle.wire.specs.Messages.{headerOctets, dataHeadLength, maxRecordOctets, sessionOf, headerAnswer, headerOf, readWhere, readTable, dataHeadOf, readOf, partAt, partOf};
 ghost use Rattle.wire.specs.Messages.{headerOctetsOf, dataHeadOctets, messageOf, flagsOf, startAck, finalTmplDataAck, dataAck, Placed, headWriteOf, headWriteOut, writeOf, writeOut};
 ghost use Rattle.wire.specs.declared.message.Message.the-variants.{StartAck, TmplData, FinalTmplDataAck, Data, DataAck};
 use octets::Answer;
@@ -14,21 +15,41 @@ use octets::Answer;
 // The octets of a message's header.
 pub const HEADER_OCTETS: usize = 8;
 
+// The octets of a DATA message's body in front of its record.
+const DATA_FRONT_OCTETS: usize = 8;
+
 // The octets of a DATA message in front of its record.
-pub const DATA_HEAD_OCTETS: usize = 16;
+pub const DATA_HEAD_OCTETS: usize = HEADER_OCTETS + DATA_FRONT_OCTETS;
 
-// The octets of the acknowledgements that have a body.
-const START_ACK_OCTETS: usize = 12;
+// The octets of a START ACK's body: the boot time.
+const START_ACK_BODY: usize = 4;
 
-const FINAL_TMPL_DATA_ACK_OCTETS: usize = 12;
+// The octets of a START ACK.
+const START_ACK_OCTETS: usize = HEADER_OCTETS + START_ACK_BODY;
 
-const DATA_ACK_OCTETS: usize = 16;
+// The octets of a FINAL TMPL DATA ACK's body: Configuration ID and 3 reserved octets.
+const FINAL_TMPL_DATA_ACK_BODY: usize = 4;
+
+// The octets of a FINAL TMPL DATA ACK.
+const FINAL_TMPL_DATA_ACK_OCTETS: usize = HEADER_OCTETS + FINAL_TMPL_DATA_ACK_BODY;
+
+// The octets of a DATA ACK's body: DSN, Configuration ID and 3 reserved octets.
+const DATA_ACK_BODY: usize = 8;
+
+// The octets of a DATA ACK.
+const DATA_ACK_OCTETS: usize = HEADER_OCTETS + DATA_ACK_BODY;
 
 // The most octets that a record has in a message that is written.
 pub const MAX_RECORD_OCTETS: usize = 1024;
 
 // The version that the header of every message names.
 pub const VERSION: u8 = 1;
+
+// The S flag of a DATA message, `first` in its head.
+const S_FLAG: u8 = 1;
+
+// The D flag of a DATA message, `duplicate` in its head.
+const D_FLAG: u8 = 2;
 
 // What a DATA message says in front of its record; `first` is its S flag, `duplicate` its D flag.
 pub struct DataHead {
@@ -40,7 +61,8 @@ pub struct DataHead {
     pub dsn: u32,
 }
 
-// What a message says. A TMPL DATA's table and a DATA's record lie in the message itself.
+// What a message says. A TMPL DATA's table and a DATA's record are not in it: reading hands them back as a part of the message, writing
+// takes them beside it.
 pub enum Message {
     Start { session: u8 },
     StartAck { session: u8, boot_time: u32 },
@@ -54,25 +76,36 @@ pub enum Message {
     DataAck { session: u8, dsn: u32, config: u8 },
 }
 
+// The numbers of the messages.
 impl Message {
+    // START: no body.
     pub const START: u8 = 0x01;
 
+    // START ACK: the boot time.
     pub const START_ACK: u8 = 0x02;
 
+    // STOP: no body.
     pub const STOP: u8 = 0x03;
 
+    // STOP ACK: no body.
     pub const STOP_ACK: u8 = 0x04;
 
+    // TMPL DATA: a template table.
     pub const TMPL_DATA: u8 = 0x10;
 
+    // FINAL TMPL DATA ACK: a Configuration ID.
     pub const FINAL_TMPL_DATA_ACK: u8 = 0x13;
 
+    // START NEGOTIATE: no body.
     pub const START_NEGOTIATE: u8 = 0x18;
 
+    // START NEGOTIATE ACK: no body.
     pub const START_NEGOTIATE_ACK: u8 = 0x19;
 
+    // DATA: what `DataHead` says, then a record.
     pub const DATA: u8 = 0x20;
 
+    // DATA ACK: a DSN and a Configuration ID.
     pub const DATA_ACK: u8 = 0x21;
 }
 
@@ -94,7 +127,7 @@ pub enum Reading {
     Refused(u8),
 }
 
-// What writing a message answers: how many octets were written, or the refusal.
+// What writing answers: how many octets the message has, or the refusal.
 pub enum Written {
     Octets(usize),
     Refused(u8),
@@ -143,10 +176,11 @@ fn read_bare(body: usize, meaning: Message) -> Reading
 
 // Reads a START ACK behind its header.
 fn read_start_ack(message: &[u8]) -> Reading
-    requires { ⌜ 8 ≤ length (now message) ⌝ }
-    ensures { λ r. ⌜ r ≡ readWhere (eqb (length (now (message .entry)) - 8) 4) (StartAck (sessionOf (now (message .entry))) (uintAt (now (message .entry)) 8 4)) ⌝ }
+    requires { ⌜ headerOctets ≤ length (now message) ⌝ }
+    ensures { λ r. ⌜ r ≡ readWhere (eqb (length (now (message .entry)) - headerOctets) 4)
+        (StartAck (sessionOf (now (message .entry))) (uintAt (now (message .entry)) 8 4)) ⌝ }
 {
-    if message.len() - HEADER_OCTETS != 4 {
+    if message.len() - HEADER_OCTETS != START_ACK_BODY {
         return Reading::Refused(Answer::BODY_LENGTH_WRONG);
     }
     Reading::Message(Message::StartAck {
@@ -157,7 +191,7 @@ fn read_start_ack(message: &[u8]) -> Reading
 
 // Reads a TMPL DATA behind its header.
 fn read_tmpl_data(message: &[u8]) -> Reading
-    requires { ⌜ 8 ≤ length (now message) ⌝ }
+    requires { ⌜ headerOctets ≤ length (now message) ⌝ }
     ensures { λ r. ⌜ r ≡ readTable (now (message .entry)) ⌝ }
 {
     if crate::table::table_sound(&message[HEADER_OCTETS..]) {
@@ -170,10 +204,11 @@ fn read_tmpl_data(message: &[u8]) -> Reading
 
 // Reads a FINAL TMPL DATA ACK behind its header.
 fn read_final_tmpl_data_ack(message: &[u8]) -> Reading
-    requires { ⌜ 8 ≤ length (now message) ⌝ }
-    ensures { λ r. ⌜ r ≡ readWhere (eqb (length (now (message .entry)) - 8) 4) (FinalTmplDataAck (sessionOf (now (message .entry))) (uintAt (now (message .entry)) 8 1)) ⌝ }
+    requires { ⌜ headerOctets ≤ length (now message) ⌝ }
+    ensures { λ r. ⌜ r ≡ readWhere (eqb (length (now (message .entry)) - headerOctets) 4)
+        (FinalTmplDataAck (sessionOf (now (message .entry))) (uintAt (now (message .entry)) 8 1)) ⌝ }
 {
-    if message.len() - HEADER_OCTETS != 4 {
+    if message.len() - HEADER_OCTETS != FINAL_TMPL_DATA_ACK_BODY {
         return Reading::Refused(Answer::BODY_LENGTH_WRONG);
     }
     Reading::Message(Message::FinalTmplDataAck {
@@ -184,7 +219,7 @@ fn read_final_tmpl_data_ack(message: &[u8]) -> Reading
 
 // What a DATA message says in front of its record.
 fn data_head(message: &[u8]) -> DataHead
-    requires { ⌜ 16 ≤ length (now message) ⌝ }
+    requires { ⌜ dataHeadLength ≤ length (now message) ⌝ }
     ensures { λ r. ⌜ r ≡ dataHeadOf (now (message .entry)) ⌝ }
 {
     let flags = message[11];
@@ -200,10 +235,10 @@ fn data_head(message: &[u8]) -> DataHead
 
 // Reads a DATA behind its header.
 fn read_data(message: &[u8]) -> Reading
-    requires { ⌜ 8 ≤ length (now message) ⌝ }
-    ensures { λ r. ⌜ r ≡ readWhere (leb 8 (length (now (message .entry)) - 8)) (Data (dataHeadOf (now (message .entry)))) ⌝ }
+    requires { ⌜ headerOctets ≤ length (now message) ⌝ }
+    ensures { λ r. ⌜ r ≡ readWhere (leb 8 (length (now (message .entry)) - headerOctets)) (Data (dataHeadOf (now (message .entry)))) ⌝ }
 {
-    if message.len() - HEADER_OCTETS < 8 {
+    if message.len() - HEADER_OCTETS < DATA_FRONT_OCTETS {
         return Reading::Refused(Answer::BODY_LENGTH_WRONG);
     }
     Reading::Message(Message::Data(data_head(message)))
@@ -211,10 +246,11 @@ fn read_data(message: &[u8]) -> Reading
 
 // Reads a DATA ACK behind its header.
 fn read_data_ack(message: &[u8]) -> Reading
-    requires { ⌜ 8 ≤ length (now message) ⌝ }
-    ensures { λ r. ⌜ r ≡ readWhere (eqb (length (now (message .entry)) - 8) 8) (DataAck (sessionOf (now (message .entry))) (uintAt (now (message .entry)) 8 4) (uintAt (now (message .entry)) 12 1)) ⌝ }
+    requires { ⌜ headerOctets ≤ length (now message) ⌝ }
+    ensures { λ r. ⌜ r ≡ readWhere (eqb (length (now (message .entry)) - headerOctets) 8)
+        (DataAck (sessionOf (now (message .entry))) (uintAt (now (message .entry)) 8 4) (uintAt (now (message .entry)) 12 1)) ⌝ }
 {
-    if message.len() - HEADER_OCTETS != 8 {
+    if message.len() - HEADER_OCTETS != DATA_ACK_BODY {
         return Reading::Refused(Answer::BODY_LENGTH_WRONG);
     }
     Reading::Message(Message::DataAck {
@@ -226,7 +262,7 @@ fn read_data_ack(message: &[u8]) -> Reading
 
 // Reads a message whose header is not refused; a DATA, the most frequent, first.
 fn read_body(message: &[u8]) -> Reading
-    requires { ⌜ headerAnswer (now message) ≡ 0 ⌝ }
+    requires { ⌜ headerAnswer (now message) ≡ done ⌝ }
     ensures { λ r. ⌜ r ≡ readOf (now (message .entry)) ⌝ }
 {
     let number = message[1];
@@ -287,7 +323,7 @@ pub fn message_part(message: &[u8]) -> &[u8]
 
 // The header of a message of `len` octets.
 fn put_header(number: u8, session: u8, len: u32, out: &mut [u8])
-    requires { ⌜ 8 ≤ length (now out) ⌝ }
+    requires { ⌜ headerOctets ≤ length (now out) ⌝ }
     ensures { λ _. ⌜ now (out .exit) ≡ sets (now (out .entry)) 0 (headerOctetsOf number session len) ⌝ }
 {
     out[0] = VERSION;
@@ -378,15 +414,15 @@ fn flags(first: bool, duplicate: bool) -> u8
     ensures { λ r. ⌜ r ≡ flagsOf first duplicate ⌝ }
 {
     if first {
-        if duplicate { 3 } else { 1 }
+        if duplicate { S_FLAG + D_FLAG } else { S_FLAG }
     } else {
-        if duplicate { 2 } else { 0 }
+        if duplicate { D_FLAG } else { 0 }
     }
 }
 
 // The octets of a DATA message in front of its record, which has `len` octets.
 fn put_data_head(head: DataHead, len: usize, out: &mut [u8])
-    requires { ⌜ (16 ≤ length (now out)) × (len ≤ 1024) ⌝ }
+    requires { ⌜ (dataHeadLength ≤ length (now out)) × (len ≤ maxRecordOctets) ⌝ }
     ensures { λ _. ⌜ now (out .exit) ≡ sets (now (out .entry)) 0 (dataHeadOctets head len) ⌝ }
 {
     let marks = flags(head.first, head.duplicate);
@@ -402,8 +438,8 @@ fn put_data_head(head: DataHead, len: usize, out: &mut [u8])
     octets::put_u32(out, 12, head.dsn);
 }
 
-// Writes a DATA's octets in front of a record of `len` octets, which the caller writes behind them, where the whole message fits.
-// Answers the whole message's octets, or 17 or 12.
+// Writes a DATA's head, the 16 octets in front of a record of `len` octets, where the whole message fits; the record is for the caller to
+// write behind them. Answers how many octets the whole message has, or 17 or 12.
 pub fn write_data_head(head: DataHead, len: usize, out: &mut [u8]) -> Written
     ensures { λ r. ⌜ (r ≡ headWriteOf len (length (now (out .entry)))) × (now (out .exit) ≡ headWriteOut head len (now (out .entry))) ⌝ }
 {

@@ -5,13 +5,22 @@ ghost use Prim.Native.Nat.{_+_, _-_, _*_, _≤_, _<_};
 ghost use lib.Dec.{ltb, eqb};
 ghost use lib.ListN.{length, getD};
 ghost use Rattle.wire.specs.Each.{every, firstFrom};
-ghost use Rattle.wire.specs.Table.{keyAt, isEnabled};
+ghost use Rattle.wire.specs.Table.{keyOctets, keyAt, isEnabled};
 ghost use Rattle.wire.specs.FieldTypes.{widthOf};
-ghost use Rattle.wire.specs.Record.{blobLength, stringLength, terminatedLength, fieldLength, lengthUnder, recordValid, recordAnswer};
+ghost use Rattle.wire.specs.Record.{asciiLimit, blobLength, stringLength, terminatedLength, fieldLength, lengthUnder, recordValid, recordAnswer};
 use crate::field_type::FieldType;
 use crate::table::Found;
+use crate::table::KEY_ATTRIBUTES_AT;
+use crate::table::KEY_OCTETS;
+use crate::table::KEY_TYPE_AT;
 use crate::table::Template;
 use octets::Answer;
+
+// The octets of the 32-bit length in front of a string or blob.
+pub(crate) const LENGTH_OCTETS: usize = 4;
+
+// A string's octets are below this.
+const ASCII_LIMIT: u8 = 128;
 
 // The length of the field of a type of a fixed width at a place, 0 where none is valid there.
 fn fixed_length(kind: u16, width: usize, r: &[u8], at: usize) -> usize
@@ -34,25 +43,25 @@ fn fixed_length(kind: u16, width: usize, r: &[u8], at: usize) -> usize
 fn blob_length(r: &[u8], at: usize) -> usize
     ensures { λ n. ⌜ n ≡ blobLength (now (r .entry)) at ⌝ }
 {
-    if octets::room(r.len(), at) < 4 {
+    if octets::room(r.len(), at) < LENGTH_OCTETS {
         return 0;
     }
     let n = crate::within::u32_at(r, at) as usize;
-    if octets::room(r.len(), at + 4) < n {
+    if octets::room(r.len(), at + LENGTH_OCTETS) < n {
         return 0;
     }
-    4 + n
+    LENGTH_OCTETS + n
 }
 
 // Whether n octets from a place on are below 128.
 pub(crate) fn all_below_128(r: &[u8], at: usize, n: usize) -> bool
     requires { ⌜ at + n ≤ length (now r) ⌝ }
-    ensures { λ b. ⌜ b ≡ every n (λ i. ltb (getD (now (r .entry)) (at + i) 0) 128) ⌝ }
+    ensures { λ b. ⌜ b ≡ every n (λ i. ltb (getD (now (r .entry)) (at + i) 0) asciiLimit) ⌝ }
 {
     let mut ok = true;
     let mut i: usize = 0;
     while i < n {
-        ok = ok & (r[at + i] < 128);
+        ok = ok & (r[at + i] < ASCII_LIMIT);
         i += 1;
     }
     ok
@@ -66,7 +75,7 @@ fn string_length(r: &[u8], at: usize) -> usize
     if n == 0 {
         return 0;
     }
-    if all_below_128(r, at + 4, n - 4) {
+    if all_below_128(r, at + LENGTH_OCTETS, n - LENGTH_OCTETS) {
         return n;
     }
     0
@@ -86,7 +95,7 @@ fn first_zero(r: &[u8], at: usize) -> usize
     p
 }
 
-// The length of the zero-terminated string at a place, 0 where none is valid there.
+// The length of the null terminated string at a place, 0 where none is valid there.
 fn terminated_length(r: &[u8], at: usize) -> usize
     ensures { λ n. ⌜ n ≡ terminatedLength (now (r .entry)) at ⌝ }
 {
@@ -127,20 +136,20 @@ pub(crate) fn field_length(kind: u16, r: &[u8], at: usize) -> usize
 
 // Whether key k of a template is enabled.
 pub(crate) fn is_enabled(t: &[u8], m: Template, k: usize) -> bool
-    requires { ⌜ m .keys + 12 * k + 12 ≤ length (now t) ⌝ }
+    requires { ⌜ m .keys + keyOctets * k + keyOctets ≤ length (now t) ⌝ }
     ensures { λ b. ⌜ b ≡ isEnabled (now (t .entry)) (keyAt (m .keys) k) ⌝ }
 {
-    crate::within::u32_at(t, m.keys + 12 * k + 8) == 0
+    crate::within::u32_at(t, m.keys + KEY_OCTETS * k + KEY_ATTRIBUTES_AT) == 0
 }
 
 // The length of key k's field at a place of a record; 0 for a disabled key, and where none is valid there.
 fn length_under(t: &[u8], m: Template, r: &[u8], k: usize, at: usize) -> usize
-    requires { ⌜ m .keys + 12 * k + 12 ≤ length (now t) ⌝ }
+    requires { ⌜ m .keys + keyOctets * k + keyOctets ≤ length (now t) ⌝ }
     ensures { λ n. ⌜ n ≡ lengthUnder (now (t .entry)) m (now (r .entry)) k at ⌝ }
 {
-    // as in `field_length`, written out: this is the loop's hot path
+    // As in `field_length`, written out here: every field of every record that is judged comes this way.
     if is_enabled(t, m, k) {
-        let kind = crate::within::u16_at(t, m.keys + 12 * k + 4);
+        let kind = crate::within::u16_at(t, m.keys + KEY_OCTETS * k + KEY_TYPE_AT);
         let width = FieldType { number: kind }.width() as usize;
         if 0 < width {
             return fixed_length(kind, width, r, at);
@@ -152,7 +161,7 @@ fn length_under(t: &[u8], m: Template, r: &[u8], k: usize, at: usize) -> usize
 
 // Whether the fields of a template's enabled keys use up exactly a record's octets.
 fn fields_valid(t: &[u8], m: Template, r: &[u8]) -> bool
-    requires { ⌜ m .keys + 12 * m .count ≤ length (now t) ⌝ }
+    requires { ⌜ m .keys + keyOctets * m .count ≤ length (now t) ⌝ }
     ensures { λ b. ⌜ b ≡ recordValid (now (t .entry)) m (now (r .entry)) ⌝ }
 {
     let count = m.count;
@@ -169,7 +178,8 @@ fn fields_valid(t: &[u8], m: Template, r: &[u8]) -> bool
     at == r.len()
 }
 
-// 0 for a valid record under the template with an ID, 21 for an unsound table, 15 for an ID that it does not have, 16 for another record.
+// 0 for a valid record under the template with an ID, 21 for an unsound table, 15 for an ID that it does not have, 16 for a record that is
+// not valid under it.
 pub fn record_valid(t: &[u8], id: u16, r: &[u8]) -> u8
     ensures { λ n. ⌜ n ≡ recordAnswer (now (t .entry)) id (now (r .entry)) ⌝ }
 {

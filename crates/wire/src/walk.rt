@@ -2,6 +2,7 @@
 ghost use mathlib.Core.Path.{_≡_};
 ghost use Prim.Native.Nat.{_+_, _-_, _*_, _^_, _≤_};
 ghost use lib.ListN.{length};
+ghost use Rattle.wire.specs.Table.{keyOctets};
 ghost use Rattle.wire.specs.Walk.{signedAt, valueAt, nextKey, stepUnder, stepOf, openOf};
 use crate::field_type::FieldType;
 use crate::table::Found;
@@ -93,7 +94,7 @@ fn value_at(kind: u16, r: &[u8], at: usize) -> Value
 
 // The first enabled key of a template from a key on; its count or more where there is none.
 fn next_key(t: &[u8], m: Template, index: usize) -> usize
-    requires { ⌜ m .keys + 12 * m .count ≤ length (now t) ⌝ }
+    requires { ⌜ m .keys + keyOctets * m .count ≤ length (now t) ⌝ }
     ensures { λ k. ⌜ k ≡ nextKey (now (t .entry)) m index ⌝ }
 {
     let count = m.count;
@@ -109,7 +110,7 @@ fn next_key(t: &[u8], m: Template, index: usize) -> usize
 
 // A step under a template.
 fn step_under(t: &[u8], m: Template, r: &[u8], c: Cursor) -> Step
-    requires { ⌜ m .keys + 12 * m .count ≤ length (now t) ⌝ }
+    requires { ⌜ m .keys + keyOctets * m .count ≤ length (now t) ⌝ }
     ensures { λ s. ⌜ s ≡ stepUnder (now (t .entry)) m (now (r .entry)) c ⌝ }
 {
     let at = c.at;
@@ -117,7 +118,10 @@ fn step_under(t: &[u8], m: Template, r: &[u8], c: Cursor) -> Step
     if m.count <= k {
         return Step::End;
     }
-    let kind = crate::within::u16_at(t, m.keys + 12 * k + 4);
+    let kind = crate::within::u16_at(
+        t,
+        m.keys + crate::table::KEY_OCTETS * k + crate::table::KEY_TYPE_AT,
+    );
     let len = crate::record::field_length(kind, r, at);
     if len == 0 {
         return Step::Refused(Answer::RECORD_INVALID);

@@ -1,4 +1,5 @@
-// Numbers at a place that lies within the octets, read without a test.
+// Numbers at a place that is known to lie within the octets: as `octets::get_u16` and `octets::get_u32`, without their tests for the end.
+// A block of a table is tested once and then read many times (docs/SPEED.md).
 ghost use mathlib.Core.Path.{_≡_};
 ghost use Prim.Native.Nat.{_+_, _≤_};
 ghost use lib.ListN.{length};

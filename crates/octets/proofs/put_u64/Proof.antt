@@ -1,11 +1,8 @@
 -- `put_u64` meets its contract: where the number does not fit nothing changes, and otherwise its two halves are written. Assumes nothing.
-use mathlib.Core.Path.{sym, ap, _∙_}
-use mathlib.Core.List.{List}
-use Prim.Native.Nat.{ℕ, _+_, _%_, _^_}
+use mathlib.Core.Path.{sym}
 use native.Mathlib.Omega.{arith}
-use Rattle.octets.specs.Numbers.{putAt, octetsOf}
 use Rattle.octets.proofs.Numbers.{octets-length}
-use Rattle.octets.proofs.Stores.{put-short, put-halves}
+use Rattle.octets.proofs.Stores.{put-short, put-twice}
 use borrow.Author.Needs.{needs}
 use Rattle.octets.proofs.put_u64.Statement.{statement}
 use Rattle.octets.proofs.put_u64.Tie as tie
@@ -35,10 +32,10 @@ same-length : tie.Need-same-length
 same-length c = search needs
 
 returns-2 : tie.Need-returns-2
-returns-2 c = let a = c .before .before .before .before .before .before .before .before .before .before .before .args in
-    c .before .before .put-u322 .ensures
-    ∙ ap (λ (l : List ℕ). putAt l (a .at + 4) (octetsOf 4 (a .v % 256 ^ 4))) (c .before .before .before .before .before .before .put-u32 .ensures)
-    ∙ put-halves (a .out .now) (a .at) 4 4 (a .v) (omega arith)
+returns-2 c =
+    let first = c .before .before .before .before .before .before in
+    let a = first .before .before .before .before .before .args in
+    put-twice (a .out .now) _ _ (a .at) 4 4 (a .v) (first .put-u32 .ensures) (c .before .before .put-u322 .ensures) (omega arith)
 
 pub put-u64-spec : {M : Type 1} → statement M
 put-u64-spec =

@@ -1,5 +1,5 @@
--- `number_fits` meets its contract: its tests are the definition's, said of the greatest number of the type's octets.
--- Assumes nothing.
+-- `number_fits` meets its contract: Boolean, signed and other number types are tested in the definition's order. To be at most the greatest
+-- number of w octets, or half of it, is to be below 256 to the w, or half of it. Assumes nothing.
 use mathlib.Core.Path.{_≡_, sym, _∙_}
 use mathlib.Core.Bool.{true, false}
 use Prim.Native.Nat.{_-_}

@@ -1,5 +1,5 @@
--- `octets_fit` meets its contract: its tests are the definition's.
--- Assumes nothing.
+-- `octets_fit` meets its contract: the three types whose width varies are tested in the definition's order, and any other type must be an
+-- address of as many octets. Assumes nothing.
 use Prim.Native.Nat.{_-_}
 use native.Mathlib.Nat.{zero-add}
 use borrow.Author.Tests.{eq-eqb, ne-eqb}

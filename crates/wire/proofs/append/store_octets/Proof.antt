@@ -3,7 +3,6 @@
 use Prim.Native.Nat.{_-_}
 use native.Mathlib.Omega.{arith}
 use borrow.Author.Tests.{eq-eqb, ne-eqb, lt-ltb, le-ltb}
-use lib.ListN.{length}
 use Rattle.wire.specs.FieldTypes.{terminatedType}
 use Rattle.wire.specs.Append.{octetsField}
 use Rattle.wire.proofs.Appends.{octets-cases}

@@ -3,7 +3,7 @@
 use mathlib.Core.Path.{_∙_}
 use native.Mathlib.Omega.{arith}
 use borrow.Author.Needs.{needs}
-use lib.ListN.{length, length-set}
+use lib.ListN.{length-set}
 use Rattle.octets.proofs.Stores.{put-fits}
 use Rattle.octets.proofs.Numbers.{octets-length}
 use Rattle.octets.specs.Numbers.{octetsOf}

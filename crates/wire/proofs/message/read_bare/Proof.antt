@@ -1,4 +1,4 @@
--- `read_bare` meets its contract: each return follows from the test on the way to it. Assumes nothing.
+-- `read_bare` meets its contract: a body of no octets gives the meaning, and any other is 8. Assumes nothing.
 use borrow.Author.Tests.{eq-eqb, ne-eqb}
 use Rattle.wire.proofs.message.read_bare.Statement.{statement}
 use Rattle.wire.proofs.message.read_bare.Tie as tie

@@ -1,4 +1,4 @@
--- `read_data` meets its contract: each return follows from the test on the way to it. Assumes nothing.
+-- `read_data` meets its contract: a body of fewer than 8 octets is 8, and otherwise the head was read within the message. Assumes nothing.
 use borrow.Author.Tests.{le-leb, lt-leb}
 use borrow.Author.Needs.{needs}
 use Rattle.wire.proofs.message.read_data.Statement.{statement}

@@ -1,6 +1,6 @@
 -- `read_message` meets its contract: the header's refusal is the message's, and where there is none its body is read.
 -- Assumes nothing.
-use mathlib.Core.Path.{sym, _∙_}
+use mathlib.Core.Path.{_∙_}
 use borrow.Author.Tests.{ne-eqb}
 use Rattle.wire.specs.Messages.{readOf}
 use Rattle.wire.proofs.Messages.{header-refused}

@@ -7,6 +7,7 @@ use borrow.Author.Tests.{lt-ltb, le-ltb}
 use borrow.Author.Needs.{needs}
 use lib.Seq.{sets}
 use lib.ListN.{length}
+use Rattle.octets.specs.Answers.{recordTooLong}
 use Rattle.octets.specs.Numbers.{octetsOf}
 use Rattle.wire.specs.Messages.{dataHeadOctets, writeAnswer}
 use Rattle.wire.proofs.Messages.{placed-short, placed, put-then, allowed, refused, data-length, data-layout}
@@ -15,7 +16,7 @@ use Rattle.wire.proofs.message.write_data.Tie as tie
 
 returns : tie.Need-returns
 unfolding writeAnswer
-returns c = refused _ _ _ 17 (λ z. omega arith) (rw (lt-ltb _ _ (c .if1 .taken)))
+returns c = refused _ _ _ recordTooLong (λ z. omega arith) (rw (lt-ltb _ _ (c .if1 .taken)))
 
 add-len : tie.Need-add-len
 add-len c = search needs

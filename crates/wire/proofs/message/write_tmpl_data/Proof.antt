@@ -7,9 +7,11 @@ use native.Mathlib.Omega.{arith}
 use borrow.Author.Tests.{not-false}
 use borrow.Author.Needs.{needs}
 use lib.ListN.{length}
+use Rattle.octets.specs.Answers.{unsoundTable}
 use Rattle.octets.specs.Numbers.{octetsOf}
 use Rattle.wire.specs.Messages.{headerOctetsOf, messageOf, tmplData, layoutOf, writeAnswer}
-use Rattle.wire.proofs.Messages.{placed-short, placed, put-then, allowed, refused, message-length, table-small}
+use Rattle.wire.proofs.Messages.{placed-short, placed, put-then, allowed, refused, message-length}
+use Rattle.wire.proofs.Tables.{table-facts}
 use Rattle.wire.proofs.message.write_tmpl_data.Statement.{statement}
 use Rattle.wire.proofs.message.write_tmpl_data.Tie as tie
 
@@ -18,7 +20,7 @@ table-sound-requires c κs = search needs
 
 returns : tie.Need-returns
 unfolding writeAnswer
-returns c = refused _ _ _ 21 (λ z. omega arith) (rw (← c .before .table-sound .ensures, c .if1 .taken))
+returns c = refused _ _ _ unsoundTable (λ z. omega arith) (rw (← c .before .table-sound .ensures, c .if1 .taken))
 
 add-len : tie.Need-add-len
 add-len c = search needs
@@ -31,7 +33,7 @@ returns-2 c =
     allowed _ _ _ _ _ sound refl (placed-short _ _ (omega (arith, message-length tmplData (a .session) (a .part .now))))
 
 cast-put-header : tie.Need-cast-put-header
-cast-put-header c = let l = table-small _ (sym (c .before .before .table-sound .ensures) ∙ not-false _ (c .before .if1 .left)) in omega arith
+cast-put-header c = let f = table-facts _ (sym (c .before .before .table-sound .ensures) ∙ not-false _ (c .before .if1 .left)) in omega (arith, f .short)
 
 put-header-requires : tie.Need-put-header-requires
 put-header-requires c κs = search needs

@@ -1,4 +1,5 @@
--- `blob_length` meets its contract: each return follows from the tests on the way to it. Assumes nothing.
+-- `blob_length` meets its contract: fewer than 4 octets left, or fewer than the length says, give 0; otherwise the length was read within
+-- the record. Assumes nothing.
 use Prim.Native.Nat.{_-_}
 use borrow.Author.Tests.{le-ltb, lt-ltb}
 use Rattle.wire.specs.Record.{blobLength}

@@ -1,4 +1,5 @@
--- `fixed_length` meets its contract: each return follows from the tests on the way to it, and a Boolean has one octet. Assumes nothing.
+-- `fixed_length` meets its contract: with fewer octets left than the width the length is 0, and otherwise it is the width; only of a
+-- Boolean, which has one octet, that octet is tested too. Assumes nothing.
 use borrow.Author.Tests.{eq-eqb, ne-eqb, le-ltb, lt-ltb}
 use Rattle.octets.proofs.Numbers.{uint-one}
 use Rattle.wire.specs.Record.{fixedLength, fieldLength}

@@ -1,4 +1,5 @@
--- `varying_length` meets its contract: each return follows from the tests on the way to it. Assumes nothing.
+-- `varying_length` meets its contract: the three types whose width varies are tested in the definition's order, and a type of no width that
+-- is none of them has no field. Assumes nothing.
 use borrow.Author.Tests.{eq-eqb, ne-eqb}
 use Rattle.wire.specs.Record.{fieldLength}
 use borrow.Author.Needs.{needs}

@@ -1,5 +1,5 @@
--- `block_end` meets its contract: it reads the two fields that the definition names. Assumes nothing.
-use native.Mathlib.Omega.{arith}
+-- `block_end` meets its contract: head, padded description and key blocks are added up from the two fields that the definition names.
+-- Assumes nothing.
 use Rattle.wire.specs.Table.{blockEnd}
 use borrow.Author.Needs.{needs}
 use Rattle.wire.proofs.table.block_end.Statement.{statement}
@@ -10,9 +10,6 @@ add-u16-at c = search needs
 
 u16-at-requires : tie.Need-u16-at-requires
 u16-at-requires c κs = search needs
-
-cast-description : tie.Need-cast-description
-cast-description c = search needs
 
 add-u16-at-2 : tie.Need-add-u16-at-2
 add-u16-at-2 c = search needs
@@ -26,6 +23,9 @@ cast-count c = search needs
 add-result : tie.Need-add-result
 add-result c = search needs
 
+padded-requires : tie.Need-padded-requires
+padded-requires c κs = search needs
+
 add-result-2 : tie.Need-add-result-2
 add-result-2 c = search needs
 
@@ -35,15 +35,9 @@ mul-result c = search needs
 add-result-3 : tie.Need-add-result-3
 add-result-3 c = search needs
 
-mul-result-2 : tie.Need-mul-result-2
-mul-result-2 c = search needs
-
-add-result-4 : tie.Need-add-result-4
-add-result-4 c = search needs
-
 returns : tie.Need-returns
 unfolding blockEnd
-returns c = omega arith
+returns c = search needs
 
 pub block-end-spec : {M : Type 1} → statement M
 block-end-spec =
@@ -51,14 +45,12 @@ block-end-spec =
     (tie.spec
     add-u16-at
     u16-at-requires
-    cast-description
     add-u16-at-2
     u16-at-requires-2
     cast-count
     add-result
+    padded-requires
     add-result-2
     mul-result
     add-result-3
-    mul-result-2
-    add-result-4
     returns)

@@ -3,11 +3,10 @@
 use mathlib.Core.Path.{_≡_, refl, sym, ap, _∙_}
 use native.Mathlib.Omega.{arith}
 use Prim.Native.Nat.{ℕ, _-_, _≤_}
-use mathlib.Core.Bool.{true, not}
-use lib.Dec.{eqb}
+use mathlib.Core.Bool.{true}
 use borrow.Author.Tests.{not-true, not-false}
 use Rattle.octets.specs.Numbers.{uintAt}
-use Rattle.wire.specs.Each.{every}
+use Rattle.wire.specs.Each.{every, absent}
 use Rattle.wire.proofs.Each.{clause-last, cond-same, every-false, every-step}
 use Rattle.wire.specs.Table.{blockEnd, blockSound, blockAt, idAt, blocksSound, templatesDiffer}
 use Rattle.wire.proofs.Tables.{block-at-more, block-near, block-inside}
@@ -51,7 +50,7 @@ returns-2 c =
     let l = c .before .before .before .before .before .before .loop in
     let t = c .before .before .before .before .before .before .before .before .args .t .now in
     let id = c .before .before .u16-at .ensures ∙ ap (λ (p : ℕ). uintAt t p 2) (l .inv .1 .0) in
-    rw (every-false (c .before .before .before .before .before .before .before .before .args .n) (λ i. every i (λ j. not (eqb (idAt t j) (idAt t i)))) (l .i) (search needs) (rw id at (sym (c .before .id-is-new .ensures) ∙ not-true _ (c .if2 .taken))), cond-same)
+    rw (every-false (c .before .before .before .before .before .before .before .before .args .n) (λ i. absent (idAt t) i (idAt t i)) (l .i) (search needs) (rw id at (sym (c .before .id-is-new .ensures) ∙ not-true _ (c .if2 .taken))), cond-same)
 
 block-end-requires : tie.Need-block-end-requires Inv-loop μ-loop
 block-end-requires c κs =

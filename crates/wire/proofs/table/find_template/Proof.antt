@@ -2,6 +2,7 @@
 use mathlib.Core.Path.{sym, _∙_}
 use Prim.Native.Nat.{_-_}
 use Rattle.wire.specs.Table.{findOf}
+use Rattle.wire.proofs.Tables.{find-located}
 use borrow.Author.Needs.{needs}
 use Rattle.wire.proofs.table.find_template.Statement.{statement}
 use Rattle.wire.proofs.table.find_template.Tie as tie
@@ -13,8 +14,7 @@ locate-requires : tie.Need-locate-requires
 locate-requires c κs = sym (c .before .table-sound .ensures) ∙ c .if1 .taken
 
 returns : tie.Need-returns
-unfolding findOf
-returns c = rw (sym (c .before .before .table-sound .ensures) ∙ c .before .if1 .taken) (c .locate .ensures)
+returns c = c .locate .ensures ∙ sym (find-located _ _ (sym (c .before .before .table-sound .ensures) ∙ c .before .if1 .taken))
 
 returns-2 : tie.Need-returns-2
 unfolding findOf

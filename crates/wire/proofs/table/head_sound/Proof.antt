@@ -2,7 +2,7 @@
 -- names are read and tested. Assumes nothing.
 use mathlib.Core.Path.{_≡_}
 use native.Mathlib.Omega.{arith}
-use Prim.Native.Nat.{_+_, _-_}
+use Prim.Native.Nat.{_-_}
 use borrow.Author.Tests.{lt-leb}
 use lib.ListN.{length}
 use Rattle.wire.specs.Table.{blockOctets, blockEnd, headSound}

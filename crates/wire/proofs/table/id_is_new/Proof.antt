@@ -3,10 +3,9 @@ use mathlib.Core.Path.{_≡_, refl, sym, ap, _∙_}
 use native.Mathlib.Omega.{arith}
 use Prim.Native.Nat.{ℕ, _-_, _≤_}
 use mathlib.Core.Bool.{true, not}
-use lib.Dec.{eqb}
 use borrow.Author.Tests.{eq-eqb, ne-eqb}
 use Rattle.octets.specs.Numbers.{uintAt}
-use Rattle.wire.specs.Each.{every}
+use Rattle.wire.specs.Each.{every, absent}
 use Rattle.wire.proofs.Each.{every-false, every-step}
 use Rattle.wire.specs.Table.{blockEnd, blockAt, idAt}
 use Rattle.wire.proofs.Tables.{block-at-more, block-near, block-in}
@@ -15,7 +14,7 @@ use Rattle.wire.proofs.table.id_is_new.Statement.{statement}
 use Rattle.wire.proofs.table.id_is_new.Tie as tie
 
 abbrev Inv-loop : tie.InvT-loop
-Inv-loop t n id at₀ i₀ at i = (i ≤ n) × ((at ≡ blockAt t i) × (every i (λ j. not (eqb (idAt t j) id)) ≡ true))
+Inv-loop t n id at₀ i₀ at i = (i ≤ n) × ((at ≡ blockAt t i) × (absent (idAt t) i id ≡ true))
 
 abbrev μ-loop : tie.MeasureT-loop
 μ-loop t n id at₀ i₀ at i = n - i

@@ -3,9 +3,8 @@ use mathlib.Core.Path.{_≡_, refl, sym, ap, _∙_}
 use native.Mathlib.Omega.{arith}
 use Prim.Native.Nat.{_-_, _≤_}
 use mathlib.Core.Bool.{true, not}
-use lib.Dec.{eqb}
 use borrow.Author.Tests.{eq-eqb, ne-eqb}
-use Rattle.wire.specs.Each.{every}
+use Rattle.wire.specs.Each.{every, absent}
 use Rattle.wire.proofs.Each.{every-false, every-step}
 use Rattle.wire.specs.Table.{keyId, keyAt}
 use borrow.Author.Needs.{needs}
@@ -13,7 +12,7 @@ use Rattle.wire.proofs.table.key_is_new.Statement.{statement}
 use Rattle.wire.proofs.table.key_is_new.Tie as tie
 
 abbrev Inv-loop : tie.InvT-loop
-Inv-loop t keys k id j₀ j = (j ≤ k) × (every j (λ i. not (eqb (keyId t (keyAt keys i)) (keyId t (keyAt keys k)))) ≡ true)
+Inv-loop t keys k id j₀ j = (j ≤ k) × (absent (λ i. keyId t (keyAt keys i)) j (keyId t (keyAt keys k)) ≡ true)
 
 abbrev μ-loop : tie.MeasureT-loop
 μ-loop t keys k id j₀ j = k - j

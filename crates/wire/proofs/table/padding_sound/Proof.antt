@@ -1,4 +1,5 @@
--- `padding_sound` meets its contract: it tests the octets that the definition tests. Assumes nothing.
+-- `padding_sound` meets its contract: the octets between the description's end and its padded end are those that the definition tests.
+-- Assumes nothing.
 use Prim.Native.Nat.{_-_}
 use Rattle.wire.specs.Table.{paddingSound}
 use borrow.Author.Needs.{needs}
@@ -11,20 +12,17 @@ add-u16-at c = search needs
 u16-at-requires : tie.Need-u16-at-requires
 u16-at-requires c κs = search needs
 
-cast-description : tie.Need-cast-description
-cast-description c = search needs
-
-add-padded : tie.Need-add-padded
-add-padded c = search needs
-
-mul-padded : tie.Need-mul-padded
-mul-padded c = search needs
+cast-len : tie.Need-cast-len
+cast-len c = search needs
 
 add-all-zero : tie.Need-add-all-zero
 add-all-zero c = search needs
 
 add-all-zero-2 : tie.Need-add-all-zero-2
 add-all-zero-2 c = search needs
+
+padded-requires : tie.Need-padded-requires
+padded-requires c κs = search needs
 
 sub-all-zero : tie.Need-sub-all-zero
 sub-all-zero c = search needs
@@ -34,7 +32,7 @@ all-zero-requires c κs = search needs
 
 returns : tie.Need-returns
 unfolding paddingSound
-returns c = rw (c .all-zero .ensures, c .before .u16-at .ensures)
+returns c = rw (c .all-zero .ensures, c .before .padded .ensures, c .before .before .u16-at .ensures)
 
 pub padding-sound-spec : {M : Type 1} → statement M
 padding-sound-spec =
@@ -42,11 +40,10 @@ padding-sound-spec =
     (tie.spec
     add-u16-at
     u16-at-requires
-    cast-description
-    add-padded
-    mul-padded
+    cast-len
     add-all-zero
     add-all-zero-2
+    padded-requires
     sub-all-zero
     all-zero-requires
     returns)

@@ -1,4 +1,5 @@
--- `template_at` meets its contract: it reads the two fields that the definition names. Assumes nothing.
+-- `template_at` meets its contract: it reads the key count and the description's length, and the key blocks begin behind the padded
+-- description. Assumes nothing.
 use Rattle.wire.specs.Table.{templateAt}
 use borrow.Author.Needs.{needs}
 use Rattle.wire.proofs.table.template_at.Statement.{statement}
@@ -10,20 +11,14 @@ add-u16-at c = search needs
 u16-at-requires : tie.Need-u16-at-requires
 u16-at-requires c κs = search needs
 
-cast-description : tie.Need-cast-description
-cast-description c = search needs
+add-t4 : tie.Need-add-t4
+add-t4 c = search needs
 
-add-t5 : tie.Need-add-t5
-add-t5 c = search needs
+padded-requires : tie.Need-padded-requires
+padded-requires c κs = search needs
 
 add-t6 : tie.Need-add-t6
 add-t6 c = search needs
-
-mul-t8 : tie.Need-mul-t8
-mul-t8 c = search needs
-
-add-t9 : tie.Need-add-t9
-add-t9 c = search needs
 
 add-u16-at-2 : tie.Need-add-u16-at-2
 add-u16-at-2 c = search needs
@@ -31,12 +26,12 @@ add-u16-at-2 c = search needs
 u16-at-requires-2 : tie.Need-u16-at-requires-2
 u16-at-requires-2 c κs = search needs
 
-cast-t11 : tie.Need-cast-t11
-cast-t11 c = search needs
+cast-t9 : tie.Need-cast-t9
+cast-t9 c = search needs
 
 returns : tie.Need-returns
 unfolding templateAt
-returns c = simp (c .u16-at2 .ensures, c .before .u16-at .ensures)
+returns c = simp (c .u16-at2 .ensures, c .before .padded .ensures, c .before .before .u16-at .ensures)
 
 pub template-at-spec : {M : Type 1} → statement M
 template-at-spec =
@@ -44,12 +39,10 @@ template-at-spec =
     (tie.spec
     add-u16-at
     u16-at-requires
-    cast-description
-    add-t5
+    add-t4
+    padded-requires
     add-t6
-    mul-t8
-    add-t9
     add-u16-at-2
     u16-at-requires-2
-    cast-t11
+    cast-t9
     returns)

@@ -2,7 +2,6 @@
 use mathlib.Core.Path.{_≡_, refl, sym, _∙_}
 use native.Mathlib.Omega.{arith}
 use Prim.Native.Nat.{_+_, _-_}
-use mathlib.Core.Bool.{not}
 use Rattle.wire.specs.Each.{firstFrom}
 use Rattle.wire.proofs.Each.{first-here, first-on, first-none}
 use Rattle.wire.specs.Table.{keyAt, isEnabled}

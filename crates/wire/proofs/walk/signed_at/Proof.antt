@@ -1,7 +1,7 @@
 -- `signed_at` meets its contract: `n <= most / 2` says that twice n is below 256 to the w, and 256 to the w minus n is `most - n + 1`.
 -- Assumes nothing.
 use mathlib.Core.Path.{_≡_, ap, _∙_}
-use Prim.Native.Nat.{_+_, _-_, _*_, _^_, _<_}
+use Prim.Native.Nat.{_-_, _*_, _^_}
 use native.Mathlib.Omega.{arith}
 use borrow.Author.Needs.{needs}
 use borrow.Author.Tests.{le-ltb, lt-ltb}

@@ -1,5 +1,5 @@
--- `value_at` meets its contract: its tests are the definition's, and a number has at most 8 octets, so it is read whole.
--- Assumes nothing.
+-- `value_at` meets its contract: signed types are tested first, then other numbers, as in the definition. A number has at most 8 octets, so
+-- `get_uint` reads it whole. Assumes nothing.
 use mathlib.Core.Path.{_≡_, sym, _∙_}
 use mathlib.Core.Bool.{true, false}
 use Prim.Native.Nat.{_-_, _≤_}

@@ -1,4 +1,5 @@
--- `is_number` meets its contract: the law of the table of types says that the ranges tested are those of its rows. Assumes nothing.
+-- `is_number` meets its contract: the law of the table of types says that the two ranges tested are those of its rows of numbers. Assumes
+-- nothing.
 use Rattle.wire.proofs.FieldTypes.{number-code}
 use Rattle.wire.proofs.field_type.FieldType.is_number.Statement.{statement}
 use Rattle.wire.proofs.field_type.FieldType.is_number.Tie as tie

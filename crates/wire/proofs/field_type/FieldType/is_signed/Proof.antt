@@ -1,4 +1,5 @@
--- `is_signed` meets its contract: the law of the table of types says that the ranges tested are those of its rows. Assumes nothing.
+-- `is_signed` meets its contract: the four numbers tested are those of the signed integers, and the law of the table of types says that no
+-- other row is signed. Assumes nothing.
 use Rattle.wire.proofs.FieldTypes.{signed-code}
 use Rattle.wire.proofs.field_type.FieldType.is_signed.Statement.{statement}
 use Rattle.wire.proofs.field_type.FieldType.is_signed.Tie as tie

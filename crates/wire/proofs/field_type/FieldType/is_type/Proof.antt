@@ -1,4 +1,5 @@
--- `is_type` meets its contract: the law of the table of types says that the ranges tested are those of its rows. Assumes nothing.
+-- `is_type` meets its contract: the law of the table of types says that the two ranges and the three numbers tested are those of its rows.
+-- Assumes nothing.
 use Rattle.wire.proofs.FieldTypes.{type-code}
 use Rattle.wire.proofs.field_type.FieldType.is_type.Statement.{statement}
 use Rattle.wire.proofs.field_type.FieldType.is_type.Tie as tie
