@@ -63,6 +63,11 @@ walkStart = record { index = 0; at = 0 }
 unfoldable pub openOf : List ℕ → ℕ → List ℕ → Opened
 openOf t id r = cond (eqb (recordAnswer t id r) done) (opened.At walkStart) (opened.Refused (recordAnswer t id r))
 
+-- A step from where an opening stands: a walk whose opening was refused answers that refusal at every step.
+unfoldable pub stepFrom : List ℕ → ℕ → List ℕ → Opened → Step
+stepFrom t id r (opened.At c) = stepOf t id r c
+stepFrom t id r (opened.Refused a) = step.Refused a
+
 -- The answer number of an opening and of a step.
 abbrev pub openAnswer : Opened → ℕ
 openAnswer (opened.At c) = done
