@@ -8,6 +8,7 @@ pub mod Widths
 pub mod Appends
 pub mod ReadBack
 pub mod WalkLaws
+pub mod Readers
 pub mod Messages
 pub mod RoundTrip
 pub mod Examples
