@@ -3,13 +3,15 @@ use Prim.Native.Nat.{ℕ, zero, suc, _+_, _-_, _*_, _^_}
 use mathlib.Core.Bool.{cond, not}
 use mathlib.Core.List.{List, [], _∷_, _++_, map}
 use lib.Dec.{eqb, leb, ltb}
-use lib.ListN.{take, drop}
+use lib.ListN.{length, take, drop}
 use Rattle.octets.specs.Answers.{done, unsoundTable, templateNotFound, recordInvalid}
 use Rattle.octets.specs.Numbers.{uintAt}
 use Rattle.wire.specs.Each.{firstFrom}
 use Rattle.wire.specs.FieldTypes.{widthOf, isNumber, isSigned}
 use Rattle.wire.specs.Table.{keyAt, keyType, isEnabled, tableSound, isMissing, templateOf}
 use Rattle.wire.specs.Record.{fieldLength, fieldAt, recordAnswer}
+use Rattle.wire.specs.declared.reader.Counted.{Counted}
+use Rattle.wire.specs.declared.reader.Counted.the-variants as counted
 use Rattle.wire.specs.declared.table.Template.{Template}
 use Rattle.wire.specs.declared.walk.Value.{Value}
 use Rattle.wire.specs.declared.walk.Value.the-variants.{Octets, Number, Negative}
@@ -68,7 +70,7 @@ unfoldable pub stepFrom : List ℕ → ℕ → List ℕ → Opened → Step
 stepFrom t id r (opened.At c) = stepOf t id r c
 stepFrom t id r (opened.Refused a) = step.Refused a
 
--- The answer number of an opening and of a step.
+-- The answer number of an opening, of a step and of a count.
 abbrev pub openAnswer : Opened → ℕ
 openAnswer (opened.At c) = done
 openAnswer (opened.Refused a) = a
@@ -77,6 +79,10 @@ abbrev pub stepAnswer : Step → ℕ
 stepAnswer (step.Next f c) = done
 stepAnswer step.End = done
 stepAnswer (step.Refused a) = a
+
+abbrev pub countAnswer : Counted → ℕ
+countAnswer (counted.Fields n) = done
+countAnswer (counted.Refused a) = a
 
 -- ---- a whole walk, by any step function
 
@@ -119,3 +125,9 @@ enabledTypes t m = map (λ k. keyType t (keyAt (m .keys) k)) (enabledKeys t m)
 
 abbrev pub fieldUnder : List ℕ → Template → List ℕ → ℕ → Field
 fieldUnder t m r k = fieldOf (keyType t (keyAt (m .keys) k)) r (fieldAt t m r k)
+
+-- How many fields a record has: a valid one has the fields of the enabled keys, one each. It is judged like opening, 21, 15, 16.
+unfoldable pub countOf : List ℕ → ℕ → List ℕ → Counted
+countOf t id r =
+    cond (eqb (recordAnswer t id r) done) (counted.Fields (length (enabledKeys t (templateOf t id))))
+    (counted.Refused (recordAnswer t id r))
