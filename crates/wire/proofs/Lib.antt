@@ -10,5 +10,6 @@ pub mod Widths
 pub mod Appends
 pub mod ReadBack
 pub mod WalkLaws
+pub mod Readers
 pub mod Messages
 pub mod RoundTrip

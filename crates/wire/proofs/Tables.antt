@@ -117,15 +117,24 @@ table-facts t e =
       ends = eqb-true (blockAt t (templateCount t)) (length t) (clause-first (eqb (blockAt t (templateCount t)) (length t)) _ e₆);
     }
 
+-- a template that is found has a sound head
+found-head : (t : List ℕ) (id : ℕ) → tableSound t ≡ true → isMissing t id ≡ false → HeadFacts t (blockAt t (templateIndex t id))
+found-head t id e m =
+    let f = table-facts t e in
+    let i = templateIndex t id in
+    let b = every-at (templateCount t) (λ i. blockSound t (blockAt t i)) (f .blocks) i (leb-false (templateCount t) i m) in
+    head-facts t (blockAt t i) (block-head t (blockAt t i) b)
+
 -- THE LAW OF A FOUND TEMPLATE: its key blocks lie within the table
 pub template-within : (t : List ℕ) (id : ℕ) → tableSound t ≡ true → isMissing t id ≡ false
     → templateOf t id .keys + keyOctets * templateOf t id .count ≤ length t
 unfolding templateAt blockEnd
-template-within t id e m =
-    let f = table-facts t e in
-    let i = templateIndex t id in
-    let b = every-at (templateCount t) (λ i. blockSound t (blockAt t i)) (f .blocks) i (leb-false (templateCount t) i m) in
-    omega (arith, head-facts t (blockAt t i) (block-head t (blockAt t i) b) .within)
+template-within t id e m = omega (arith, found-head t id e m .within)
+
+-- and are at most 32
+pub template-few : (t : List ℕ) (id : ℕ) → tableSound t ≡ true → isMissing t id ≡ false → templateOf t id .count ≤ 32
+unfolding templateAt
+template-few t id e m = found-head t id e m .few
 
 -- ---- what locating a template says
 

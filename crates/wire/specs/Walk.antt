@@ -3,13 +3,15 @@ use Prim.Native.Nat.{ℕ, zero, suc, _+_, _-_, _*_, _^_}
 use mathlib.Core.Bool.{Bool, cond, not, _&&_}
 use mathlib.Core.List.{List, [], _∷_, _++_, map}
 use lib.Dec.{eqb, leb, ltb}
-use lib.ListN.{take, drop}
+use lib.ListN.{length, take, drop}
 use Rattle.octets.specs.Answers.{_when_, judge, done, recordInvalid}
 use Rattle.octets.specs.Numbers.{uintAt}
 use Rattle.wire.specs.Each.{firstFrom}
 use Rattle.wire.specs.FieldTypes.{widthOf, isNumber, isSigned}
 use Rattle.wire.specs.Table.{keyAt, keyType, isEnabled, templateOf, templateChecks, findAnswer}
 use Rattle.wire.specs.Record.{fieldLength, fieldAt, recordAnswer}
+use Rattle.wire.specs.declared.reader.Counted.{Counted}
+use Rattle.wire.specs.declared.reader.Counted.the-variants as counted
 use Rattle.wire.specs.declared.table.Template.{Template}
 use Rattle.wire.specs.declared.walk.Value.{Value}
 use Rattle.wire.specs.declared.walk.Value.the-variants.{Octets, Number, Negative}
@@ -71,6 +73,11 @@ walkStart = record { index = 0; at = 0 }
 unfoldable pub openOf : List ℕ → ℕ → List ℕ → Opened
 openOf t id r = cond (eqb (recordAnswer t id r) done) (opened.At walkStart) (opened.Refused (recordAnswer t id r))
 
+-- A step from where an opening stands: a walk whose opening was refused answers that refusal at every step.
+unfoldable pub stepFrom : List ℕ → ℕ → List ℕ → Opened → Step
+stepFrom t id r (opened.At c) = stepOf t id r c
+stepFrom t id r (opened.Refused a) = step.Refused a
+
 -- The answer number of an opening: 0, or the refusal's.
 abbrev pub openAnswer : Opened → ℕ
 openAnswer (opened.At c) = done
@@ -81,6 +88,28 @@ abbrev pub stepAnswer : Step → ℕ
 stepAnswer (step.Next f c) = done
 stepAnswer step.End = done
 stepAnswer (step.Refused a) = a
+
+-- ---- how many fields a record has
+
+-- The enabled ones of the n keys from key k on, in order.
+unfoldable pub enabledFrom : List ℕ → Template → ℕ → ℕ → List ℕ
+enabledFrom t m k zero = []
+enabledFrom t m k (suc n) = cond (isEnabled t (keyAt (m .keys) k)) (k ∷ enabledFrom t m (k + 1) n) (enabledFrom t m (k + 1) n)
+
+-- The enabled keys of a template, in order.
+abbrev pub enabledKeys : List ℕ → Template → List ℕ
+enabledKeys t m = enabledFrom t m 0 (m .count)
+
+-- How many fields a record has: a valid one has the fields of the enabled keys, one each. It is judged like opening, 21, 15, 16.
+unfoldable pub countOf : List ℕ → ℕ → List ℕ → Counted
+countOf t id r =
+    cond (eqb (recordAnswer t id r) done) (counted.Fields (length (enabledKeys t (templateOf t id))))
+    (counted.Refused (recordAnswer t id r))
+
+-- The answer number of a count: 0, or the refusal's.
+abbrev pub countAnswer : Counted → ℕ
+countAnswer (counted.Fields n) = done
+countAnswer (counted.Refused a) = a
 
 -- ---- a whole walk, by any step function; for theorems only: no contract cites these
 
@@ -108,15 +137,6 @@ lastAnswer walk n c = walk (lastCursor walk n c)
 unfoldable pub laidOut : List ℕ → List Field → List ℕ
 laidOut r [] = []
 laidOut r (f ∷ fs) = take (f .len) (drop (f .at) r) ++ laidOut r fs
-
--- The enabled ones of the n keys from key k on, in order.
-unfoldable pub enabledFrom : List ℕ → Template → ℕ → ℕ → List ℕ
-enabledFrom t m k zero = []
-enabledFrom t m k (suc n) = cond (isEnabled t (keyAt (m .keys) k)) (k ∷ enabledFrom t m (k + 1) n) (enabledFrom t m (k + 1) n)
-
--- The enabled keys of a template, in order.
-abbrev pub enabledKeys : List ℕ → Template → List ℕ
-enabledKeys t m = enabledFrom t m 0 (m .count)
 
 -- The field types of the enabled keys, in order.
 abbrev pub enabledTypes : List ℕ → Template → List ℕ

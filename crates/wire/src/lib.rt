@@ -5,6 +5,7 @@
 pub mod append;
 pub mod field_type;
 pub mod message;
+pub mod reader;
 pub mod record;
 pub mod table;
 pub mod walk;

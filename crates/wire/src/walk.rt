@@ -3,7 +3,7 @@ ghost use mathlib.Core.Path.{_≡_};
 ghost use Prim.Native.Nat.{_+_, _-_, _*_, _^_, _≤_};
 ghost use lib.ListN.{length};
 ghost use Rattle.wire.specs.Table.{keyOctets};
-ghost use Rattle.wire.specs.Walk.{signedAt, valueAt, nextKey, stepUnder, stepOf, openOf};
+ghost use Rattle.wire.specs.Walk.{signedAt, valueAt, nextKey, stepUnder, stepOf, stepFrom, openOf};
 use crate::field_type::FieldType;
 use crate::table::Found;
 use crate::table::Template;
@@ -164,5 +164,15 @@ pub fn step_walk(t: &[u8], id: u16, r: &[u8], c: Cursor) -> Step
     match crate::table::locate(t, id) {
         Found::At(m) => step_under(t, m, r, c),
         Found::Refused(answer) => Step::Refused(answer),
+    }
+}
+
+// A step from where an opening stands; the refusal again where it was refused.
+pub fn step_from(t: &[u8], id: u16, r: &[u8], place: Opened) -> Step
+    ensures { λ s. ⌜ s ≡ stepFrom (now (t .entry)) id (now (r .entry)) place ⌝ }
+{
+    match place {
+        Opened::At(c) => step_walk(t, id, r, c),
+        Opened::Refused(answer) => Step::Refused(answer),
     }
 }
