@@ -97,6 +97,34 @@ unsoundTable = 21
 abbrev pub unsoundTape : ℕ
 unsoundTape = 22
 
+-- All of them, in the order of the paper's table.
+abbrev pub answerNumbers : List ℕ
+answerNumbers =
+    done
+    ∷ unsoundState
+    ∷ noSuchServer
+    ∷ shortMessage
+    ∷ otherVersion
+    ∷ lengthDiffers
+    ∷ otherSession
+    ∷ messageNotAccepted
+    ∷ bodyLengthWrong
+    ∷ outOfTurn
+    ∷ otherConfiguration
+    ∷ dsnNotAcknowledgeable
+    ∷ outputTooShort
+    ∷ noActiveServer
+    ∷ nothingToSend
+    ∷ templateNotFound
+    ∷ recordInvalid
+    ∷ recordTooLong
+    ∷ queueFull
+    ∷ storeFull
+    ∷ settingsOutsideLimits
+    ∷ unsoundTable
+    ∷ unsoundTape
+    ∷ []
+
 -- ---- judging: the first that applies
 
 -- A refusal: its number, and the test that calls for it.

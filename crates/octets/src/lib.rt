@@ -6,6 +6,7 @@ ghost use mathlib.Core.Path.{_≡_};
 ghost use mathlib.Core.List.{[], _∷_};
 ghost use Prim.Native.Nat.{_+_, _-_, _%_, _^_};
 ghost use lib.ListN.{getD};
+ghost use Rattle.octets.specs.Answers.{answerNumbers};
 ghost use Rattle.octets.specs.Numbers.{uintAt, octetsOf, putAt};
 
 // A name for the constants below, the answer numbers of every call; answers themselves are `u8`.
@@ -82,6 +83,37 @@ impl Answer {
 
     // 22: the tape is unsound.
     pub const UNSOUND_TAPE: u8 = 22;
+
+    // All answer numbers, in the order of the paper's table.
+    pub fn numbers() -> [u8; 23]
+        ensures { λ r. ⌜ r ≡ answerNumbers ⌝ }
+    {
+        [
+            Answer::DONE,
+            Answer::UNSOUND_STATE,
+            Answer::NO_SUCH_SERVER,
+            Answer::SHORT_MESSAGE,
+            Answer::OTHER_VERSION,
+            Answer::LENGTH_DIFFERS,
+            Answer::OTHER_SESSION,
+            Answer::MESSAGE_NOT_ACCEPTED,
+            Answer::BODY_LENGTH_WRONG,
+            Answer::OUT_OF_TURN,
+            Answer::OTHER_CONFIGURATION,
+            Answer::DSN_NOT_ACKNOWLEDGEABLE,
+            Answer::OUTPUT_TOO_SHORT,
+            Answer::NO_ACTIVE_SERVER,
+            Answer::NOTHING_TO_SEND,
+            Answer::TEMPLATE_NOT_FOUND,
+            Answer::RECORD_INVALID,
+            Answer::RECORD_TOO_LONG,
+            Answer::QUEUE_FULL,
+            Answer::STORE_FULL,
+            Answer::SETTINGS_OUTSIDE_LIMITS,
+            Answer::UNSOUND_TABLE,
+            Answer::UNSOUND_TAPE,
+        ]
+    }
 }
 
 // How many of len octets lie from place `at` on.
