@@ -78,8 +78,8 @@ unfolding sound
 sound-next s next = refl
 
 -- a DATA ACK that is not refused names records that the active server was sent
-pub ack-reached : (p : Settings) (d : Delivery) (v config n : ℕ) → judge (ackChecks p d v config n) ≡ done → n ≤ d .reached
-ack-reached p d v config n e = ltb-false (d .reached) n (passed (ackChecks p d v config n) tt e .1 .1 .1 .0)
+pub ack-reached : (p : Settings) (d : Delivery) (v config n a : ℕ) → a ≡ judge (ackChecks p d v config n) → a ≡ done → n ≤ d .reached
+ack-reached p d v config n a j e = ltb-false (d .reached) n (passed (ackChecks p d v config n) tt (sym j ∙ e) .1 .1 .1 .0)
 
 -- how many records a DSN names of a state
 abbrev pub namedIn : ℕ → State → ℕ → ℕ
@@ -93,6 +93,9 @@ module _ (w v dsn config : ℕ) (s : State) where
   pub ack-judged : sound s ≡ true → answer w [] 0 (ack v dsn config) s [] ≡ judge (ackChecks (s .settings) (s .delivery) v config (namedIn w s dsn))
   unfolding answer checks ackCount
   ack-judged e = rw e
+
+  pub answered-ack : (a : ℕ) → sound s ≡ true → a ≡ judge (ackChecks (s .settings) (s .delivery) v config (namedIn w s dsn)) → answer w [] 0 (ack v dsn config) s [] ≡ a
+  answered-ack a e q = ack-judged e ∙ sym q
 
   pub refused-ack : (a : ℕ) (r : AckChange) → (a ≡ done → ⊥) → answer w [] 0 (ack v dsn config) s [] ≡ a
       → r ≡ record { answer = a; released = 0; start = s .start; sent = s .delivery .sent; reached = s .delivery .reached; timer = s .delivery .timer }
@@ -129,7 +132,7 @@ module _ (w v dsn config : ℕ) (s : State) where
   pub ack-held : answer w [] 0 (ack v dsn config) s [] ≡ done → (namedIn w s dsn ≤ s .queue .count) × (namedIn w s dsn ≤ 64)
   ack-held e =
       let f = sound-facts s (ack-sound e) .numbers in
-      let g = ack-reached (s .settings) (s .delivery) v config (namedIn w s dsn) (sym (ack-judged (ack-sound e)) ∙ e) in
+      let g = ack-reached (s .settings) (s .delivery) v config (namedIn w s dsn) done (sym e ∙ ack-judged (ack-sound e)) refl in
       omega arith
 
 -- ---- by parts

@@ -68,7 +68,7 @@ module _ (w : ℕ) (table : List ℕ) (room v : ℕ) (t : Transition) (s : State
       (record { answer = done; state = settled (after w (move v t) s); store = []; written = replyTo (s .settings) table t })
       (record { answer = a; state = s; store = []; written = [] })
 
-  pub move-parts : _≡_ {A = Wrote}
+  move-parts : _≡_ {A = Wrote}
       (record {
         answer = changeOf (step w table room (move v t) (partsIn s) []) .answer;
         written = changeOf (step w table room (move v t) (partsIn s) []) .written;
@@ -88,13 +88,21 @@ module _ (w : ℕ) (table : List ℕ) (room v : ℕ) (t : Transition) (s : State
       go a true = refl
       go a false = refl
 
-  pub move-output : (out : List ℕ) → outputAfter out (step w table room (move v t) (partsIn s) []) ≡ outputAfter out (step w table room (move v t) s [])
+  move-output : (out : List ℕ) → outputAfter out (step w table room (move v t) (partsIn s) []) ≡ outputAfter out (step w table room (move v t) s [])
   unfolding step written storeAfter outcome
   move-output out = rw move-same (go (answer w table room (move v t) s []) (eqb (answer w table room (move v t) s []) done))
     where
       go : (a : ℕ) (b : Bool) → outputAfter out (outcome (partsIn s) a b) ≡ outputAfter out (outcome s a b)
       go a true = refl
       go a false = refl
+
+  -- what a transition changes by parts, applied to the state
+  pub moved-applied : (out left : List ℕ) (x : Change) (s′ : State)
+      → (x ≡ changeOf (step w table room (move v t) (partsIn s) [])) × (left ≡ outputAfter out (step w table room (move v t) (partsIn s) []))
+      → s′ ≡ appliedTo s x
+      → _≡_ {A = Wrote} (record { answer = x .answer; written = x .written; state = s′ }) (wroteOf (step w table room (move v t) s []))
+      × (left ≡ outputAfter out (step w table room (move v t) s []))
+  moved-applied out left x s′ e k = (rw (k, e .0) move-parts, e .1 ∙ move-output out)
 
 -- ---- changes, and what they leave of an output
 

@@ -5,7 +5,7 @@ use mathlib.Core.List.{List, [], _∷_}
 use Prim.Native.Nat.{ℕ, zero, suc, _^_, _≤_, _<_}
 use lib.Dec.{eqb, leb, ltb}
 use lib.ListN.{getD}
-use borrow.Author.Tests.{leb-true, ltb-true, eqb-true, le-leb, lt-ltb, eq-eqb}
+use borrow.Author.Tests.{not-true, not-false, leb-true, ltb-true, eqb-true, le-leb, lt-ltb, eq-eqb}
 use Rattle.wire.specs.Each.{every, allOf}
 use Rattle.wire.proofs.Each.{and-left, and-right, every-at, every-intro, clause-first, clause-rest, cond-same}
 use Rattle.exporter.specs.Servers.{sameActive, chosen}
@@ -236,3 +236,10 @@ pub parts-of : (s : State)
     → sound (partsOf (s .settings) (s .capacity) (s .delivery) (s .due) (s .queue .count) (s .queue .lengths) (s .queue .receivers) (s .start)) ≡ sound s
 unfolding sound
 parts-of s = refl
+
+-- a state that passed the test, and one that failed it, by what the test came to
+pub passed-sound : (s : State) (b : Bool) → b ≡ sound s → not b ≡ false → sound s ≡ true
+passed-sound s b e h = sym e ∙ not-false b h
+
+pub failed-sound : (s : State) (b : Bool) → b ≡ sound s → not b ≡ true → sound s ≡ false
+failed-sound s b e h = sym e ∙ not-true b h
