@@ -3,7 +3,7 @@
 use mathlib.Core.Path.{_≡_}
 use mathlib.Core.Logic.{_≢_}
 use Prim.Native.Nat.{ℕ, zero, suc, _+_, _-_, _≤_, _<_, max}
-use mathlib.Core.Bool.{Bool, true, false, not, _&&_, cond}
+use mathlib.Core.Bool.{Bool, true, false, not, _&&_, _||_, cond}
 use mathlib.Core.List.{List, map}
 use lib.ListN.{getD, set}
 use lib.Dec.{eqb, ltb}
@@ -163,9 +163,14 @@ acknowledged n d = cond (eqb n 0) (withCounts d 0 (d .reached) (d .timer)) (with
 abbrev pub lateServers : Delivery → ℕ → List Server
 lateServers d v = set (d .servers) v (server Late)
 
--- A server other than v is agreed, which is to say that one would be chosen with v late (laws `another` and `no-other`).
+-- One of the first n servers, other than v, is agreed.
+unfoldable pub otherAgreed : List Server → ℕ → ℕ → Bool
+otherAgreed servers v zero = false
+otherAgreed servers v (suc n) = (not (eqb n v) && isAgreed (phaseAt servers n)) || otherAgreed servers v n
+
+-- A server other than v is agreed.
 abbrev pub anotherAgreed : Settings → ℕ → Delivery → Bool
-anotherAgreed p v d = not (isNobody (choose (p .priorities) (lateServers d v) (p .servers)))
+anotherAgreed p v d = otherAgreed (d .servers) v (p .servers)
 
 -- The timer of the active server v has run out: it turns late if another server is agreed, else what was sent is sent again.
 unfoldable pub expired : Settings → ℕ → Delivery → Delivery
