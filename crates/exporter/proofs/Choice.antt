@@ -9,7 +9,7 @@ use lib.Dec.{eqb, ltb}
 use lib.ListN.{getD, set, replicate}
 use lib.Seq.{getD-set-other}
 use borrow.Author.Tests.{eq-eqb, ne-eqb, ltb-true, ltb-false}
-use Rattle.exporter.specs.Servers.{server, phaseAt, isAgreed, beats, choose, Best, IsChoice, isNobody, otherAgreed, sameActive, chosen, changed, settle}
+use Rattle.exporter.specs.Servers.{server, phaseAt, isAgreed, beats, choose, Best, IsChoice, isNobody, otherAgreed, sameActive, chosen, changed, activated, settle}
 use Rattle.exporter.specs.Sound.{sound}
 use Rattle.exporter.specs.Changes.{Below}
 use Rattle.exporter.specs.declared.state.Phase.the-variants.{Closed, Late}
@@ -114,7 +114,7 @@ unfolding settle changed
 settle-choice p d = go (sameActive (chosen p d) (d .active)) refl
   where
     go : (b : Bool) → sameActive (chosen p d) (d .active) ≡ b
-        → let g = cond (not b) (record { servers = d .servers; active = chosen p d; sent = 0; reached = 0; timer = 0 }) d in g .active ≡ chosen p g
+        → let g = cond (not b) (activated d (chosen p d)) d in g .active ≡ chosen p g
     go true e = sym (same-active (chosen p d) (d .active) e)
     go false e = refl
 

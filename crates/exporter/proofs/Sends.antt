@@ -9,7 +9,7 @@ use borrow.Author.Tests.{not-false, eq-eqb, ne-eqb, eqb-true, eqb-false, leb-fal
 use lib.Dec.{eqb, leb, ltb}
 use lib.ListN.{length, getD, set}
 use lib.Seq.{sets, set-getD}
-use Rattle.octets.specs.Answers.{Check, _when_, judge, done, unsoundState, outputTooShort, noActiveServer, nothingToSend}
+use Rattle.octets.specs.Answers.{Check, _when_, judge, done, unsoundState, outputTooShort}
 use Rattle.octets.proofs.Judging.{passed, judged-first}
 use Rattle.octets.proofs.Stores.{put-fits, put-short}
 use Rattle.wire.proofs.Each.{and-left, and-right}
@@ -21,7 +21,7 @@ use Rattle.wire.specs.declared.message.Written.the-variants.{Octets, Refused}
 use Rattle.exporter.specs.Servers.{isNobody, sentOne}
 use Rattle.exporter.specs.Queue.{ringRead, recordAt, octetsTo, marked}
 use Rattle.exporter.specs.Sound.{sound}
-use Rattle.exporter.specs.Steps.{Outcome, headOf, markedFor, nextData, answer, checks, soundFor, after, settled, written, nextDataStep, wroteOf, outputAfter}
+use Rattle.exporter.specs.Steps.{Outcome, headOf, sendChecks, markedFor, nextData, answer, checks, soundFor, after, settled, written, nextDataStep, wroteOf, outputAfter}
 use Rattle.exporter.specs.Changes.{SendFacts, stateOf, markedSet, sendingOf, withSent}
 use Rattle.exporter.specs.declared.next_data.Sending.{Sending}
 use Rattle.exporter.specs.declared.state.Active.{Active}
@@ -72,19 +72,16 @@ place-back at room l h =
 -- ---- the call
 
 -- what is judged before the room
-abbrev sendChecks : State → List ℕ → List Check
-sendChecks s store =
-    (unsoundState when not (sound (partsIn s) && eqb (length store) (s .capacity)))
-    ∷ (noActiveServer when isNobody (s .delivery .active))
-    ∷ (nothingToSend when leb (s .queue .count) (s .delivery .sent))
-    ∷ []
+abbrev earlyChecks : State → List ℕ → List Check
+earlyChecks s store =
+    (unsoundState when not (sound (partsIn s) && eqb (length store) (s .capacity))) ∷ sendChecks (s .delivery) (s .queue .count)
 
 abbrev sendAnswer : State → List ℕ → ℕ
-sendAnswer s store = judge (sendChecks s store)
+sendAnswer s store = judge (earlyChecks s store)
 
 pub send-facts : (s : State) (store : List ℕ) (a : ℕ) → a ≡ sendAnswer s store → a ≡ 0 → SendFacts s store
 send-facts s store a j e =
-    let p = passed (sendChecks s store) tt (sym j ∙ e) in
+    let p = passed (earlyChecks s store) tt (sym j ∙ e) in
     let both = not-false (sound (partsIn s) && eqb (length store) (s .capacity)) (p .0) in
     record {
       isSound = sym (parts-of s) ∙ and-left (sound (partsIn s)) _ both;
@@ -96,7 +93,7 @@ send-facts s store a j e =
 -- a refusal before the room is judged is the call's
 send-refused : (s : State) (store out : List ℕ) → (sendAnswer s store ≡ 0 → ⊥) → sendAnswer s store ≡ answer 32 [] (length out) nextData s store
 unfolding answer checks
-send-refused s store out n = sym (judged-first (sendChecks s store) ((outputTooShort when ltb (length out) (length (written 32 [] nextData s store))) ∷ []) n) ∙ rw (parts-of s)
+send-refused s store out n = sym (judged-first (earlyChecks s store) ((outputTooShort when ltb (length out) (length (written 32 [] nextData s store))) ∷ []) n) ∙ rw (parts-of s)
 
 -- where there is a record to send and a server to send it to, only the output's room is judged
 answer-room : (s : State) (store out : List ℕ) → SendFacts s store

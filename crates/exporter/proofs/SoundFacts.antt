@@ -169,7 +169,7 @@ clauses s =
     let d = s .delivery in
     let q = s .queue in
     numbersSound p (s .capacity) d (s .due) (q .count) (s .start)
-    ∷ every (q .count) (entrySound p q)
+    ∷ every (q .count) (entrySound (p .servers) (q .lengths) (q .receivers))
     ∷ leb (heldOctets q) (s .capacity)
     ∷ sameActive (d .active) (chosen p d)
     ∷ activationSound d (q .receivers) (d .active)
@@ -196,7 +196,8 @@ sound-facts s e =
     let d = s .delivery in
     let q = s .queue in
     let at = all-at (clauses s) in
-    let entry : (i : ℕ) → i < q .count → entrySound p q i ≡ true = every-at (q .count) (entrySound p q) (at 1 e) in
+    let entry : (i : ℕ) → i < q .count → entrySound (p .servers) (q .lengths) (q .receivers) i ≡ true =
+    every-at (q .count) (entrySound (p .servers) (q .lengths) (q .receivers)) (at 1 e) in
     let sent : (a : Active) → d .active ≡ a → activationSound d (q .receivers) a ≡ true =
     λ a k. ap (activationSound d (q .receivers)) (sym k) ∙ at 4 e in
     record {
@@ -216,12 +217,12 @@ facts-sound s f =
     let p = s .settings in
     let d = s .delivery in
     let q = s .queue in
-    let entry : (i : ℕ) → i < q .count → entrySound p q i ≡ true =
+    let entry : (i : ℕ) → i < q .count → entrySound (p .servers) (q .lengths) (q .receivers) i ≡ true =
     λ i l. rw (le-leb (getD (q .lengths) i 0) maxRecordOctets (f .short i l)) (lt-ltb (getD (q .receivers) i 0) (2 ^ p .servers) (f .known i l)) in
     let choice : sameActive (d .active) (chosen p d) ≡ true = rw (← f .choice) (active-same (d .active)) in
     rw (
       numbers-hold p (s .capacity) d (s .due) (q .count) (s .start) (f .numbers),
-      every-intro (q .count) (entrySound p q) entry,
+      every-intro (q .count) (entrySound (p .servers) (q .lengths) (q .receivers)) entry,
       le-leb (heldOctets q) (s .capacity) (f .fits),
       choice,
       sent (d .active) refl,

@@ -9,7 +9,7 @@ use borrow.Author.Tests.{not-true}
 use lib.Dec.{eqb, ltb}
 use Rattle.octets.specs.Answers.{done, unsoundState}
 use Rattle.wire.proofs.Each.{and-left}
-use Rattle.exporter.specs.Servers.{choose, IsChoice, sameActive, isNobody, chosen, changed, settle, withServers, withCounts, lateServers, expired, tickedFor, ticked}
+use Rattle.exporter.specs.Servers.{choose, IsChoice, sameActive, isNobody, chosen, changed, activated, settle, withServers, withCounts, lateServers, expired, tickedFor, ticked}
 use Rattle.exporter.specs.Sound.{sound}
 use Rattle.exporter.specs.Steps.{tick, answer, checks, after, settled, tickStep, steppedOf}
 use Rattle.exporter.specs.Changes.{settledChange, refusedChange, appliedTo, numberOf, runningClock, clockFor, clockOf, tickChangeTo, tickChangeBy}
@@ -36,7 +36,7 @@ settle-kept p d due e = rw (← e, active-same (d .active))
 -- where another is, an activation begins
 settle-moved : (p : Settings) (d : Delivery) (due : Bool) (w : ℕ) → chosen p d ≡ Server w → sameActive (Server w) (d .active) ≡ false
     → settledChange p d due 0
-    ≡ record { answer = done; written = 0; delivery = record { servers = d .servers; active = Server w; sent = 0; reached = 0; timer = 0 }; due = true }
+    ≡ record { answer = done; written = 0; delivery = activated d (Server w); due = true }
 unfolding settle changed
 settle-moved p d due w e f = rw (e, f)
 

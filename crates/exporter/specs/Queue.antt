@@ -41,6 +41,11 @@ octetsTo q k = sumOf (take k (q .lengths))
 abbrev pub heldOctets : Queue → ℕ
 heldOctets q = octetsTo q (q .count)
 
+-- The place in the store where the record at place i of the queue begins, by the ring's start and the lengths: behind those before it,
+-- modulo the store's length.
+abbrev pub ringPlace : ℕ → ℕ → List ℕ → ℕ → ℕ
+ringPlace capacity start lengths i = (start + sumOf (take i lengths)) % capacity
+
 -- The octets of the record at place i of the queue: they follow those before it from the ring's start on.
 unfoldable pub recordAt : State → List ℕ → ℕ → List ℕ
 recordAt s store i = ringRead (s .capacity) store (s .start + octetsTo (s .queue) i) (getD (s .queue .lengths) i 0)

@@ -11,7 +11,6 @@ use Rattle.exporter.specs.declared.state.Active.{Active}
 use Rattle.exporter.specs.declared.state.Active.the-variants as active
 use Rattle.exporter.specs.declared.state.Settings.{Settings}
 use Rattle.exporter.specs.declared.state.Delivery.{Delivery}
-use Rattle.exporter.specs.declared.state.Queue.{Queue}
 use Rattle.exporter.specs.declared.state.State.{State}
 
 -- ---- limits
@@ -47,9 +46,9 @@ abbrev pub activationSound : Delivery → List ℕ → Active → Bool
 activationSound d receivers active.Nobody = eqb (d .sent) 0 && eqb (d .reached) 0 && eqb (d .timer) 0
 activationSound d receivers (active.Server v) = every (d .reached) (λ i. has (getD receivers i 0) v)
 
--- A held record has at most 1,024 octets, and was sent to existing servers only.
-abbrev pub entrySound : Settings → Queue → ℕ → Bool
-entrySound p q i = leb (getD (q .lengths) i 0) maxRecordOctets && ltb (getD (q .receivers) i 0) (2 ^ p .servers)
+-- The held record at place i has at most 1,024 octets, and was sent to existing servers only, by how many there are.
+abbrev pub entrySound : ℕ → List ℕ → List ℕ → ℕ → Bool
+entrySound servers lengths receivers i = leb (getD lengths i 0) maxRecordOctets && ltb (getD receivers i 0) (2 ^ servers)
 
 -- The numbers of a state are in their limits; if S is due, nothing was reached.
 unfoldable pub numbersSound : Settings → ℕ → Delivery → Bool → ℕ → ℕ → Bool
@@ -68,7 +67,7 @@ unfoldable pub sound : State → Bool
 sound s =
     allOf
     (numbersSound (s .settings) (s .capacity) (s .delivery) (s .due) (s .queue .count) (s .start)
-    ∷ every (s .queue .count) (entrySound (s .settings) (s .queue))
+    ∷ every (s .queue .count) (entrySound (s .settings .servers) (s .queue .lengths) (s .queue .receivers))
     ∷ leb (heldOctets (s .queue)) (s .capacity)
     ∷ sameActive (s .delivery .active) (chosen (s .settings) (s .delivery))
     ∷ activationSound (s .delivery) (s .queue .receivers) (s .delivery .active)

@@ -14,11 +14,10 @@ use Rattle.wire.specs.Messages as wire
 use Rattle.wire.specs.declared.message.Message.{Message}
 use Rattle.wire.specs.declared.message.Message.the-variants.{Start, StartAck, Stop, StopAck, TmplData, FinalTmplDataAck, StartNegotiate, StartNegotiateAck, Data, DataAck}
 use Rattle.wire.specs.declared.message.DataHead.{DataHead}
-use Rattle.exporter.specs.Servers.{server, phaseAt, isClosed, isOffered, canOffer, sameActive, isNobody, changed, settle, withServers, Transition, start, stop, negotiate, offer, down, agree, malformed, transition, sentOne, acknowledged, ticked}
-use Rattle.exporter.specs.Queue.{sumOf, octetsTo, heldOctets, recordAt, ringWrite, hasOther, pushed, dropFront, marked}
+use Rattle.exporter.specs.Servers.{phaseAt, isClosed, isOffered, canOffer, sameActive, isNobody, changed, settle, freshDelivery, withServers, Transition, start, stop, negotiate, offer, down, agree, malformed, transition, sentOne, acknowledged, ticked}
+use Rattle.exporter.specs.Queue.{sumOf, heldOctets, ringPlace, recordAt, ringWrite, hasOther, pushed, dropFront, marked}
 use Rattle.exporter.specs.Sound.{maxHeld, maxRecordOctets, settingsSound, sound}
 use Rattle.exporter.specs.declared.state.Phase.{Phase}
-use Rattle.exporter.specs.declared.state.Phase.the-variants.{Closed}
 use Rattle.exporter.specs.declared.state.Active.{Active}
 use Rattle.exporter.specs.declared.state.Active.the-variants as active
 use Rattle.exporter.specs.declared.state.Settings.{Settings}
@@ -35,20 +34,28 @@ use Rattle.exporter.specs.declared.state.Wrote.{Wrote}
 abbrev pub modulus : ℕ → ℕ
 modulus w = 2 ^ w
 
--- The DSN of the first held record; the next DSN stands for it where none is held.
+-- The DSN of the first of `count` held records, by the next DSN, which stands for it where none is held.
+abbrev pub firstHeldBy : ℕ → ℕ → ℕ → ℕ
+firstHeldBy w next count = (next + (modulus w - count)) % modulus w
+
+-- The DSN of the first held record of a state.
 abbrev pub firstHeld : ℕ → State → ℕ
-firstHeld w s = (s .next + (modulus w - s .queue .count)) % modulus w
+firstHeld w s = firstHeldBy w (s .next) (s .queue .count)
+
+-- The DSN of the record at place i of `count` held ones, by the next DSN.
+abbrev pub dsnAtBy : ℕ → ℕ → ℕ → ℕ → ℕ
+dsnAtBy w next count i = (firstHeldBy w next count + i) % modulus w
 
 -- The DSN of the record at place i of the queue.
 abbrev pub dsnAt : ℕ → State → ℕ → ℕ
-dsnAt w s i = (firstHeld w s + i) % modulus w
+dsnAt w s i = dsnAtBy w (s .next) (s .queue .count) i
 
 -- How many records a DATA ACK of this DSN names from the front of `count` held ones, by the next DSN: the DSN minus the first held one,
--- plus 1.
+-- plus 1, modulo 2 ^ w.
 abbrev pub ackCountBy : ℕ → ℕ → ℕ → ℕ → ℕ
-ackCountBy w next count dsn = (dsn + (modulus w - (next + (modulus w - count)) % modulus w) + 1) % modulus w
+ackCountBy w next count dsn = (dsn + (modulus w - firstHeldBy w next count) + 1) % modulus w
 
--- The same of a state.
+-- How many records it names of those that a state holds.
 unfoldable pub ackCount : ℕ → State → ℕ → ℕ
 ackCount w s dsn = ackCountBy w (s .next) (s .queue .count) dsn
 
@@ -115,7 +122,7 @@ headOf w s =
       dsn = dsnAt w s i;
     }
 
--- START, STOP and START NEGOTIATE are acknowledged; an offer writes the table.
+-- START, STOP and START NEGOTIATE are acknowledged; an offer writes TMPL DATA with the table; no other transition writes.
 abbrev pub replyTo : Settings → List ℕ → Transition → List ℕ
 replyTo p table start = layoutOf (StartAck (p .session) (p .boot)) []
 replyTo p table stop = layoutOf (StopAck (p .session)) []
@@ -139,11 +146,15 @@ written w table (move v m) s store = replyTo (s .settings) table m
 abbrev pub isSessions : Settings → List ℕ → Bool
 isSessions p table = tableSound table && eqb (configurationId table) (p .config)
 
+-- START NEGOTIATE is refused with 9 from a closed server.
+abbrev pub negotiateChecks : Phase → List Check
+negotiateChecks phase = (outOfTurn when isClosed phase) ∷ []
+
 -- The refusals of a transition of a server in this phase, after 1 and 2, that do not look at the output.
 abbrev pub turnChecks : Settings → List ℕ → Transition → Phase → List Check
 turnChecks p table start phase = []
 turnChecks p table stop phase = []
-turnChecks p table negotiate phase = (outOfTurn when isClosed phase) ∷ []
+turnChecks p table negotiate phase = negotiateChecks phase
 turnChecks p table offer phase = (unsoundTable when not (isSessions p table)) ∷ (outOfTurn when not (canOffer phase)) ∷ []
 turnChecks p table down phase = []
 turnChecks p table (agree config) phase =
@@ -178,6 +189,10 @@ abbrev pub roomChecks : ℕ → ℕ → List ℕ → List ℕ → List Check
 roomChecks capacity n lengths r =
     (queueFull when leb maxHeld n) ∷ (storeFull when ltb capacity (sumOf (take n lengths) + length r)) ∷ []
 
+-- The refusals of next data with n records held, after 1, that do not look at the output: 13, 14.
+abbrev pub sendChecks : Delivery → ℕ → List Check
+sendChecks d n = (noActiveServer when isNobody (d .active)) ∷ (nothingToSend when leb n (d .sent)) ∷ []
+
 -- The refusals of a DATA ACK from server v that names n records, after 1.
 abbrev pub ackChecks : Settings → Delivery → ℕ → ℕ → ℕ → List Check
 ackChecks p d v config n =
@@ -192,10 +207,8 @@ unfoldable pub checks : ℕ → List ℕ → ℕ → Call → State → List ℕ
 checks w table room (put id r) s store =
     recordChecks (s .settings) table id r ++ roomChecks (s .capacity) (s .queue .count) (s .queue .lengths) r
 checks w table room nextData s store =
-    (noActiveServer when isNobody (s .delivery .active))
-    ∷ (nothingToSend when leb (s .queue .count) (s .delivery .sent))
-    ∷ (outputTooShort when ltb room (length (written w table nextData s store)))
-    ∷ []
+    sendChecks (s .delivery) (s .queue .count)
+    ++ ((outputTooShort when ltb room (length (written w table nextData s store))) ∷ [])
 checks w table room tick s store = []
 checks w table room (ack v dsn config) s store = ackChecks (s .settings) (s .delivery) v config (ackCount w s dsn)
 checks w table room (move v m) s store =
@@ -257,7 +270,7 @@ after w (ack v dsn config) s =
       delivery = acknowledged n (s .delivery);
       due = s .due;
       queue = dropFront (s .queue) n;
-      start = (s .start + octetsTo (s .queue) n) % s .capacity;
+      start = ringPlace (s .capacity) (s .start) (s .queue .lengths) n;
       next = s .next;
     }
 after w (move v m) s = withDelivery s (withServers (s .delivery) (transition v m (s .delivery .servers)))
@@ -338,7 +351,7 @@ fresh p capacity =
     record {
       settings = p;
       capacity = capacity;
-      delivery = record { servers = replicate 8 (server Closed); active = active.Nobody; sent = 0; reached = 0; timer = 0 };
+      delivery = freshDelivery;
       due = true;
       queue = record { count = 0; lengths = replicate 64 0; templates = replicate 64 0; receivers = replicate 64 0 };
       start = 0;

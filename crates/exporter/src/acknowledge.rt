@@ -1,11 +1,11 @@
 // DATA ACK: a server acknowledges records, which are released from the front of the queue.
 ghost use mathlib.Core.Path.{_≡_};
 ghost use mathlib.Core.List.{[]};
-ghost use Prim.Native.Nat.{_+_, _%_, _≤_, _<_};
+ghost use Prim.Native.Nat.{_≤_, _<_};
 ghost use lib.ListN.{take};
 ghost use Rattle.octets.specs.Answers.{judge, done};
 ghost use Rattle.exporter.specs.Servers.{acknowledged};
-ghost use Rattle.exporter.specs.Queue.{sumOf, dropFront};
+ghost use Rattle.exporter.specs.Queue.{sumOf, ringPlace, dropFront};
 ghost use Rattle.exporter.specs.Sound.{partsOf};
 ghost use Rattle.exporter.specs.Steps.{ack, step, wroteOf, ackCountBy, ackChecks};
 ghost use Rattle.exporter.specs.Moves.{withNext, ackChangeOf};
@@ -84,7 +84,7 @@ fn accept_ack(
     ensures { λ r. ⌜ r ≡ record {
       answer = done;
       released = n;
-      start = (start + sumOf (take n (now (lengths .entry)))) % capacity;
+      start = ringPlace capacity start (now (lengths .entry)) n;
       sent = acknowledged n d .sent;
       reached = acknowledged n d .reached;
       timer = acknowledged n d .timer;

@@ -2,17 +2,16 @@
 ghost use mathlib.Core.Path.{_≡_};
 ghost use mathlib.Core.List.{[], _∷_};
 ghost use mathlib.Core.Bool.{false, not, _&&_};
-ghost use Prim.Native.Nat.{_+_, _-_, _%_, _≤_, _<_, max};
-ghost use lib.Dec.{eqb, leb};
+ghost use Prim.Native.Nat.{_+_, _≤_, _<_, max};
+ghost use lib.Dec.{eqb};
 ghost use lib.ListN.{length, take};
-ghost use Rattle.octets.specs.Answers.{_when_, judge, done, unsoundState, noActiveServer, nothingToSend};
+ghost use Rattle.octets.specs.Answers.{_when_, judge, done, unsoundState};
 ghost use Rattle.wire.specs.Messages.{Placed, layoutOf};
 ghost use Rattle.wire.specs.declared.message.Message.the-variants.{Data};
-ghost use Rattle.exporter.specs.Servers.{isNobody};
-ghost use Rattle.exporter.specs.Queue.{sumOf, ringRead};
+ghost use Rattle.exporter.specs.Queue.{sumOf, ringPlace, ringRead};
 ghost use Rattle.exporter.specs.Sound.{partsOf, sound};
 ghost use Rattle.exporter.specs.Changes.{Below, markedSet, SendFacts, stateOf, sendingOf};
-ghost use Rattle.exporter.specs.Steps.{isDuplicate, headOf, nextDataStep, wroteOf, outputAfter};
+ghost use Rattle.exporter.specs.Steps.{dsnAtBy, isDuplicate, headOf, sendChecks, nextDataStep, wroteOf, outputAfter};
 use crate::state::Active;
 use crate::state::Delivery;
 use crate::state::Queue;
@@ -48,8 +47,9 @@ fn send_answer<'a>(
     start: usize,
     stored: usize,
 ) -> u8
-    ensures { λ a. ⌜ a ≡ judge ((unsoundState when not (sound (partsOf p capacity d due count (now (lengths .entry)) (now (receivers .entry)) start) && eqb stored capacity))
-        ∷ (noActiveServer when isNobody (d .active)) ∷ (nothingToSend when leb count (d .sent)) ∷ []) ⌝ }
+    ensures { λ a. ⌜ a ≡ judge
+        ((unsoundState when not (sound (partsOf p capacity d due count (now (lengths .entry)) (now (receivers .entry)) start) && eqb stored capacity))
+        ∷ sendChecks d count) ⌝ }
 {
     if !crate::sound::parts_sound(p, capacity, d, due, count, lengths, receivers, start) {
         return Answer::UNSOUND_STATE;
@@ -80,7 +80,7 @@ fn is_duplicate(p: Settings, active: Active, set: u16) -> bool
 // The DSN of the record at place i: the first of the `count` held ones is that many before the next DSN.
 fn dsn_at(next: u32, count: usize, i: usize) -> u32
     requires { ⌜ (count ≤ 64) × (i ≤ 64) ⌝ }
-    ensures { λ r. ⌜ r ≡ ((next + (4294967296 - count)) % 4294967296 + i) % 4294967296 ⌝ }
+    ensures { λ r. ⌜ r ≡ dsnAtBy 32 next count i ⌝ }
 {
     let first = std::num::wrapping_sub_u32(next, count as u32);
     std::num::wrapping_add_u32(first, i as u32)
@@ -129,7 +129,7 @@ fn write_record(head: DataHead, store: &[u8], at: usize, len: usize, out: &mut [
 // The place in the store where the record at place i of the queue begins.
 pub(crate) fn place_of(capacity: usize, start: usize, lengths: &[u16; 64], i: usize) -> usize
     requires { ⌜ (start < capacity) × ((capacity ≤ 65536) × ((i ≤ 64) × (sumOf (take i (now lengths)) ≤ capacity))) ⌝ }
-    ensures { λ r. ⌜ r ≡ (start + sumOf (take i (now (lengths .entry)))) % capacity ⌝ }
+    ensures { λ r. ⌜ r ≡ ringPlace capacity start (now (lengths .entry)) i ⌝ }
 {
     let at = start + (crate::queue::octets_to(lengths, i) as usize);
     if at < capacity {

@@ -1,11 +1,10 @@
 // The queue's arrays: lengths, template IDs and the sets of servers that each record was sent to.
 ghost use mathlib.Core.Path.{_≡_};
-ghost use mathlib.Core.Bool.{_&&_};
-ghost use Prim.Native.Nat.{_+_, _^_, _≤_, _<_};
-ghost use lib.Dec.{leb, ltb};
+ghost use Prim.Native.Nat.{_+_, _≤_, _<_};
 ghost use lib.ListN.{getD, take};
 ghost use Rattle.wire.specs.Each.{every};
 ghost use Rattle.exporter.specs.Queue.{sumOf, has, with, hasOther, shifted};
+ghost use Rattle.exporter.specs.Sound.{entrySound};
 
 // The most records that are held at a time.
 pub const MAX_HELD: usize = 64;
@@ -67,13 +66,14 @@ pub(crate) fn entries_sound<'a>(
     servers: u8,
 ) -> bool
     requires { ⌜ (n ≤ 64) × (servers ≤ 8) ⌝ }
-    ensures { λ r. ⌜ r ≡ every n (λ i. leb (getD (now (lengths .entry)) i 0) 1024 && ltb (getD (now (receivers .entry)) i 0) (2 ^ servers)) ⌝ }
+    ensures { λ r. ⌜ r ≡ every n (entrySound servers (now (lengths .entry)) (now (receivers .entry))) ⌝ }
 {
+    let most = MAX_RECORD_OCTETS as u16;
     let bound = 1u16 << servers;
     let mut ok = true;
     let mut i: usize = 0;
     while i < n {
-        ok = ok & ((lengths[i] <= 1024) & (receivers[i] < bound));
+        ok = ok & ((lengths[i] <= most) & (receivers[i] < bound));
         i += 1;
     }
     ok

@@ -1,10 +1,10 @@
 // Servers: their phases, the choice of the active one, and the steps of a delivery.
 ghost use mathlib.Core.Path.{_≡_};
-ghost use mathlib.Core.Bool.{cond, not, _&&_};
+ghost use mathlib.Core.Bool.{cond, not};
 ghost use Prim.Native.Nat.{_≤_};
 ghost use mathlib.Core.List.{map};
 ghost use lib.ListN.{getD, set};
-ghost use Rattle.exporter.specs.Servers.{server, phaseAt, isClosed, isOffered, canOffer, isAgreed, restart, beats, choose, sameActive, isNobody, acknowledged};
+ghost use Rattle.exporter.specs.Servers.{server, phaseAt, isClosed, isOffered, canOffer, isAgreed, restart, beats, preferred, choose, sameActive, isNobody, activated, acknowledged};
 ghost use Rattle.exporter.specs.Changes.{numberOf};
 ghost use Rattle.exporter.specs.declared.state.Phase.the-variants.{Closed};
 use crate::state::Active;
@@ -148,7 +148,7 @@ fn beats_best(priorities: [u8; 8], v: u8, best: Active) -> bool
 
 // The choice so far, or a server if it is agreed and has a higher priority.
 fn better(priorities: [u8; 8], servers: [Server; 8], v: u8, best: Active) -> Active
-    ensures { λ r. ⌜ r ≡ cond (isAgreed (phaseAt servers v) && beats priorities v best) (Active.Server v) best ⌝ }
+    ensures { λ r. ⌜ r ≡ preferred priorities servers v best ⌝ }
 {
     if is_agreed(phase_at(servers, v)) & beats_best(priorities, v, best) {
         return Active::Server(v);
@@ -207,7 +207,7 @@ pub(crate) fn is_nobody(a: Active) -> bool
 
 // The delivery after the choice is made anew: another than the active server begins an activation.
 pub(crate) fn settle_delivery(d: Delivery, choice: Active, same: bool) -> Delivery
-    ensures { λ r. ⌜ r ≡ cond (not same) (record { servers = d .servers; active = choice; sent = 0; reached = 0; timer = 0 }) d ⌝ }
+    ensures { λ r. ⌜ r ≡ cond (not same) (activated d choice) d ⌝ }
 {
     if same {
         return d;

@@ -1,13 +1,13 @@
 // Transitions of a server: by a message, by an offer of templates, by a line that is down.
 ghost use mathlib.Core.Path.{_≡_};
 ghost use mathlib.Core.Bool.{true};
-ghost use mathlib.Core.List.{[], _∷_};
+ghost use mathlib.Core.List.{[]};
 ghost use lib.ListN.{length};
-ghost use Rattle.octets.specs.Answers.{_when_, judge, outOfTurn};
+ghost use Rattle.octets.specs.Answers.{judge};
 ghost use Rattle.wire.specs.Messages.{Placed};
-ghost use Rattle.exporter.specs.Servers.{isClosed, offer, agree, transition, withServers};
+ghost use Rattle.exporter.specs.Servers.{offer, agree, transition, withServers};
 ghost use Rattle.exporter.specs.Sound.{partsOf};
-ghost use Rattle.exporter.specs.Steps.{isSessions, move, step, replyTo, outputAfter, wroteOf, turnChecks};
+ghost use Rattle.exporter.specs.Steps.{isSessions, move, step, replyTo, outputAfter, wroteOf, negotiateChecks, turnChecks};
 ghost use Rattle.exporter.specs.Changes.{changeOf};
 ghost use Rattle.exporter.specs.Moves.{transitionOf, tableFits};
 use crate::change::Change;
@@ -43,7 +43,7 @@ pub(crate) fn is_sessions(p: Settings, table: &[u8]) -> bool
 
 // START NEGOTIATE is judged 9.
 fn negotiate_answer(phase: Phase) -> u8
-    ensures { λ r. ⌜ r ≡ judge ((outOfTurn when isClosed phase) ∷ []) ⌝ }
+    ensures { λ r. ⌜ r ≡ judge (negotiateChecks phase) ⌝ }
 {
     if crate::servers::is_closed(phase) {
         return Answer::OUT_OF_TURN;
