@@ -9,6 +9,7 @@ use lib.Dec.{eqb, ltb}
 use lib.ListN.{getD, set, replicate}
 use lib.Seq.{getD-set-other}
 use borrow.Author.Tests.{eq-eqb, ne-eqb, ltb-true, ltb-false}
+use Rattle.exporter.specs.Limits.{maxServers}
 use Rattle.exporter.specs.Servers.{server, phaseAt, isAgreed, beats, choose, Best, IsChoice, isNobody, otherAgreed, sameActive, chosen, changed, activated, settle}
 use Rattle.exporter.specs.Sound.{sound}
 use Rattle.exporter.specs.Changes.{Below}
@@ -127,14 +128,14 @@ all-closed priorities m n = nobody-none priorities (replicate m (server Closed))
     closed (suc m) zero = refl
     closed (suc m) (suc n) = closed m n
 
--- an active server that is chosen among at most eight is one of eight
-pub choice-below : (p : Settings) (d : Delivery) → d .active ≡ chosen p d → p .servers ≤ 8 → Below 8 (d .active)
-choice-below p d e l = go (d .active) refl
+-- an active server that is chosen among at most m is one of m
+pub choice-below : (p : Settings) (d : Delivery) (m : ℕ) → d .active ≡ chosen p d → p .servers ≤ m → Below m (d .active)
+choice-below p d m e l = go (d .active) refl
   where
-    go : (a : Active) → d .active ≡ a → Below 8 a
+    go : (a : Active) → d .active ≡ a → Below m a
     go Nobody k = tt
     go (Server v) k = omega (arith, chosen-below (p .priorities) (d .servers) (p .servers) v (sym e ∙ k))
 
--- a sound state's active server is one of eight
-pub active-below : (s : State) → sound s ≡ true → Below 8 (s .delivery .active)
-active-below s e = let f = sound-facts s e in choice-below (s .settings) (s .delivery) (f .choice) (f .numbers .settings .fewServers)
+-- a sound state's active server is one of those that an exporter has at most
+pub active-below : (s : State) → sound s ≡ true → Below maxServers (s .delivery .active)
+active-below s e = let f = sound-facts s e in choice-below (s .settings) (s .delivery) maxServers (f .choice) (f .numbers .settings .fewServers)

@@ -8,9 +8,10 @@ use lib.ListN.{getD}
 use borrow.Author.Tests.{not-true, not-false, leb-true, ltb-true, eqb-true, le-leb, lt-ltb, eq-eqb}
 use Rattle.wire.specs.Each.{every, allOf}
 use Rattle.wire.proofs.Each.{and-left, and-right, every-at, every-intro, clause-first, clause-rest, cond-same}
+use Rattle.exporter.specs.Limits.{maxServers, maxThreshold, minStoreOctets, maxStoreOctets, maxHeld}
 use Rattle.exporter.specs.Servers.{sameActive, chosen}
 use Rattle.exporter.specs.Queue.{heldOctets, has}
-use Rattle.exporter.specs.Sound.{maxServers, maxHeld, maxRecordOctets, settingsSound, numbersSound, entrySound, activationSound, sound, partsOf}
+use Rattle.exporter.specs.Sound.{maxRecordOctets, settingsSound, numbersSound, entrySound, activationSound, sound, partsOf}
 use Rattle.exporter.specs.declared.state.Active.{Active}
 use Rattle.exporter.specs.declared.state.Active.the-variants.{Nobody, Server}
 use Rattle.exporter.specs.declared.state.Settings.{Settings}
@@ -64,17 +65,17 @@ pub record SettingsFacts (p : Settings) (room : ℕ) : Type 0 where
   pub someServers : 1 ≤ p .servers
   pub fewServers : p .servers ≤ maxServers
   pub someThreshold : 1 ≤ p .threshold
-  pub smallThreshold : p .threshold ≤ maxHeld
+  pub smallThreshold : p .threshold ≤ maxThreshold
   pub someDuration : 1 ≤ p .duration
-  pub someRoom : 1024 ≤ room
-  pub smallRoom : room ≤ 65536
+  pub someRoom : minStoreOctets ≤ room
+  pub smallRoom : room ≤ maxStoreOctets
 
 pub settings-facts : (p : Settings) (room : ℕ) → settingsSound p room ≡ true → SettingsFacts p room
 unfolding settingsSound
 settings-facts p room e =
     let at =
     both-at
-    (leb 1 (p .servers) ∷ leb (p .servers) maxServers ∷ leb 1 (p .threshold) ∷ leb (p .threshold) maxHeld ∷ leb 1 (p .duration) ∷ leb 1024 room ∷ leb room 65536 ∷ []) in
+    (leb 1 (p .servers) ∷ leb (p .servers) maxServers ∷ leb 1 (p .threshold) ∷ leb (p .threshold) maxThreshold ∷ leb 1 (p .duration) ∷ leb minStoreOctets room ∷ leb room maxStoreOctets ∷ []) in
     record {
       someServers = leb-true _ _ (at 0 e);
       fewServers = leb-true _ _ (at 1 e);
@@ -92,10 +93,10 @@ settings-hold p room f =
       le-leb 1 (p .servers) (f .someServers),
       le-leb (p .servers) maxServers (f .fewServers),
       le-leb 1 (p .threshold) (f .someThreshold),
-      le-leb (p .threshold) maxHeld (f .smallThreshold),
+      le-leb (p .threshold) maxThreshold (f .smallThreshold),
       le-leb 1 (p .duration) (f .someDuration),
-      le-leb 1024 room (f .someRoom),
-      le-leb room 65536 (f .smallRoom),
+      le-leb minStoreOctets room (f .someRoom),
+      le-leb room maxStoreOctets (f .smallRoom),
     )
 
 pub record NumbersFacts (p : Settings) (room : ℕ) (d : Delivery) (due : Bool) (count start : ℕ) : Type 0 where

@@ -7,6 +7,7 @@ use mathlib.Core.Bool.{Bool, true, false, not, _&&_, _||_, cond}
 use mathlib.Core.List.{List, map}
 use lib.ListN.{getD, set, replicate}
 use lib.Dec.{eqb, ltb}
+use Rattle.exporter.specs.Limits.{maxServers}
 use Rattle.exporter.specs.declared.state.Phase.{Phase}
 use Rattle.exporter.specs.declared.state.Phase.the-variants.{Closed, Started, Offered, Agreed, Late}
 use Rattle.exporter.specs.declared.state.Server.{Server}
@@ -128,7 +129,7 @@ settle p d = cond (changed p d) (activated d (chosen p d)) d
 
 -- Of a fresh exporter: every server is closed, nobody is active, and all counters are 0.
 abbrev pub freshDelivery : Delivery
-freshDelivery = record { servers = replicate 8 (server Closed); active = active.Nobody; sent = 0; reached = 0; timer = 0 }
+freshDelivery = record { servers = replicate maxServers (server Closed); active = active.Nobody; sent = 0; reached = 0; timer = 0 }
 
 -- ---- steps
 

@@ -5,6 +5,9 @@ use mathlib.Core.List.{List, [], _∷_}
 use lib.Dec.{eqb, leb, ltb}
 use lib.ListN.{getD}
 use Rattle.wire.specs.Each.{every, allOf}
+pub use Rattle.wire.specs.Messages.{maxRecordOctets}
+pub use Rattle.exporter.specs.Limits.{maxHeld}
+use Rattle.exporter.specs.Limits.{maxServers, maxThreshold, minStoreOctets, maxStoreOctets}
 use Rattle.exporter.specs.Servers.{sameActive, chosen}
 use Rattle.exporter.specs.Queue.{heldOctets, has}
 use Rattle.exporter.specs.declared.state.Active.{Active}
@@ -13,19 +16,7 @@ use Rattle.exporter.specs.declared.state.Settings.{Settings}
 use Rattle.exporter.specs.declared.state.Delivery.{Delivery}
 use Rattle.exporter.specs.declared.state.State.{State}
 
--- ---- limits
-
--- The most servers that an exporter has.
-abbrev pub maxServers : ℕ
-maxServers = 8
-
--- The most records that are held at a time.
-abbrev pub maxHeld : ℕ
-maxHeld = 64
-
--- The most octets of a record that is put.
-abbrev pub maxRecordOctets : ℕ
-maxRecordOctets = 1024
+-- ---- settings
 
 -- 1 to 8 servers, a threshold of 1 to 64, a duration of 1 or more, a store of 1,024 to 65,536 octets. A duration has 16 bits and a
 -- priority 8, so neither needs an upper test.
@@ -34,10 +25,10 @@ settingsSound p room =
     leb 1 (p .servers)
     && leb (p .servers) maxServers
     && leb 1 (p .threshold)
-    && leb (p .threshold) 64
+    && leb (p .threshold) maxThreshold
     && leb 1 (p .duration)
-    && leb 1024 room
-    && leb room 65536
+    && leb minStoreOctets room
+    && leb room maxStoreOctets
 
 -- ---- sound states
 

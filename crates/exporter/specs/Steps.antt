@@ -9,14 +9,15 @@ use lib.Seq.{sets}
 use Rattle.octets.specs.Answers.{Check, _when_, judge, done, unsoundState, noSuchServer, otherSession, messageNotAccepted, bodyLengthWrong, outOfTurn, otherConfiguration, dsnNotAcknowledgeable, outputTooShort, noActiveServer, nothingToSend, templateNotFound, recordInvalid, recordTooLong, queueFull, storeFull, settingsOutsideLimits, unsoundTable}
 use Rattle.wire.specs.Table.{configurationId, tableSound, isMissing, templateOf}
 use Rattle.wire.specs.Record.{recordValid}
-use Rattle.wire.specs.Messages.{headerChecks, sessionOf, messageNumber, headerOctets, bodyFits, meaningOf, layoutOf}
+use Rattle.wire.specs.Messages.{maxRecordOctets, headerChecks, sessionOf, messageNumber, headerOctets, bodyFits, meaningOf, layoutOf}
 use Rattle.wire.specs.Messages as wire
 use Rattle.wire.specs.declared.message.Message.{Message}
 use Rattle.wire.specs.declared.message.Message.the-variants.{Start, StartAck, Stop, StopAck, TmplData, FinalTmplDataAck, StartNegotiate, StartNegotiateAck, Data, DataAck}
 use Rattle.wire.specs.declared.message.DataHead.{DataHead}
 use Rattle.exporter.specs.Servers.{phaseAt, isClosed, isOffered, canOffer, sameActive, isNobody, changed, settle, freshDelivery, withServers, Transition, start, stop, negotiate, offer, down, agree, malformed, transition, sentOne, acknowledged, ticked}
 use Rattle.exporter.specs.Queue.{sumOf, heldOctets, ringPlace, recordAt, ringWrite, hasOther, pushed, dropFront, marked}
-use Rattle.exporter.specs.Sound.{maxHeld, maxRecordOctets, settingsSound, sound}
+use Rattle.exporter.specs.Limits.{maxServers, maxHeld}
+use Rattle.exporter.specs.Sound.{settingsSound, sound}
 use Rattle.exporter.specs.declared.state.Phase.{Phase}
 use Rattle.exporter.specs.declared.state.Active.{Active}
 use Rattle.exporter.specs.declared.state.Active.the-variants as active
@@ -353,7 +354,7 @@ fresh p capacity =
       capacity = capacity;
       delivery = freshDelivery;
       due = true;
-      queue = record { count = 0; lengths = replicate 64 0; templates = replicate 64 0; receivers = replicate 64 0 };
+      queue = record { count = 0; lengths = replicate maxHeld 0; templates = replicate maxHeld 0; receivers = replicate maxHeld 0 };
       start = 0;
       next = p .initial;
     }
@@ -361,7 +362,7 @@ fresh p capacity =
 -- Settings of 0, which no set-up accepts.
 abbrev pub noSettings : Settings
 noSettings =
-    record { session = 0; config = 0; boot = 0; initial = 0; servers = 0; priorities = replicate 8 0; threshold = 0; duration = 0 }
+    record { session = 0; config = 0; boot = 0; initial = 0; servers = 0; priorities = replicate maxServers 0; threshold = 0; duration = 0 }
 
 -- What set-up hands back with a refusal: a state without servers or store, which every call refuses.
 abbrev pub refusedState : State

@@ -4,6 +4,7 @@ ghost use mathlib.Core.List.{[]};
 ghost use Prim.Native.Nat.{_≤_, _<_};
 ghost use lib.ListN.{take};
 ghost use Rattle.octets.specs.Answers.{judge, done};
+ghost use Rattle.exporter.specs.Limits.{maxHeld, maxStoreOctets};
 ghost use Rattle.exporter.specs.Servers.{acknowledged};
 ghost use Rattle.exporter.specs.Queue.{sumOf, ringPlace, dropFront};
 ghost use Rattle.exporter.specs.Sound.{partsOf};
@@ -30,7 +31,7 @@ pub(crate) struct AckChange {
 // How many records a DATA ACK of this DSN names from the front of the queue. The first held DSN is `count` before the next one; DSNs
 // wrap.
 fn ack_count(next: u32, count: usize, dsn: u32) -> u32
-    requires { ⌜ count ≤ 64 ⌝ }
+    requires { ⌜ count ≤ maxHeld ⌝ }
     ensures { λ r. ⌜ r ≡ ackCountBy 32 next count dsn ⌝ }
 {
     let first = std::num::wrapping_sub_u32(next, count as u32);
@@ -80,7 +81,7 @@ fn accept_ack(
     start: usize,
     n: usize,
 ) -> AckChange
-    requires { ⌜ (n ≤ d .reached) × ((d .reached ≤ 64) × ((start < capacity) × ((capacity ≤ 65536) × (sumOf (take n (now lengths)) ≤ capacity)))) ⌝ }
+    requires { ⌜ (n ≤ d .reached) × ((d .reached ≤ maxHeld) × ((start < capacity) × ((capacity ≤ maxStoreOctets) × (sumOf (take n (now lengths)) ≤ capacity)))) ⌝ }
     ensures { λ r. ⌜ r ≡ record {
       answer = done;
       released = n;
@@ -138,7 +139,7 @@ fn release_queue<'a>(
     receivers: &'a [u16; 64],
     n: usize,
 ) -> Queue
-    requires { ⌜ (n ≤ count) × (n ≤ 64) ⌝ }
+    requires { ⌜ (n ≤ count) × (n ≤ maxHeld) ⌝ }
     ensures { λ r. ⌜ r ≡ dropFront (record { count = count; lengths = now (lengths .entry); templates = now (templates .entry); receivers = now (receivers .entry) }) n ⌝ }
 {
     let moved_lengths = crate::queue::shift(lengths, n);
@@ -154,7 +155,7 @@ fn release_queue<'a>(
 
 // The queue without its first n records; the same one where none is released.
 fn queue_after(q: Queue, n: usize) -> Queue
-    requires { ⌜ (n ≤ q .count) × (n ≤ 64) ⌝ }
+    requires { ⌜ (n ≤ q .count) × (n ≤ maxHeld) ⌝ }
     ensures { λ r. ⌜ r ≡ dropFront q n ⌝ }
 {
     if n == 0 {

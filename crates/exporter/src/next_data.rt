@@ -6,8 +6,9 @@ ghost use Prim.Native.Nat.{_+_, _≤_, _<_, max};
 ghost use lib.Dec.{eqb};
 ghost use lib.ListN.{length, take};
 ghost use Rattle.octets.specs.Answers.{_when_, judge, done, unsoundState};
-ghost use Rattle.wire.specs.Messages.{Placed, layoutOf};
+ghost use Rattle.wire.specs.Messages.{maxRecordOctets, Placed, layoutOf};
 ghost use Rattle.wire.specs.declared.message.Message.the-variants.{Data};
+ghost use Rattle.exporter.specs.Limits.{maxServers, maxHeld, maxStoreOctets};
 ghost use Rattle.exporter.specs.Queue.{sumOf, ringPlace, ringRead};
 ghost use Rattle.exporter.specs.Sound.{partsOf, sound};
 ghost use Rattle.exporter.specs.Changes.{Below, markedSet, SendFacts, stateOf, sendingOf};
@@ -79,7 +80,7 @@ fn is_duplicate(p: Settings, active: Active, set: u16) -> bool
 
 // The DSN of the record at place i: the first of the `count` held ones is that many before the next DSN.
 fn dsn_at(next: u32, count: usize, i: usize) -> u32
-    requires { ⌜ (count ≤ 64) × (i ≤ 64) ⌝ }
+    requires { ⌜ (count ≤ maxHeld) × (i ≤ maxHeld) ⌝ }
     ensures { λ r. ⌜ r ≡ dsnAtBy 32 next count i ⌝ }
 {
     let first = std::num::wrapping_sub_u32(next, count as u32);
@@ -96,7 +97,7 @@ fn next_head<'a>(
     receivers: &'a [u16; 64],
     next: u32,
 ) -> DataHead
-    requires { ⌜ (count ≤ 64) × (d .sent < 64) ⌝ }
+    requires { ⌜ (count ≤ maxHeld) × (d .sent < maxHeld) ⌝ }
     ensures { λ r. ⌜ r ≡ headOf 32 (stateOf p 0 d due count [] (now (templates .entry)) (now (receivers .entry)) 0 next) ⌝ }
 {
     let active = d.active;
@@ -113,7 +114,7 @@ fn next_head<'a>(
 
 // Writes a DATA whose record lies in the store from a place on.
 fn write_record(head: DataHead, store: &[u8], at: usize, len: usize, out: &mut [u8]) -> Written
-    requires { ⌜ (at < length (now store)) × ((len ≤ length (now store)) × (len ≤ 1024)) ⌝ }
+    requires { ⌜ (at < length (now store)) × ((len ≤ length (now store)) × (len ≤ maxRecordOctets)) ⌝ }
     ensures { λ r. ⌜ Placed (layoutOf (Data head) (ringRead (length (now (store .entry))) (now (store .entry)) at len)) (now (out .entry)) r (now (out .exit)) ⌝ }
 {
     let written = wire::message::write_data_head(head, len, out);
@@ -128,7 +129,7 @@ fn write_record(head: DataHead, store: &[u8], at: usize, len: usize, out: &mut [
 
 // The place in the store where the record at place i of the queue begins.
 pub(crate) fn place_of(capacity: usize, start: usize, lengths: &[u16; 64], i: usize) -> usize
-    requires { ⌜ (start < capacity) × ((capacity ≤ 65536) × ((i ≤ 64) × (sumOf (take i (now lengths)) ≤ capacity))) ⌝ }
+    requires { ⌜ (start < capacity) × ((capacity ≤ maxStoreOctets) × ((i ≤ maxHeld) × (sumOf (take i (now lengths)) ≤ capacity))) ⌝ }
     ensures { λ r. ⌜ r ≡ ringPlace capacity start (now (lengths .entry)) i ⌝ }
 {
     let at = start + (crate::queue::octets_to(lengths, i) as usize);
@@ -140,7 +141,7 @@ pub(crate) fn place_of(capacity: usize, start: usize, lengths: &[u16; 64], i: us
 
 // A set of servers with the active one.
 fn marked_set(active: Active, set: u16) -> u16
-    requires { ⌜ Below 8 active ⌝ }
+    requires { ⌜ Below maxServers active ⌝ }
     ensures { λ r. ⌜ r ≡ markedSet active set ⌝ }
 {
     match active {
@@ -176,7 +177,7 @@ fn refuse_sending(answer: u8, d: Delivery, due: bool, set: u16) -> Sending
 
 // What a sending of n octets changes: one more record was sent, and its set has the active server.
 fn accept_sending(d: Delivery, set: u16, n: usize) -> Sending
-    requires { ⌜ (d .sent < 64) × Below 8 (d .active) ⌝ }
+    requires { ⌜ (d .sent < maxHeld) × Below maxServers (d .active) ⌝ }
     ensures { λ r. ⌜ r ≡ record { answer = done; written = n; place = d .sent; set = markedSet (d .active) set; sent = d .sent + 1; reached = max (d .reached) (d .sent + 1); due = false } ⌝ }
 {
     let active = d.active;

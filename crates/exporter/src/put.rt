@@ -6,17 +6,18 @@ ghost use Prim.Native.Nat.{_≤_};
 ghost use lib.Dec.{eqb};
 ghost use lib.ListN.{length};
 ghost use Rattle.octets.specs.Answers.{_when_, judge, unsoundState};
+ghost use Rattle.exporter.specs.Limits.{maxHeld};
 ghost use Rattle.exporter.specs.Sound.{partsOf, sound};
 ghost use Rattle.exporter.specs.Changes.{stateOf, puttingOf};
 ghost use Rattle.exporter.specs.Steps.{putStep, steppedOf, recordChecks, roomChecks};
 use crate::queue::MAX_HELD;
-use crate::queue::MAX_RECORD_OCTETS;
 use crate::state::Delivery;
 use crate::state::Queue;
 use crate::state::Settings;
 use crate::state::State;
 use crate::state::Stepped;
 use octets::Answer;
+use wire::message::MAX_RECORD_OCTETS;
 
 // A put's answer, the place of its entries and what stands there, and what it leaves of the count and the next DSN.
 pub(crate) struct Putting {
@@ -51,7 +52,7 @@ fn record_answer(p: Settings, table: &[u8], id: u16, r: &[u8]) -> u8
 
 // 0 for a record that finds room beside n held ones, else 18 or 19.
 fn room_answer(capacity: usize, n: usize, lengths: &[u16; 64], r: &[u8]) -> u8
-    requires { ⌜ n ≤ 64 ⌝ }
+    requires { ⌜ n ≤ maxHeld ⌝ }
     ensures { λ a. ⌜ a ≡ judge (roomChecks capacity n (now (lengths .entry)) (now (r .entry))) ⌝ }
 {
     if MAX_HELD <= n {

@@ -3,18 +3,17 @@ ghost use mathlib.Core.Path.{_≡_};
 ghost use Prim.Native.Nat.{_+_, _≤_, _<_};
 ghost use lib.ListN.{getD, take};
 ghost use Rattle.wire.specs.Each.{every};
+ghost use Rattle.exporter.specs.Limits.{maxServers, maxHeld};
 ghost use Rattle.exporter.specs.Queue.{sumOf, has, with, hasOther, shifted};
 ghost use Rattle.exporter.specs.Sound.{entrySound};
+use wire::message::MAX_RECORD_OCTETS;
 
 // The most records that are held at a time.
 pub const MAX_HELD: usize = 64;
 
-// The most octets that a record has.
-pub const MAX_RECORD_OCTETS: usize = 1024;
-
 // How many octets the first n records have together.
 pub(crate) fn octets_to(lengths: &[u16; 64], n: usize) -> u32
-    requires { ⌜ n ≤ 64 ⌝ }
+    requires { ⌜ n ≤ maxHeld ⌝ }
     ensures { λ r. ⌜ r ≡ sumOf (take n (now (lengths .entry))) ⌝ }
 {
     let part = &lengths[..];
@@ -52,7 +51,7 @@ pub(crate) fn has_other(set: u16, v: u8, n: u8) -> bool
 
 // A set with a server.
 pub(crate) fn with_server(set: u16, v: u8) -> u16
-    requires { ⌜ v < 8 ⌝ }
+    requires { ⌜ v < maxServers ⌝ }
     ensures { λ r. ⌜ r ≡ with set v ⌝ }
 {
     set | (1u16 << v)
@@ -65,7 +64,7 @@ pub(crate) fn entries_sound<'a>(
     n: usize,
     servers: u8,
 ) -> bool
-    requires { ⌜ (n ≤ 64) × (servers ≤ 8) ⌝ }
+    requires { ⌜ (n ≤ maxHeld) × (servers ≤ maxServers) ⌝ }
     ensures { λ r. ⌜ r ≡ every n (entrySound servers (now (lengths .entry)) (now (receivers .entry))) ⌝ }
 {
     let most = MAX_RECORD_OCTETS as u16;
@@ -81,7 +80,7 @@ pub(crate) fn entries_sound<'a>(
 
 // Whether each of the first n records was sent to a server: it is in what their sets have in common.
 pub(crate) fn all_received(receivers: &[u16; 64], n: usize, v: u8) -> bool
-    requires { ⌜ (n ≤ 64) × (v < 16) ⌝ }
+    requires { ⌜ (n ≤ maxHeld) × (v < 16) ⌝ }
     ensures { λ r. ⌜ r ≡ every n (λ i. has (getD (now (receivers .entry)) i 0) v) ⌝ }
 {
     let mut common: u16 = 65535;
@@ -95,12 +94,12 @@ pub(crate) fn all_received(receivers: &[u16; 64], n: usize, v: u8) -> bool
 
 // The entries from n on, moved to the front, with 0 in those that this frees.
 pub(crate) fn shift(entries: &[u16; 64], n: usize) -> [u16; 64]
-    requires { ⌜ n ≤ 64 ⌝ }
+    requires { ⌜ n ≤ maxHeld ⌝ }
     ensures { λ r. ⌜ r ≡ shifted (now (entries .entry)) n ⌝ }
 {
     let part = &entries[..];
     let mut moved = [0u16; 64];
-    let end = 64 - n;
+    let end = MAX_HELD - n;
     let mut i: usize = 0;
     while i < end {
         moved[i] = part[n + i];

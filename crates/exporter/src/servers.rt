@@ -19,17 +19,19 @@ pub const MAX_SERVERS: u8 = 8;
 fn priority_at(priorities: [u8; 8], v: u8) -> u8
     ensures { λ r. ⌜ r ≡ getD priorities v 0 ⌝ }
 {
-    let i = v as usize;
-    if i < 8 { priorities[i] } else { 0 }
+    if v < MAX_SERVERS {
+        priorities[v as usize]
+    } else {
+        0
+    }
 }
 
 // The phase of a server, closed past the last.
 pub(crate) fn phase_at(servers: [Server; 8], v: u8) -> Phase
     ensures { λ r. ⌜ r ≡ phaseAt servers v ⌝ }
 {
-    let i = v as usize;
-    if i < 8 {
-        let server = servers[i];
+    if v < MAX_SERVERS {
+        let server = servers[v as usize];
         return server.phase;
     }
     Phase::Closed
@@ -40,9 +42,8 @@ pub(crate) fn with_phase(servers: [Server; 8], v: u8, phase: Phase) -> [Server; 
     ensures { λ r. ⌜ r ≡ set servers v (server phase) ⌝ }
 {
     let mut changed = servers;
-    let i = v as usize;
-    if i < 8 {
-        changed[i] = Server { phase };
+    if v < MAX_SERVERS {
+        changed[v as usize] = Server { phase };
     }
     changed
 }
@@ -128,8 +129,9 @@ pub(crate) fn restart_servers(servers: [Server; 8]) -> [Server; 8]
     ensures { λ r. ⌜ r ≡ map restart servers ⌝ }
 {
     let mut changed = servers;
+    let end = MAX_SERVERS as usize;
     let mut i: usize = 0;
-    while i < 8 {
+    while i < end {
         changed[i] = restart_server(servers[i]);
         i += 1;
     }

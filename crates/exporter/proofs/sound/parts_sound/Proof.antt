@@ -4,6 +4,7 @@ use mathlib.Core.Path.{sym, _∙_}
 use native.Mathlib.Omega.{arith}
 use borrow.Author.Tests.{not-true, not-false, le-leb, lt-leb}
 use Rattle.wire.proofs.Each.{clause-last}
+use Rattle.exporter.specs.Limits.{maxServers}
 use Rattle.exporter.specs.Sound.{sound}
 use Rattle.exporter.proofs.SoundFacts.{numbers-facts, unsound, same-active}
 use Rattle.exporter.proofs.Choice.{choice-below}
@@ -52,7 +53,7 @@ activation-sound-requires c κs =
     let a = c .before .before .before .before .before .before .before .before .before .before .before .args in
     let f = numbers-facts (a .p) (a .room) (a .d) (a .due) (a .count) (a .start) (rw (← c .before .before .before .before .before .before .before .before .before .before .numbers-sound .ensures) (not-false _ (c .before .before .before .before .before .before .before .before .before .if1 .left))) in
     let e = same-active (a .d .active) _ (sym (c .before .same-active .ensures) ∙ not-false _ (c .if4 .left)) in
-    (omega (arith, f .few, f .reachedHeld), choice-below (a .p) (a .d) (e ∙ c .before .before .choose-server .ensures) (f .settings .fewServers))
+    (omega (arith, f .few, f .reachedHeld), choice-below (a .p) (a .d) maxServers (e ∙ c .before .before .choose-server .ensures) (f .settings .fewServers))
 
 returns-5 : tie.Need-returns-5
 unfolding sound
