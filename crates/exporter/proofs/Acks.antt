@@ -13,14 +13,15 @@ use Rattle.exporter.specs.Servers.{chosen, withCounts, acknowledged}
 use Rattle.exporter.specs.Queue.{octetsTo, shifted, dropFront}
 use Rattle.exporter.specs.Sound.{sound}
 use Rattle.exporter.specs.Steps.{ackCount, ack, checks, answer, after, settled, written, step, wroteOf, outputAfter, ackCountBy, ackChecks}
-use Rattle.exporter.specs.Moves.{withNext, ackChangeOf, releasedFrom}
+use Rattle.exporter.specs.Changes.{stateOf}
+use Rattle.exporter.specs.Moves.{ackChangeOf}
 use Rattle.exporter.specs.declared.acknowledge.AckChange.{AckChange}
 use Rattle.exporter.specs.declared.state.Queue.{Queue}
 use Rattle.exporter.specs.declared.state.Settings.{Settings}
 use Rattle.exporter.specs.declared.state.Delivery.{Delivery}
 use Rattle.exporter.specs.declared.state.State.{State}
 use Rattle.exporter.specs.declared.state.Wrote.{Wrote}
-use Rattle.exporter.proofs.SoundFacts.{sound-facts, parts-of}
+use Rattle.exporter.proofs.SoundFacts.{sound-facts}
 use Rattle.exporter.proofs.Changes.{partsIn, settled-same, step-refused, step-done}
 
 -- ---- numbers that wrap at m
@@ -72,17 +73,25 @@ acked-counts d n = go (eqb n 0)
 
 -- ---- the answer, and the change
 
--- soundness does not look at the next DSN
-pub sound-next : (s : State) (next : ℕ) → sound (withNext s next) ≡ sound s
-unfolding sound
-sound-next s next = refl
+-- the state with such a change
+abbrev releasedFrom : State → AckChange → State
+releasedFrom s c =
+    record {
+      settings = s .settings;
+      capacity = s .capacity;
+      delivery = withCounts (s .delivery) (c .sent) (c .reached) (c .timer);
+      due = s .due;
+      queue = dropFront (s .queue) (c .released);
+      start = c .start;
+      next = s .next;
+    }
 
 -- a DATA ACK that is not refused names records that the active server was sent
 pub ack-reached : (p : Settings) (d : Delivery) (v config n a : ℕ) → a ≡ judge (ackChecks p d v config n) → a ≡ done → n ≤ d .reached
 ack-reached p d v config n a j e = ltb-false (d .reached) n (passed (ackChecks p d v config n) tt (sym j ∙ e) .1 .1 .1 .0)
 
 -- how many records a DSN names of a state
-abbrev pub namedIn : ℕ → State → ℕ → ℕ
+abbrev namedIn : ℕ → State → ℕ → ℕ
 namedIn w s dsn = ackCountBy w (s .next) (s .queue .count) dsn
 
 module _ (w v dsn config : ℕ) (s : State) where
@@ -138,8 +147,17 @@ module _ (w v dsn config : ℕ) (s : State) where
 -- ---- by parts
 
 -- the parts of a state that a DATA ACK looks at
-abbrev pub ackParts : State → State
-ackParts s = withNext (partsIn s) (s .next)
+abbrev ackParts : State → State
+ackParts s = stateOf (s .settings) (s .capacity) (s .delivery) (s .due) (s .queue .count) (s .queue .lengths) [] (s .queue .receivers) (s .start) (s .next)
+
+-- soundness looks at neither the template IDs nor the next DSN
+pub ack-sound-parts : (s : State) → sound (partsIn s) ≡ sound (ackParts s)
+unfolding sound
+ack-sound-parts s = refl
+
+ack-parts-sound : (s : State) → sound (ackParts s) ≡ sound s
+unfolding sound
+ack-parts-sound s = refl
 
 module _ (w v dsn config : ℕ) (s : State) where
   ack-same : answer w [] 0 (ack v dsn config) (ackParts s) [] ≡ answer w [] 0 (ack v dsn config) s []
@@ -185,7 +203,7 @@ module _ (w v dsn config : ℕ) (s : State) where
           rw (
             step-done w [] 0 (ack v dsn config) (ackParts s) [] (ack-same ∙ e),
             step-done w [] 0 (ack v dsn config) s [] e,
-            ack-settled w v dsn config (ackParts s) (sound-next (partsIn s) (s .next) ∙ parts-of s ∙ k),
+            ack-settled w v dsn config (ackParts s) (ack-parts-sound s ∙ k),
             ack-settled w v dsn config s k,
             acked-counts (s .delivery) (namedIn w s dsn),
           )

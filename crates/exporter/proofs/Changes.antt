@@ -10,9 +10,9 @@ use lib.ListN.{length}
 use lib.Seq.{sets}
 use Rattle.octets.specs.Answers.{judge, done, unsoundState, noSuchServer}
 use Rattle.exporter.specs.Servers.{chosen, settle, changed, phaseAt, withServers, Transition, transition}
-use Rattle.exporter.specs.Sound.{sound, partsOf}
+use Rattle.exporter.specs.Sound.{sound}
 use Rattle.exporter.specs.Steps.{Outcome, Call, step, answer, checks, after, settled, storeAfter, written, move, replyTo, transitionChecks, outputAfter, wroteOf}
-use Rattle.exporter.specs.Changes.{changeOf, appliedTo, settledChange, refusedChange}
+use Rattle.exporter.specs.Changes.{stateOf, changeOf, appliedTo, settledChange, refusedChange}
 use Rattle.exporter.specs.declared.change.Change.{Change}
 use Rattle.exporter.specs.declared.state.State.{State}
 use Rattle.exporter.specs.declared.state.Wrote.{Wrote}
@@ -20,7 +20,7 @@ use Rattle.exporter.proofs.SoundFacts.{active-same, parts-of}
 
 -- the parts of a state that soundness looks at
 abbrev pub partsIn : State → State
-partsIn s = partsOf (s .settings) (s .capacity) (s .delivery) (s .due) (s .queue .count) (s .queue .lengths) (s .queue .receivers) (s .start)
+partsIn s = stateOf (s .settings) (s .capacity) (s .delivery) (s .due) (s .queue .count) (s .queue .lengths) [] (s .queue .receivers) (s .start) 0
 
 -- where the active server is the one to be chosen, choosing changes nothing
 pub settled-same : (s : State) → s .delivery .active ≡ chosen (s .settings) (s .delivery) → settled s ≡ s

@@ -14,7 +14,7 @@ use Rattle.wire.proofs.Each.{and-left, and-right}
 use Rattle.exporter.specs.Sound.{sound}
 use Rattle.exporter.specs.Steps.{put, answer, checks, soundFor, after, storeAfter, putStep, steppedOf, recordChecks, roomChecks}
 use Rattle.exporter.specs.Queue.{heldOctets, ringWrite, pushed}
-use Rattle.exporter.specs.Changes.{puttingOf, withPut}
+use Rattle.exporter.specs.Changes.{puttingOf}
 use Rattle.exporter.specs.declared.put.Putting.{Putting}
 use Rattle.exporter.specs.declared.state.Settings.{Settings}
 use Rattle.exporter.specs.declared.state.Stepped.{Stepped}
@@ -128,6 +128,24 @@ putting-done s store table id r a x n left j z q k l =
       settled-same (after 32 (put id r) s) (sound-facts s (f .isSound) .choice),
     )
     (rw z at q, rw (k, f .stored) at l)
+
+-- the state with such a change
+abbrev withPut : State → Putting → State
+withPut s c =
+    record {
+      settings = s .settings;
+      capacity = s .capacity;
+      delivery = s .delivery;
+      due = s .due;
+      queue = record {
+        count = c .count;
+        lengths = set (s .queue .lengths) (c .place) (c .len);
+        templates = set (s .queue .templates) (c .place) (c .template);
+        receivers = set (s .queue .receivers) (c .place) (c .set);
+      };
+      start = s .start;
+      next = c .next;
+    }
 
 module _ (s : State) (store table : List ℕ) (id : ℕ) (r : List ℕ) where
   -- an outcome's change is made to one of the 64 entries

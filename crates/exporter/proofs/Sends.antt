@@ -18,15 +18,12 @@ use Rattle.wire.specs.declared.message.Message.the-variants.{Data}
 use Rattle.wire.specs.declared.message.DataHead.{DataHead}
 use Rattle.wire.specs.declared.message.Written.{Written}
 use Rattle.wire.specs.declared.message.Written.the-variants.{Octets, Refused}
-use Rattle.exporter.specs.Servers.{isNobody, sentOne}
-use Rattle.exporter.specs.Queue.{ringRead, recordAt, octetsTo, marked}
+use Rattle.exporter.specs.Servers.{withCounts, sentOne}
+use Rattle.exporter.specs.Queue.{ringRead, recordAt, octetsTo, markedSet, marked}
 use Rattle.exporter.specs.Sound.{sound}
-use Rattle.exporter.specs.Steps.{Outcome, headOf, sendChecks, markedFor, nextData, answer, checks, soundFor, after, settled, written, nextDataStep, wroteOf, outputAfter}
-use Rattle.exporter.specs.Changes.{SendFacts, stateOf, markedSet, sendingOf, withSent}
+use Rattle.exporter.specs.Steps.{Outcome, headOf, sendChecks, nextData, answer, checks, soundFor, after, settled, written, nextDataStep, wroteOf, outputAfter}
+use Rattle.exporter.specs.Changes.{SendFacts, stateOf, sendingOf}
 use Rattle.exporter.specs.declared.next_data.Sending.{Sending}
-use Rattle.exporter.specs.declared.state.Active.{Active}
-use Rattle.exporter.specs.declared.state.Active.the-variants.{Nobody, Server}
-use Rattle.exporter.specs.declared.state.Queue.{Queue}
 use Rattle.exporter.specs.declared.state.State.{State}
 use Rattle.exporter.specs.declared.state.Wrote.{Wrote}
 use Rattle.exporter.proofs.Rings.{read-same}
@@ -257,17 +254,23 @@ next-facts s store out e =
       more = leb-false (s .queue .count) (s .delivery .sent) (p .1 .1 .0);
     }
 
--- the entries after sending
-sent-entries : (a : Active) (q : Queue) (i : ℕ) → set (q .receivers) i (markedSet a (getD (q .receivers) i 0)) ≡ markedFor a q i .receivers
-unfolding marked
-sent-entries Nobody q i = set-getD (q .receivers) i 0
-sent-entries (Server v) q i = refl
-
-sent-queue : (a : Active) (q : Queue) (i : ℕ)
-    → _≡_ {A = Queue} (record { count = q .count; lengths = q .lengths; templates = q .templates; receivers = markedFor a q i .receivers }) (markedFor a q i)
-unfolding marked
-sent-queue Nobody q i = refl
-sent-queue (Server v) q i = refl
+-- the state with such a change
+abbrev withSent : State → Sending → State
+withSent s c =
+    record {
+      settings = s .settings;
+      capacity = s .capacity;
+      delivery = withCounts (s .delivery) (c .sent) (c .reached) (s .delivery .timer);
+      due = c .due;
+      queue = record {
+        count = s .queue .count;
+        lengths = s .queue .lengths;
+        templates = s .queue .templates;
+        receivers = set (s .queue .receivers) (c .place) (c .set);
+      };
+      start = s .start;
+      next = s .next;
+    }
 
 module _ (s : State) (store out : List ℕ) where
   -- an outcome's change is made to one of the 64 entries
@@ -293,7 +296,7 @@ module _ (s : State) (store out : List ℕ) where
         state = withSent s (sendingOf s (nextDataStep 32 s store out));
       })
       (wroteOf (nextDataStep 32 s store out))
-  unfolding after sentOne
+  unfolding after sentOne marked
   sending-applied = go (eqb (answer 32 [] (length out) nextData s store) done) refl
     where
       applied : Outcome → Wrote
@@ -311,8 +314,6 @@ module _ (s : State) (store out : List ℕ) where
           rw (
             step-done 32 [] (length out) nextData s store e,
             settled-same (after 32 nextData s) (sound-facts s k .choice),
-            sent-entries (s .delivery .active) (s .queue) (s .delivery .sent),
-            sent-queue (s .delivery .active) (s .queue) (s .delivery .sent),
           )
       go false q =
           rw (

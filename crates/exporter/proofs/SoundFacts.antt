@@ -11,7 +11,8 @@ use Rattle.wire.proofs.Each.{and-left, and-right, every-at, every-intro, clause
 use Rattle.exporter.specs.Limits.{maxServers, maxThreshold, minStoreOctets, maxStoreOctets, maxHeld}
 use Rattle.exporter.specs.Servers.{sameActive, chosen}
 use Rattle.exporter.specs.Queue.{heldOctets, has}
-use Rattle.exporter.specs.Sound.{maxRecordOctets, settingsSound, numbersSound, entrySound, activationSound, sound, partsOf}
+use Rattle.exporter.specs.Sound.{maxRecordOctets, settingsSound, numbersSound, entrySound, activationSound, sound}
+use Rattle.exporter.specs.Changes.{stateOf}
 use Rattle.exporter.specs.declared.state.Active.{Active}
 use Rattle.exporter.specs.declared.state.Active.the-variants.{Nobody, Server}
 use Rattle.exporter.specs.declared.state.Settings.{Settings}
@@ -235,7 +236,7 @@ facts-sound s f =
 
 -- a state is sound where its parts are
 pub parts-of : (s : State)
-    → sound (partsOf (s .settings) (s .capacity) (s .delivery) (s .due) (s .queue .count) (s .queue .lengths) (s .queue .receivers) (s .start)) ≡ sound s
+    → sound (stateOf (s .settings) (s .capacity) (s .delivery) (s .due) (s .queue .count) (s .queue .lengths) [] (s .queue .receivers) (s .start) 0) ≡ sound s
 unfolding sound
 parts-of s = refl
 

@@ -63,16 +63,3 @@ sound s =
     ∷ sameActive (s .delivery .active) (chosen (s .settings) (s .delivery))
     ∷ activationSound (s .delivery) (s .queue .receivers) (s .delivery .active)
     ∷ [])
-
--- A state with the parts that soundness looks at.
-abbrev pub partsOf : Settings → ℕ → Delivery → Bool → ℕ → List ℕ → List ℕ → ℕ → State
-partsOf p room d due count lengths receivers start =
-    record {
-      settings = p;
-      capacity = room;
-      delivery = d;
-      due = due;
-      queue = record { count = count; lengths = lengths; templates = []; receivers = receivers };
-      start = start;
-      next = 0;
-    }

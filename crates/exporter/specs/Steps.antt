@@ -15,7 +15,7 @@ use Rattle.wire.specs.declared.message.Message.{Message}
 use Rattle.wire.specs.declared.message.Message.the-variants.{Start, StartAck, Stop, StopAck, TmplData, FinalTmplDataAck, StartNegotiate, StartNegotiateAck, Data, DataAck}
 use Rattle.wire.specs.declared.message.DataHead.{DataHead}
 use Rattle.exporter.specs.Servers.{phaseAt, isClosed, isOffered, canOffer, sameActive, isNobody, changed, settle, freshDelivery, withServers, Transition, start, stop, negotiate, offer, down, agree, malformed, transition, sentOne, acknowledged, ticked}
-use Rattle.exporter.specs.Queue.{sumOf, heldOctets, ringPlace, recordAt, ringWrite, hasOther, pushed, dropFront, marked}
+use Rattle.exporter.specs.Queue.{sumOf, heldOctets, ringPlace, recordAt, ringWrite, markedSet, hasOther, pushed, dropFront, marked}
 use Rattle.exporter.specs.Limits.{maxServers, maxHeld}
 use Rattle.exporter.specs.Sound.{settingsSound, sound}
 use Rattle.exporter.specs.declared.state.Phase.{Phase}
@@ -230,15 +230,18 @@ answer w table room c s store = judge ((unsoundState when not (soundFor c s stor
 
 -- ---- what an accepted call leaves
 
--- A state with another delivery.
+-- A state with this delivery and S due or not.
+abbrev pub withDue : State → Delivery → Bool → State
+withDue s d due =
+    record { settings = s .settings; capacity = s .capacity; delivery = d; due = due; queue = s .queue; start = s .start; next = s .next }
+
+-- A state with this delivery.
 abbrev pub withDelivery : State → Delivery → State
-withDelivery s d =
-    record { settings = s .settings; capacity = s .capacity; delivery = d; due = s .due; queue = s .queue; start = s .start; next = s .next }
+withDelivery s d = withDue s d (s .due)
 
 -- The queue after the record at place i was sent to the active server.
 abbrev pub markedFor : Active → Queue → ℕ → Queue
-markedFor active.Nobody q i = q
-markedFor (active.Server v) q i = marked q i v
+markedFor a q i = marked q i (markedSet a (getD (q .receivers) i 0))
 
 -- The state before the choice is made anew.
 unfoldable pub after : ℕ → Call → State → State
@@ -278,16 +281,7 @@ after w (move v m) s = withDelivery s (withServers (s .delivery) (transition v m
 
 -- The choice made anew; a changed one makes S due.
 unfoldable pub settled : State → State
-settled s =
-    record {
-      settings = s .settings;
-      capacity = s .capacity;
-      delivery = settle (s .settings) (s .delivery);
-      due = changed (s .settings) (s .delivery) || s .due;
-      queue = s .queue;
-      start = s .start;
-      next = s .next;
-    }
+settled s = withDue s (settle (s .settings) (s .delivery)) (changed (s .settings) (s .delivery) || s .due)
 
 -- Only a put changes the store: its octets follow the held ones.
 unfoldable pub storeAfter : Call → State → List ℕ → List ℕ

@@ -7,9 +7,9 @@ ghost use Rattle.octets.specs.Answers.{judge, done};
 ghost use Rattle.exporter.specs.Limits.{maxHeld, maxStoreOctets};
 ghost use Rattle.exporter.specs.Servers.{acknowledged};
 ghost use Rattle.exporter.specs.Queue.{sumOf, ringPlace, dropFront};
-ghost use Rattle.exporter.specs.Sound.{partsOf};
+ghost use Rattle.exporter.specs.Changes.{stateOf};
 ghost use Rattle.exporter.specs.Steps.{ack, step, wroteOf, ackCountBy, ackChecks};
-ghost use Rattle.exporter.specs.Moves.{withNext, ackChangeOf};
+ghost use Rattle.exporter.specs.Moves.{ackChangeOf};
 use crate::state::Active;
 use crate::state::Delivery;
 use crate::state::Queue;
@@ -118,7 +118,7 @@ fn ack_change<'a>(
     config: u8,
 ) -> AckChange
     ensures { λ r. ⌜ r ≡ ackChangeOf (ackCountBy 32 next count dsn)
-        (step 32 [] 0 (ack v dsn config) (withNext (partsOf p capacity d due count (now (lengths .entry)) (now (receivers .entry)) start) next) []) ⌝ }
+        (step 32 [] 0 (ack v dsn config) (stateOf p capacity d due count (now (lengths .entry)) [] (now (receivers .entry)) start next) []) ⌝ }
 {
     if !crate::sound::parts_sound(p, capacity, d, due, count, lengths, receivers, start) {
         return refuse_ack(Answer::UNSOUND_STATE, d, start);

@@ -9,9 +9,9 @@ ghost use Rattle.octets.specs.Answers.{_when_, judge, done, unsoundState};
 ghost use Rattle.wire.specs.Messages.{maxRecordOctets, Placed, layoutOf};
 ghost use Rattle.wire.specs.declared.message.Message.the-variants.{Data};
 ghost use Rattle.exporter.specs.Limits.{maxServers, maxHeld, maxStoreOctets};
-ghost use Rattle.exporter.specs.Queue.{sumOf, ringPlace, ringRead};
-ghost use Rattle.exporter.specs.Sound.{partsOf, sound};
-ghost use Rattle.exporter.specs.Changes.{Below, markedSet, SendFacts, stateOf, sendingOf};
+ghost use Rattle.exporter.specs.Queue.{sumOf, markedSet, ringPlace, ringRead};
+ghost use Rattle.exporter.specs.Sound.{sound};
+ghost use Rattle.exporter.specs.Changes.{Below, SendFacts, stateOf, sendingOf};
 ghost use Rattle.exporter.specs.Steps.{dsnAtBy, isDuplicate, headOf, sendChecks, nextDataStep, wroteOf, outputAfter};
 use crate::state::Active;
 use crate::state::Delivery;
@@ -49,7 +49,7 @@ fn send_answer<'a>(
     stored: usize,
 ) -> u8
     ensures { λ a. ⌜ a ≡ judge
-        ((unsoundState when not (sound (partsOf p capacity d due count (now (lengths .entry)) (now (receivers .entry)) start) && eqb stored capacity))
+        ((unsoundState when not (sound (stateOf p capacity d due count (now (lengths .entry)) [] (now (receivers .entry)) start 0) && eqb stored capacity))
         ∷ sendChecks d count) ⌝ }
 {
     if !crate::sound::parts_sound(p, capacity, d, due, count, lengths, receivers, start) {

@@ -7,7 +7,7 @@ ghost use lib.Dec.{eqb};
 ghost use lib.ListN.{length};
 ghost use Rattle.octets.specs.Answers.{_when_, judge, unsoundState};
 ghost use Rattle.exporter.specs.Limits.{maxHeld};
-ghost use Rattle.exporter.specs.Sound.{partsOf, sound};
+ghost use Rattle.exporter.specs.Sound.{sound};
 ghost use Rattle.exporter.specs.Changes.{stateOf, puttingOf};
 ghost use Rattle.exporter.specs.Steps.{putStep, steppedOf, recordChecks, roomChecks};
 use crate::queue::MAX_HELD;
@@ -81,7 +81,7 @@ fn put_answer<'a, 'b, 'c>(
     id: u16,
     r: &'c [u8],
 ) -> u8
-    ensures { λ a. ⌜ a ≡ judge ((unsoundState when not (sound (partsOf p capacity d due count (now (lengths .entry)) (now (receivers .entry)) start) && eqb stored capacity))
+    ensures { λ a. ⌜ a ≡ judge ((unsoundState when not (sound (stateOf p capacity d due count (now (lengths .entry)) [] (now (receivers .entry)) start 0) && eqb stored capacity))
         ∷ (recordChecks p (now (table .entry)) id (now (r .entry)) ++ roomChecks capacity count (now (lengths .entry)) (now (r .entry)))) ⌝ }
 {
     if !crate::sound::parts_sound(p, capacity, d, due, count, lengths, receivers, start) {

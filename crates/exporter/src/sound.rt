@@ -1,9 +1,10 @@
 // The limits of the settings, and whether a state is sound.
 ghost use mathlib.Core.Path.{_≡_};
 ghost use Prim.Native.Nat.{_≤_};
+ghost use mathlib.Core.List.{[]};
 ghost use Rattle.exporter.specs.Limits.{maxServers, maxHeld};
-ghost use Rattle.exporter.specs.Changes.{Below};
-ghost use Rattle.exporter.specs.Sound.{settingsSound, numbersSound, activationSound, partsOf, sound};
+ghost use Rattle.exporter.specs.Changes.{Below, stateOf};
+ghost use Rattle.exporter.specs.Sound.{settingsSound, numbersSound, activationSound, sound};
 use crate::queue::MAX_HELD;
 use crate::servers::MAX_SERVERS;
 use crate::state::Active;
@@ -75,7 +76,7 @@ pub(crate) fn parts_sound<'a>(
     receivers: &'a [u16; 64],
     start: usize,
 ) -> bool
-    ensures { λ r. ⌜ r ≡ sound (partsOf p room d due count (now (lengths .entry)) (now (receivers .entry)) start) ⌝ }
+    ensures { λ r. ⌜ r ≡ sound (stateOf p room d due count (now (lengths .entry)) [] (now (receivers .entry)) start 0) ⌝ }
 {
     if !numbers_sound(p, room, d, due, count, start) {
         return false;

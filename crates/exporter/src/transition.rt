@@ -6,9 +6,8 @@ ghost use lib.ListN.{length};
 ghost use Rattle.octets.specs.Answers.{judge};
 ghost use Rattle.wire.specs.Messages.{Placed};
 ghost use Rattle.exporter.specs.Servers.{offer, agree, transition, withServers};
-ghost use Rattle.exporter.specs.Sound.{partsOf};
 ghost use Rattle.exporter.specs.Steps.{isSessions, move, step, replyTo, outputAfter, wroteOf, negotiateChecks, turnChecks};
-ghost use Rattle.exporter.specs.Changes.{changeOf};
+ghost use Rattle.exporter.specs.Changes.{stateOf, changeOf};
 ghost use Rattle.exporter.specs.Moves.{transitionOf, tableFits};
 use crate::change::Change;
 use crate::state::Delivery;
@@ -157,8 +156,8 @@ fn move_change<'a>(
     table: &[u8],
     out: &mut [u8],
 ) -> Change
-    ensures { λ r. ⌜ (r ≡ changeOf (step 32 (now (table .entry)) (length (now (out .entry))) (move v (transitionOf m)) (partsOf p capacity d due count (now (lengths .entry)) (now (receivers .entry)) start) []))
-        × (now (out .exit) ≡ outputAfter (now (out .entry)) (step 32 (now (table .entry)) (length (now (out .entry))) (move v (transitionOf m)) (partsOf p capacity d due count (now (lengths .entry)) (now (receivers .entry)) start) [])) ⌝ }
+    ensures { λ r. ⌜ (r ≡ changeOf (step 32 (now (table .entry)) (length (now (out .entry))) (move v (transitionOf m)) (stateOf p capacity d due count (now (lengths .entry)) [] (now (receivers .entry)) start 0) []))
+        × (now (out .exit) ≡ outputAfter (now (out .entry)) (step 32 (now (table .entry)) (length (now (out .entry))) (move v (transitionOf m)) (stateOf p capacity d due count (now (lengths .entry)) [] (now (receivers .entry)) start 0) [])) ⌝ }
 {
     if !crate::sound::parts_sound(p, capacity, d, due, count, lengths, receivers, start) {
         return crate::change::refuse_change(Answer::UNSOUND_STATE, d, due);

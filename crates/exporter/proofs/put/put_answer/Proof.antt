@@ -1,7 +1,8 @@
 -- `put_answer` meets its contract: each return follows from the tests on the way to it, and the room is judged behind the record.
 -- Assumes nothing.
+use mathlib.Core.List.{[]}
 use borrow.Author.Tests.{eq-eqb, ne-eqb}
-use Rattle.exporter.specs.Sound.{partsOf}
+use Rattle.exporter.specs.Changes.{stateOf}
 use Rattle.exporter.proofs.SoundFacts.{sound-facts, passed-sound, failed-sound}
 use Rattle.exporter.proofs.Puts.{refused-first, passed-first}
 use borrow.Author.Needs.{needs}
@@ -14,13 +15,13 @@ parts-sound-requires c κs = search needs
 returns : tie.Need-returns
 returns c =
     let a = c .before .before .before .before .args in
-    let s = partsOf (a .p) (a .capacity) (a .d) (a .due) (a .count) (a .lengths .now) (a .receivers .now) (a .start) in
+    let s = stateOf (a .p) (a .capacity) (a .d) (a .due) (a .count) (a .lengths .now) [] (a .receivers .now) (a .start) 0 in
     rw (failed-sound s (c .before .parts-sound .result) (c .before .parts-sound .ensures) (c .if1 .taken))
 
 returns-2 : tie.Need-returns-2
 returns-2 c =
     let a = c .before .before .before .before .before .args in
-    let s = partsOf (a .p) (a .capacity) (a .d) (a .due) (a .count) (a .lengths .now) (a .receivers .now) (a .start) in
+    let s = stateOf (a .p) (a .capacity) (a .d) (a .due) (a .count) (a .lengths .now) [] (a .receivers .now) (a .start) 0 in
     rw (passed-sound s (c .before .before .parts-sound .result) (c .before .before .parts-sound .ensures) (c .before .if1 .left), ne-eqb (a .stored) (a .capacity) (c .if2 .taken))
 
 record-answer-requires : tie.Need-record-answer-requires
@@ -29,20 +30,20 @@ record-answer-requires c κs = search needs
 returns-3 : tie.Need-returns-3
 returns-3 c =
     let a = c .before .before .before .before .before .before .before .args in
-    let s = partsOf (a .p) (a .capacity) (a .d) (a .due) (a .count) (a .lengths .now) (a .receivers .now) (a .start) in
+    let s = stateOf (a .p) (a .capacity) (a .d) (a .due) (a .count) (a .lengths .now) [] (a .receivers .now) (a .start) 0 in
     rw (passed-sound s (c .before .before .before .before .parts-sound .result) (c .before .before .before .before .parts-sound .ensures) (c .before .before .before .if1 .left), eq-eqb (a .stored) (a .capacity) (c .before .before .if2 .left))
     (refused-first (a .p) (a .capacity) (a .count) (a .lengths .now) (a .table .now) (a .id) (a .r .now) (c .before .record-answer .result) (c .before .record-answer .ensures) (c .if3 .taken))
 
 room-answer-requires : tie.Need-room-answer-requires
 room-answer-requires c κs =
     let a = c .before .before .before .before .before .before .before .args in
-    let s = partsOf (a .p) (a .capacity) (a .d) (a .due) (a .count) (a .lengths .now) (a .receivers .now) (a .start) in
+    let s = stateOf (a .p) (a .capacity) (a .d) (a .due) (a .count) (a .lengths .now) [] (a .receivers .now) (a .start) 0 in
     sound-facts s (passed-sound s (c .before .before .before .before .parts-sound .result) (c .before .before .before .before .parts-sound .ensures) (c .before .before .before .if1 .left)) .numbers .few
 
 returns-4 : tie.Need-returns-4
 returns-4 c =
     let a = c .before .before .before .before .before .before .before .before .args in
-    let s = partsOf (a .p) (a .capacity) (a .d) (a .due) (a .count) (a .lengths .now) (a .receivers .now) (a .start) in
+    let s = stateOf (a .p) (a .capacity) (a .d) (a .due) (a .count) (a .lengths .now) [] (a .receivers .now) (a .start) 0 in
     rw (passed-sound s (c .before .before .before .before .before .parts-sound .result) (c .before .before .before .before .before .parts-sound .ensures) (c .before .before .before .before .if1 .left), eq-eqb (a .stored) (a .capacity) (c .before .before .before .if2 .left))
     (passed-first (a .p) (a .capacity) (a .count) (a .lengths .now) (a .table .now) (a .id) (a .r .now)
     (c .before .before .record-answer .result) (c .before .before .record-answer .ensures) (c .before .if3 .left) (c .room-answer .result) (c .room-answer .ensures))

@@ -1,10 +1,11 @@
 -- `move_change` meets its contract, refusal by refusal; where a reply is written, what is left follows from it. Assumes nothing.
+use mathlib.Core.List.{[]}
 use mathlib.Core.Path.{_∙_}
 use mathlib.Core.Bool.{true, false}
 use native.Mathlib.Omega.{arith}
 use borrow.Author.Tests.{le-leb, lt-leb}
 use lib.ListN.{length}
-use Rattle.exporter.specs.Sound.{partsOf}
+use Rattle.exporter.specs.Changes.{stateOf}
 use Rattle.exporter.specs.Steps.{move}
 use Rattle.exporter.specs.Moves.{transitionOf}
 use Rattle.exporter.proofs.SoundFacts.{passed-sound, failed-sound}
@@ -23,7 +24,7 @@ refuse-change-requires c κs = search needs
 returns : tie.Need-returns
 returns c =
     let a = c .before .before .before .before .before .args in
-    let s = partsOf (a .p) (a .capacity) (a .d) (a .due) (a .count) (a .lengths .now) (a .receivers .now) (a .start) in
+    let s = stateOf (a .p) (a .capacity) (a .d) (a .due) (a .count) (a .lengths .now) [] (a .receivers .now) (a .start) 0 in
     let t = transitionOf (a .m) in
     let e = failed-sound s (c .before .before .parts-sound .result) (c .before .before .parts-sound .ensures) (c .before .if1 .taken) in
     refused-change 32 (a .table .now) (length (a .out .now)) (move (a .v) t) s (a .out .now) 1 (c .refuse-change .result) (λ z. omega arith) (move-unsound 32 (a .table .now) (length (a .out .now)) (a .v) t s e) (c .refuse-change .ensures)
@@ -34,7 +35,7 @@ refuse-change-requires-2 c κs = search needs
 returns-2 : tie.Need-returns-2
 returns-2 c =
     let a = c .before .before .before .before .before .before .before .args in
-    let s = partsOf (a .p) (a .capacity) (a .d) (a .due) (a .count) (a .lengths .now) (a .receivers .now) (a .start) in
+    let s = stateOf (a .p) (a .capacity) (a .d) (a .due) (a .count) (a .lengths .now) [] (a .receivers .now) (a .start) 0 in
     let t = transitionOf (a .m) in
     let e = passed-sound s (c .before .before .before .before .parts-sound .result) (c .before .before .before .before .parts-sound .ensures) (c .before .before .before .if1 .left) in
     refused-change 32 (a .table .now) (length (a .out .now)) (move (a .v) t) s (a .out .now) 2 (c .refuse-change2 .result) (λ z. omega arith)
@@ -52,7 +53,7 @@ refuse-change-requires-3 c κs = search needs
 returns-3 : tie.Need-returns-3
 returns-3 c =
     let a = c .before .before .before .before .before .before .before .before .before .before .before .args in
-    let s = partsOf (a .p) (a .capacity) (a .d) (a .due) (a .count) (a .lengths .now) (a .receivers .now) (a .start) in
+    let s = stateOf (a .p) (a .capacity) (a .d) (a .due) (a .count) (a .lengths .now) [] (a .receivers .now) (a .start) 0 in
     let t = transitionOf (a .m) in
     let e = passed-sound s (c .before .before .before .before .before .before .before .before .parts-sound .result) (c .before .before .before .before .before .before .before .before .parts-sound .ensures) (c .before .before .before .before .before .before .before .if1 .left) in
     let q = rw (c .before .before .before .phase-at .ensures) at (c .before .before .turn-answer .ensures) in
@@ -86,7 +87,7 @@ same-length c = search needs
 returns-4 : tie.Need-returns-4
 returns-4 c =
     let a = c .before .before .before .before .before .before .before .before .before .before .before .before .before .before .before .before .before .before .before .args in
-    let s = partsOf (a .p) (a .capacity) (a .d) (a .due) (a .count) (a .lengths .now) (a .receivers .now) (a .start) in
+    let s = stateOf (a .p) (a .capacity) (a .d) (a .due) (a .count) (a .lengths .now) [] (a .receivers .now) (a .start) 0 in
     let t = transitionOf (a .m) in
     let f = fitted _ _ _ _ (rw (c .before .before .before .reply .given .1) at (c .before .before .before .before .before .before .before .write-reply .ensures)) in
     let e = passed-sound s (c .before .before .before .before .before .before .before .before .before .before .before .before .before .before .before .before .parts-sound .result) (c .before .before .before .before .before .before .before .before .before .before .before .before .before .before .before .before .parts-sound .ensures) (c .before .before .before .before .before .before .before .before .before .before .before .before .before .before .before .if1 .left) in
@@ -101,7 +102,7 @@ same-length-2 c = search needs
 returns-5 : tie.Need-returns-5
 returns-5 c =
     let a = c .before .before .before .before .before .before .before .before .before .before .before .before .before .before .before .before .before .before .args in
-    let s = partsOf (a .p) (a .capacity) (a .d) (a .due) (a .count) (a .lengths .now) (a .receivers .now) (a .start) in
+    let s = stateOf (a .p) (a .capacity) (a .d) (a .due) (a .count) (a .lengths .now) [] (a .receivers .now) (a .start) 0 in
     let t = transitionOf (a .m) in
     let f = unfitted _ _ _ _ (rw (c .before .before .reply2 .given .1) at (c .before .before .before .before .before .before .write-reply .ensures)) in
     let e = passed-sound s (c .before .before .before .before .before .before .before .before .before .before .before .before .before .before .before .parts-sound .result) (c .before .before .before .before .before .before .before .before .before .before .before .before .before .before .before .parts-sound .ensures) (c .before .before .before .before .before .before .before .before .before .before .before .before .before .before .if1 .left) in
