@@ -95,7 +95,7 @@ fn accept_ack(
     AckChange {
         answer: Answer::DONE,
         released: n,
-        start: crate::next_data::place_of(capacity, start, lengths, n),
+        start: crate::queue::record_start(capacity, start, lengths, n),
         sent: moved.sent,
         reached: moved.reached,
         timer: moved.timer,

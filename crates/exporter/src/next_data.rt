@@ -4,12 +4,12 @@ ghost use mathlib.Core.List.{[], _∷_};
 ghost use mathlib.Core.Bool.{false, not, _&&_};
 ghost use Prim.Native.Nat.{_+_, _≤_, _<_, max};
 ghost use lib.Dec.{eqb};
-ghost use lib.ListN.{length, take};
+ghost use lib.ListN.{length};
 ghost use Rattle.octets.specs.Answers.{_when_, judge, done, unsoundState};
 ghost use Rattle.wire.specs.Messages.{maxRecordOctets, Placed, layoutOf};
 ghost use Rattle.wire.specs.declared.message.Message.the-variants.{Data};
-ghost use Rattle.exporter.specs.Limits.{maxServers, maxHeld, maxStoreOctets};
-ghost use Rattle.exporter.specs.Queue.{sumOf, markedSet, ringPlace, ringRead};
+ghost use Rattle.exporter.specs.Limits.{maxServers, maxHeld};
+ghost use Rattle.exporter.specs.Queue.{markedSet, ringRead};
 ghost use Rattle.exporter.specs.Sound.{sound};
 ghost use Rattle.exporter.specs.Changes.{Below, SendFacts, stateOf, sendingOf};
 ghost use Rattle.exporter.specs.Steps.{dsnAtBy, isDuplicate, headOf, sendChecks, nextDataStep, wroteOf, outputAfter};
@@ -127,18 +127,6 @@ fn write_record(head: DataHead, store: &[u8], at: usize, len: usize, out: &mut [
     }
 }
 
-// The place in the store where the record at place i of the queue begins.
-pub(crate) fn place_of(capacity: usize, start: usize, lengths: &[u16; 64], i: usize) -> usize
-    requires { ⌜ (start < capacity) × ((capacity ≤ maxStoreOctets) × ((i ≤ maxHeld) × (sumOf (take i (now lengths)) ≤ capacity))) ⌝ }
-    ensures { λ r. ⌜ r ≡ ringPlace capacity start (now (lengths .entry)) i ⌝ }
-{
-    let at = start + (crate::queue::octets_to(lengths, i) as usize);
-    if at < capacity {
-        return at;
-    }
-    at - capacity
-}
-
 // A set of servers with the active one.
 fn marked_set(active: Active, set: u16) -> u16
     requires { ⌜ Below maxServers active ⌝ }
@@ -193,8 +181,8 @@ fn accept_sending(d: Delivery, set: u16, n: usize) -> Sending
     }
 }
 
-// A length as a number of octets.
-fn octets_in(len: u16) -> usize
+// A length as a count, so that reading an entry and widening it are proved apart.
+fn wide(len: u16) -> usize
     ensures { λ r. ⌜ r ≡ len ⌝ }
 {
     len as usize
@@ -216,12 +204,14 @@ fn send<'a, 'b>(
     out: &mut [u8],
 ) -> Sending
     requires { ⌜ SendFacts (stateOf p capacity d due count (now lengths) (now templates) (now receivers) start next) (now store) ⌝ }
-    ensures { λ r. ⌜ (r ≡ sendingOf (stateOf p capacity d due count (now (lengths .entry)) (now (templates .entry)) (now (receivers .entry)) start next) (nextDataStep 32 (stateOf p capacity d due count (now (lengths .entry)) (now (templates .entry)) (now (receivers .entry)) start next) (now (store .entry)) (now (out .entry))))
-        × (now (out .exit) ≡ outputAfter (now (out .entry)) (nextDataStep 32 (stateOf p capacity d due count (now (lengths .entry)) (now (templates .entry)) (now (receivers .entry)) start next) (now (store .entry)) (now (out .entry)))) ⌝ }
+    ensures { λ r. ⌜
+        (let s = stateOf p capacity d due count (now (lengths .entry)) (now (templates .entry)) (now (receivers .entry)) start next in
+        let o = nextDataStep 32 s (now (store .entry)) (now (out .entry)) in
+        (r ≡ sendingOf s o) × (now (out .exit) ≡ outputAfter (now (out .entry)) o)) ⌝ }
 {
     let i = d.sent;
-    let at = place_of(capacity, start, lengths, i);
-    let len = octets_in(lengths[i]);
+    let at = crate::queue::record_start(capacity, start, lengths, i);
+    let len = wide(lengths[i]);
     let head = next_head(p, d, due, count, templates, receivers, next);
     let written = write_record(head, store, at, len, out);
     match written {
@@ -245,8 +235,10 @@ fn next_change<'a, 'b>(
     store: &'b [u8],
     out: &mut [u8],
 ) -> Sending
-    ensures { λ r. ⌜ (r ≡ sendingOf (stateOf p capacity d due count (now (lengths .entry)) (now (templates .entry)) (now (receivers .entry)) start next) (nextDataStep 32 (stateOf p capacity d due count (now (lengths .entry)) (now (templates .entry)) (now (receivers .entry)) start next) (now (store .entry)) (now (out .entry))))
-        × (now (out .exit) ≡ outputAfter (now (out .entry)) (nextDataStep 32 (stateOf p capacity d due count (now (lengths .entry)) (now (templates .entry)) (now (receivers .entry)) start next) (now (store .entry)) (now (out .entry)))) ⌝ }
+    ensures { λ r. ⌜
+        (let s = stateOf p capacity d due count (now (lengths .entry)) (now (templates .entry)) (now (receivers .entry)) start next in
+        let o = nextDataStep 32 s (now (store .entry)) (now (out .entry)) in
+        (r ≡ sendingOf s o) × (now (out .exit) ≡ outputAfter (now (out .entry)) o)) ⌝ }
 {
     let stored = store.len();
     let answer = send_answer(

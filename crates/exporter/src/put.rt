@@ -129,8 +129,10 @@ fn put_change<'a, 'b, 'c>(
     id: u16,
     r: &'c [u8],
 ) -> Putting
-    ensures { λ x. ⌜ (x ≡ puttingOf (stateOf p capacity d due count (now (lengths .entry)) (now (templates .entry)) (now (receivers .entry)) start next) id (now (r .entry)) (putStep 32 (stateOf p capacity d due count (now (lengths .entry)) (now (templates .entry)) (now (receivers .entry)) start next) (now (store .entry)) (now (table .entry)) id (now (r .entry))))
-        × (now (store .exit) ≡ putStep 32 (stateOf p capacity d due count (now (lengths .entry)) (now (templates .entry)) (now (receivers .entry)) start next) (now (store .entry)) (now (table .entry)) id (now (r .entry)) .store) ⌝ }
+    ensures { λ x. ⌜
+        (let s = stateOf p capacity d due count (now (lengths .entry)) (now (templates .entry)) (now (receivers .entry)) start next in
+        let o = putStep 32 s (now (store .entry)) (now (table .entry)) id (now (r .entry)) in
+        (x ≡ puttingOf s id (now (r .entry)) o) × (now (store .exit) ≡ o .store)) ⌝ }
 {
     let stored = store.len();
     let answer = put_answer(

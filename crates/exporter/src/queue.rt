@@ -3,8 +3,8 @@ ghost use mathlib.Core.Path.{_≡_};
 ghost use Prim.Native.Nat.{_+_, _≤_, _<_};
 ghost use lib.ListN.{getD, take};
 ghost use Rattle.wire.specs.Each.{every};
-ghost use Rattle.exporter.specs.Limits.{maxServers, maxHeld};
-ghost use Rattle.exporter.specs.Queue.{sumOf, has, with, hasOther, shifted};
+ghost use Rattle.exporter.specs.Limits.{maxServers, maxStoreOctets, maxHeld};
+ghost use Rattle.exporter.specs.Queue.{sumOf, ringPlace, has, with, hasOther, shifted};
 ghost use Rattle.exporter.specs.Sound.{entrySound};
 use wire::message::MAX_RECORD_OCTETS;
 
@@ -24,6 +24,18 @@ pub(crate) fn octets_to(lengths: &[u16; 64], n: usize) -> u32
         i += 1;
     }
     sum
+}
+
+// The place in the store where the record at place i of the queue begins.
+pub(crate) fn record_start(capacity: usize, start: usize, lengths: &[u16; 64], i: usize) -> usize
+    requires { ⌜ (start < capacity) × ((capacity ≤ maxStoreOctets) × ((i ≤ maxHeld) × (sumOf (take i (now lengths)) ≤ capacity))) ⌝ }
+    ensures { λ r. ⌜ r ≡ ringPlace capacity start (now (lengths .entry)) i ⌝ }
+{
+    let at = start + (octets_to(lengths, i) as usize);
+    if at < capacity {
+        return at;
+    }
+    at - capacity
 }
 
 // Whether a server is in a set.

@@ -156,8 +156,10 @@ fn move_change<'a>(
     table: &[u8],
     out: &mut [u8],
 ) -> Change
-    ensures { λ r. ⌜ (r ≡ changeOf (step 32 (now (table .entry)) (length (now (out .entry))) (move v (transitionOf m)) (stateOf p capacity d due count (now (lengths .entry)) [] (now (receivers .entry)) start 0) []))
-        × (now (out .exit) ≡ outputAfter (now (out .entry)) (step 32 (now (table .entry)) (length (now (out .entry))) (move v (transitionOf m)) (stateOf p capacity d due count (now (lengths .entry)) [] (now (receivers .entry)) start 0) [])) ⌝ }
+    ensures { λ r. ⌜
+        (let s = stateOf p capacity d due count (now (lengths .entry)) [] (now (receivers .entry)) start 0 in
+        let o = step 32 (now (table .entry)) (length (now (out .entry))) (move v (transitionOf m)) s [] in
+        (r ≡ changeOf o) × (now (out .exit) ≡ outputAfter (now (out .entry)) o)) ⌝ }
 {
     if !crate::sound::parts_sound(p, capacity, d, due, count, lengths, receivers, start) {
         return crate::change::refuse_change(Answer::UNSOUND_STATE, d, due);
@@ -179,8 +181,9 @@ fn move_change<'a>(
 
 // A transition of server v: 1, 2, then its own refusals, then 12 where its message does not fit the output.
 pub(crate) fn move_server(s: State, v: u8, m: Move, table: &[u8], out: &mut [u8]) -> Wrote
-    ensures { λ r. ⌜ (r ≡ wroteOf (step 32 (now (table .entry)) (length (now (out .entry))) (move v (transitionOf m)) s []))
-        × (now (out .exit) ≡ outputAfter (now (out .entry)) (step 32 (now (table .entry)) (length (now (out .entry))) (move v (transitionOf m)) s [])) ⌝ }
+    ensures { λ r. ⌜
+        (let o = step 32 (now (table .entry)) (length (now (out .entry))) (move v (transitionOf m)) s [] in
+        (r ≡ wroteOf o) × (now (out .exit) ≡ outputAfter (now (out .entry)) o)) ⌝ }
 {
     let p = s.settings;
     let d = s.delivery;

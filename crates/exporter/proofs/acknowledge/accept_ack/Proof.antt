@@ -7,11 +7,11 @@ use Rattle.exporter.proofs.acknowledge.accept_ack.Tie as tie
 acknowledge-delivery-requires : tie.Need-acknowledge-delivery-requires
 acknowledge-delivery-requires c κs = search needs
 
-place-of-requires : tie.Need-place-of-requires
-place-of-requires c κs = search needs
+record-start-requires : tie.Need-record-start-requires
+record-start-requires c κs = search needs
 
 returns : tie.Need-returns
-returns c = rw (c .place-of .ensures, c .before .acknowledge-delivery .ensures)
+returns c = rw (c .record-start .ensures, c .before .acknowledge-delivery .ensures)
 
 pub accept-ack-spec : {M : Type 1} → statement M
-accept-ack-spec = tie.close (tie.spec acknowledge-delivery-requires place-of-requires returns)
+accept-ack-spec = tie.close (tie.spec acknowledge-delivery-requires record-start-requires returns)

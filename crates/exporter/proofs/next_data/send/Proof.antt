@@ -13,8 +13,8 @@ use borrow.Author.Needs.{needs}
 use Rattle.exporter.proofs.next_data.send.Statement.{statement}
 use Rattle.exporter.proofs.next_data.send.Tie as tie
 
-place-of-requires : tie.Need-place-of-requires
-place-of-requires c κs =
+record-start-requires : tie.Need-record-start-requires
+record-start-requires c κs =
     let z = c .before .before in
     let a = z .args in
     let s = stateOf (a .p) (a .capacity) (a .d) (a .due) (a .count) (a .lengths .now) (a .templates .now) (a .receivers .now) (a .start) (a .next) in
@@ -24,22 +24,22 @@ place-of-requires c κs =
       (f .numbers .settings .smallRoom, (omega (arith, sent-few s (a .store .now) (z .pre)), omega (arith, sum-fewer (a .lengths .now) (a .d .sent) (a .count) m, f .fits))),
     )
 
-mul-octets-in : tie.Need-mul-octets-in
-mul-octets-in c =
+mul-wide : tie.Need-mul-wide
+mul-wide c =
     let z = c .before .before .before in
     let a = z .args in
     let s = stateOf (a .p) (a .capacity) (a .d) (a .due) (a .count) (a .lengths .now) (a .templates .now) (a .receivers .now) (a .start) (a .next) in
     omega (arith, sent-few s (a .store .now) (z .pre))
 
-element-copy-out-octets-in : tie.Need-element-copy-out-octets-in
-element-copy-out-octets-in c =
+element-copy-out-wide : tie.Need-element-copy-out-wide
+element-copy-out-wide c =
     let z = c .before .before .before in
     let a = z .args in
     let s = stateOf (a .p) (a .capacity) (a .d) (a .due) (a .count) (a .lengths .now) (a .templates .now) (a .receivers .now) (a .start) (a .next) in
     sent-few s (a .store .now) (z .pre)
 
-octets-in-requires : tie.Need-octets-in-requires
-octets-in-requires c κs = search needs
+wide-requires : tie.Need-wide-requires
+wide-requires c κs = search needs
 
 next-head-requires : tie.Need-next-head-requires
 next-head-requires c κs =
@@ -56,9 +56,9 @@ write-record-requires c κs =
     let s = stateOf (a .p) (a .capacity) (a .d) (a .due) (a .count) (a .lengths .now) (a .templates .now) (a .receivers .now) (a .start) (a .next) in
     let f = sound-facts s (z .pre .isSound) in
     let short = f .short (a .d .sent) (z .pre .more) in
-    let len = c .before .before .octets-in .ensures in
+    let len = c .before .before .wide .ensures in
     let at = mod-lt (a .start + sumOf (take (a .d .sent) (a .lengths .now))) {m = a .capacity} (omega (arith, f .numbers .inside)) in (
-      omega (arith, at, z .pre .stored, c .before .before .before .before .place-of .ensures),
+      omega (arith, at, z .pre .stored, c .before .before .before .before .record-start .ensures),
       (omega (arith, short, len, z .pre .stored, f .numbers .settings .someRoom), omega (arith, short, len)),
     )
 
@@ -104,10 +104,10 @@ returns c =
     let a = z .args in
     let s = stateOf (a .p) (a .capacity) (a .d) (a .due) (a .count) (a .lengths .now) (a .templates .now) (a .receivers .now) (a .start) (a .next) in
     let h = c .before .before .before .before .before .before .before .before .before .next-head in
-    let at = c .before .before .before .before .before .before .before .before .before .before .before .before .place-of in
+    let at = c .before .before .before .before .before .before .before .before .before .before .before .before .record-start in
     let w = c .before .before .before .before .before .before .before .write-record in
     let o = next-octets s (a .store .now) (h .result) (length (a .store .now)) (at .result) (h .ensures) (z .pre .stored) (at .ensures) (sound-facts s (z .pre .isSound) .numbers .inside) in
-    sending-done s (a .store .now) (a .out .now) _ _ (w .result) _ (c .accept-sending .result) (z .pre) o (c .before .before .before .written .given .1) (rw (c .before .before .before .before .before .before .before .before .before .before .octets-in .ensures) at (w .ensures)) (c .accept-sending .ensures)
+    sending-done s (a .store .now) (a .out .now) _ _ (w .result) _ (c .accept-sending .result) (z .pre) o (c .before .before .before .written .given .1) (rw (c .before .before .before .before .before .before .before .before .before .before .wide .ensures) at (w .ensures)) (c .accept-sending .ensures)
 
 same-length-2 : tie.Need-same-length-2
 same-length-2 c = search needs
@@ -118,19 +118,19 @@ returns-2 c =
     let a = z .args in
     let s = stateOf (a .p) (a .capacity) (a .d) (a .due) (a .count) (a .lengths .now) (a .templates .now) (a .receivers .now) (a .start) (a .next) in
     let h = c .before .before .before .before .before .before .before .before .before .next-head in
-    let at = c .before .before .before .before .before .before .before .before .before .before .before .before .place-of in
+    let at = c .before .before .before .before .before .before .before .before .before .before .before .before .record-start in
     let w = c .before .before .before .before .before .before .before .write-record in
     let o = next-octets s (a .store .now) (h .result) (length (a .store .now)) (at .result) (h .ensures) (z .pre .stored) (at .ensures) (sound-facts s (z .pre .isSound) .numbers .inside) in
-    sending-refused s (a .store .now) (a .out .now) _ _ (w .result) _ (c .refuse-sending .result) (z .pre) o (c .before .before .before .written2 .given .1) (rw (c .before .before .before .before .before .before .before .before .before .before .octets-in .ensures) at (w .ensures)) (c .refuse-sending .ensures)
+    sending-refused s (a .store .now) (a .out .now) _ _ (w .result) _ (c .refuse-sending .result) (z .pre) o (c .before .before .before .written2 .given .1) (rw (c .before .before .before .before .before .before .before .before .before .before .wide .ensures) at (w .ensures)) (c .refuse-sending .ensures)
 
 pub send-spec : {M : Type 1} → statement M
 send-spec =
     tie.close
     (tie.spec
-    place-of-requires
-    mul-octets-in
-    element-copy-out-octets-in
-    octets-in-requires
+    record-start-requires
+    mul-wide
+    element-copy-out-wide
+    wide-requires
     next-head-requires
     write-record-requires
     enum-known-written
