@@ -1,4 +1,6 @@
--- Acknowledgements: how many records a DSN names, what a DATA ACK is judged by, and what it changes of a state. Assumes nothing.
+-- The DSN minus the first held one plus 1 is computed by two subtractions that wrap; the first law says that the remainders agree. An
+-- accepted acknowledgement keeps servers and choice, so what it leaves by parts is what the step leaves. A refused one releases no record
+-- and changes nothing.
 use mathlib.Core.Path.{_≡_, refl, sym, ap, _∙_}
 use mathlib.Core.Bool.{Bool, true, false, cond}
 use mathlib.Core.List.{List, [], append-nil}

@@ -1,5 +1,5 @@
--- Calls that change only a state's delivery and S: what they do to a state is what they do to the parts that soundness looks at, applied
--- to that state. Assumes nothing.
+-- Transitions change only a state's delivery and S, and look at no template ID and no next DSN. So what they do to a state is what they do
+-- to the parts that soundness looks at, applied to that state. The first laws say what a refused and an accepted step is.
 use mathlib.Core.Path.{_≡_, refl, ap, _∙_}
 use mathlib.Core.Bool.{Bool, true, false, cond, not}
 use mathlib.Core.List.{List, []}

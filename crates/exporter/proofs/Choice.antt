@@ -1,4 +1,5 @@
--- Laws of the choice of the active server. Assumes nothing.
+-- `choose` goes through the servers once and keeps the best so far. By induction that one is agreed, none has a higher priority, and none
+-- before it the same. The rest are corollaries, and the law that ties a tick's one choice to whether another server is agreed.
 use mathlib.Core.Path.{_≡_, refl, sym, ap, _∙_, subst}
 use mathlib.Core.Bool.{Bool, true, false, not, _&&_, _||_, cond, false≢true}
 use mathlib.Core.List.{List, [], _∷_}

@@ -1,4 +1,5 @@
--- Transitions: their refusals but for the output's length, and the message that they write. Assumes nothing.
+-- The output's length is judged behind all other refusals of a transition, so it decides where those pass. A message that is written is
+-- placed whole, or the output stays as it was.
 use mathlib.Core.Path.{_≡_, refl, sym, ap, _∙_}
 use mathlib.Core.Bool.{Bool, true, false, cond, not, _&&_}
 use mathlib.Core.List.{List, [], _∷_, _++_}

@@ -1,4 +1,6 @@
--- Laws of putting a record. Assumes nothing.
+-- wire judges table, template and record together; the first laws put the Configuration ID and the limit of octets in their turn, and the
+-- room behind them. An accepted put fills the first unused entries; a refused one stores what was there. Either is the step of the
+-- definition.
 use mathlib.Core.Path.{_≡_, refl, sym, _∙_}
 use mathlib.Core.Bool.{Bool, true, false, cond, not, _&&_}
 use mathlib.Core.List.{List, [], _∷_, _++_}

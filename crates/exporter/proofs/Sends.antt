@@ -1,4 +1,5 @@
--- Laws of sending the next record. Assumes nothing.
+-- Where next data is not refused before the output is looked at, the record's place and length lie in the store. The message is then
+-- refused by the output's length alone. What is stored into the state is the step of the definition.
 use mathlib.Core.Path.{_≡_, refl, sym, ap, _∙_}
 use mathlib.Core.Bool.{Bool, true, false, cond, not, _&&_}
 use mathlib.Core.List.{List, [], _∷_}

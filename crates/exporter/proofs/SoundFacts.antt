@@ -1,4 +1,5 @@
--- What the numbers of a sound state, and a sound state, are known by: each clause as a fact, and back. Assumes nothing.
+-- Soundness is a list of tests; each test that holds is a fact, and a state of which all the facts hold passes every test. One test that
+-- fails makes the state unsound. Soundness looks at no template ID and no next DSN.
 use mathlib.Core.Path.{_≡_, refl, sym, ap, _∙_}
 use mathlib.Core.Bool.{Bool, true, false, not, _&&_, _||_, false≢true}
 use mathlib.Core.List.{List, [], _∷_}
@@ -87,7 +88,7 @@ settings-facts p room e =
       smallRoom = leb-true _ _ (at 6 e);
     }
 
-pub settings-hold : (p : Settings) (room : ℕ) → SettingsFacts p room → settingsSound p room ≡ true
+settings-hold : (p : Settings) (room : ℕ) → SettingsFacts p room → settingsSound p room ≡ true
 unfolding settingsSound
 settings-hold p room f =
     rw (
@@ -126,7 +127,7 @@ numbers-facts p room d due count start e =
       fresh = λ q. eqb-true _ _ (asked due (eqb (d .reached) 0) (at 6 e) q);
     }
 
-pub numbers-hold : (p : Settings) (room : ℕ) (d : Delivery) (due : Bool) (count start : ℕ)
+numbers-hold : (p : Settings) (room : ℕ) (d : Delivery) (due : Bool) (count start : ℕ)
     → NumbersFacts p room d due count start → numbersSound p room d due count start ≡ true
 unfolding numbersSound
 numbers-hold p room d due count start f =

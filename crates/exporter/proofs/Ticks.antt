@@ -1,5 +1,5 @@
--- A tick by its clock: the timer, and where it has run out the choice among the servers with the active one late, leave what a tick of the
--- definition leaves. Assumes nothing.
+-- A tick is its clock, and where that has run out one choice with the active server late. Somebody is chosen exactly where another is
+-- agreed, so the change is the definition's; else the choice stays and no activation begins. An unsound state changes nothing.
 use mathlib.Core.Path.{_≡_, refl, sym, ap, _∙_, subst}
 use mathlib.Core.Bool.{Bool, true, false, not, cond, false≢true}
 use mathlib.Core.List.{List, []}
@@ -25,7 +25,7 @@ use Rattle.exporter.proofs.SoundFacts.{active-same, sound-facts}
 use Rattle.exporter.proofs.Choice.{choice, late-phase, other-chosen}
 use Rattle.exporter.proofs.Changes.{step-refused, step-done}
 
--- ---- the choice made once more
+-- ---- the choice made anew
 
 -- where the active server is the one to be chosen, nothing changes
 settle-kept : (p : Settings) (d : Delivery) (due : Bool) → d .active ≡ chosen p d

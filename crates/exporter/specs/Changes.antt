@@ -57,7 +57,7 @@ pub record SendFacts (s : State) (store : List ℕ) : Type 0 where
 
 -- ---- calls that change a state's delivery and S
 
--- The change of an accepted call: the choice made once more.
+-- The change of an accepted call: the choice made anew.
 abbrev pub settledChange : Settings → Delivery → Bool → ℕ → Change
 settledChange p d due written = record { answer = done; written = written; delivery = settle p d; due = changed p d || due }
 

@@ -16,7 +16,7 @@ use Rattle.exporter.specs.declared.state.Active.the-variants as active
 use Rattle.exporter.specs.declared.state.Settings.{Settings}
 use Rattle.exporter.specs.declared.state.Delivery.{Delivery}
 
--- ---- phases
+-- ---- phases: server states of 01
 
 -- A server in a phase.
 abbrev pub server : Phase → Server
@@ -66,7 +66,7 @@ restarted Offered = Started
 restarted Agreed = Started
 restarted Late = Started
 
--- The same of a server.
+-- A server after START NEGOTIATE.
 abbrev pub restart : Server → Server
 restart s = server (restarted (s .phase))
 

@@ -29,7 +29,7 @@ use Rattle.exporter.specs.declared.state.Made.{Made}
 use Rattle.exporter.specs.declared.state.Stepped.{Stepped}
 use Rattle.exporter.specs.declared.state.Wrote.{Wrote}
 
--- ---- sequence numbers
+-- ---- sequence numbers (01, "Exporter")
 
 -- How many sequence numbers there are.
 abbrev pub modulus : ℕ → ℕ
@@ -60,7 +60,7 @@ ackCountBy w next count dsn = (dsn + (modulus w - firstHeldBy w next count) + 1)
 unfoldable pub ackCount : ℕ → State → ℕ → ℕ
 ackCount w s dsn = ackCountBy w (s .next) (s .queue .count) dsn
 
--- ---- calls, by what they mean
+-- ---- calls, by what they mean (01, "Messages")
 
 -- Put of a record under a template ID; next data; tick; a DATA ACK from a server, of a DSN and a Configuration ID; a transition of a
 -- server.
@@ -85,8 +85,7 @@ formAnswer p m =
     ∷ (bodyLengthWrong when not (bodyFits (messageNumber m) (length m - headerOctets)))
     ∷ []))
 
--- The call that a message from server v makes, by its meaning; `received` asks this only of messages
--- that receive accepts.
+-- The call that a message from server v makes, by its meaning; `received` asks this only of messages that receive accepts.
 unfoldable pub callOfMessage : ℕ → Message → Call
 callOfMessage v (Start s) = move v start
 callOfMessage v (StartAck s boot) = move v (malformed messageNotAccepted)
@@ -103,7 +102,7 @@ callOfMessage v (DataAck s dsn config) = ack v dsn config
 unfoldable pub received : Settings → ℕ → List ℕ → Call
 received p v m = cond (eqb (formAnswer p m) done) (callOfMessage v (meaningOf m)) (move v (malformed (formAnswer p m)))
 
--- ---- what is written
+-- ---- what is written (01, "Messages" and "Exporter")
 
 -- D: the record was sent to a server other than the active one.
 abbrev pub isDuplicate : Settings → Active → ℕ → Bool
@@ -141,7 +140,7 @@ written w table tick s store = []
 written w table (ack v dsn config) s store = []
 written w table (move v m) s store = replyTo (s .settings) table m
 
--- ---- refusals
+-- ---- refusals (01, "Answer numbers")
 
 -- A lent table is the session's.
 abbrev pub isSessions : Settings → List ℕ → Bool
@@ -172,7 +171,7 @@ replyChecks p table room down = []
 replyChecks p table room (agree config) = []
 replyChecks p table room (malformed a) = []
 
--- All of them.
+-- All refusals of a transition after 1 and 2.
 abbrev pub transitionChecks : Settings → List ℕ → ℕ → Transition → Phase → List Check
 transitionChecks p table room t phase = turnChecks p table t phase ++ replyChecks p table room t
 
@@ -228,7 +227,7 @@ soundFor (move v m) s store = sound s
 unfoldable pub answer : ℕ → List ℕ → ℕ → Call → State → List ℕ → ℕ
 answer w table room c s store = judge ((unsoundState when not (soundFor c s store)) ∷ checks w table room c s store)
 
--- ---- what an accepted call leaves
+-- ---- what an accepted call leaves (01, "Exporter")
 
 -- A state with this delivery and S due or not.
 abbrev pub withDue : State → Delivery → Bool → State
@@ -291,9 +290,9 @@ storeAfter tick s store = store
 storeAfter (ack v dsn config) s store = store
 storeAfter (move v m) s store = store
 
--- ---- the step
+-- ---- the step (01, "Answer numbers")
 
--- What a call answers and leaves, and the octets that it writes.
+-- What a call answers and leaves, and the octets that it writes. The store is [] where none was lent.
 pub record Outcome : Type 0 where
   pub answer : ℕ
   pub state : State
@@ -308,22 +307,27 @@ step w table room c s store =
     (record { answer = done; state = settled (after w c s); store = storeAfter c s store; written = written w table c s store })
     (record { answer = a; state = s; store = store; written = [] })
 
--- The six calls, each given what it is lent.
+-- Put of a record under a template ID, lent the store and a table.
 abbrev pub putStep : ℕ → State → List ℕ → List ℕ → ℕ → List ℕ → Outcome
 putStep w s store table id r = step w table 0 (put id r) s store
 
+-- Next data, lent the store and an output.
 abbrev pub nextDataStep : ℕ → State → List ℕ → List ℕ → Outcome
 nextDataStep w s store out = step w [] (length out) nextData s store
 
+-- A message from server v, lent an output; it sees no table and no store.
 abbrev pub receiveStep : ℕ → State → ℕ → List ℕ → List ℕ → Outcome
 receiveStep w s v m out = step w [] (length out) (received (s .settings) v m) s []
 
+-- An offer of the lent table to server v, lent an output.
 abbrev pub offerStep : ℕ → State → ℕ → List ℕ → List ℕ → Outcome
 offerStep w s v table out = step w table (length out) (move v offer) s []
 
+-- The line to server v is down: nothing is lent.
 abbrev pub lineDownStep : ℕ → State → ℕ → Outcome
 lineDownStep w s v = step w [] 0 (move v down) s []
 
+-- One tick: nothing is lent.
 abbrev pub tickStep : ℕ → State → Outcome
 tickStep w s = step w [] 0 tick s []
 
@@ -331,14 +335,15 @@ tickStep w s = step w [] 0 tick s []
 abbrev pub outputAfter : List ℕ → Outcome → List ℕ
 outputAfter out o = sets out 0 (o .written)
 
--- What the code hands back of an outcome.
+-- What a call hands back that writes no message.
 abbrev pub steppedOf : Outcome → Stepped
 steppedOf o = record { answer = o .answer; state = o .state }
 
+-- What a call hands back that may write one: also how many octets it wrote.
 abbrev pub wroteOf : Outcome → Wrote
 wroteOf o = record { answer = o .answer; written = length (o .written); state = o .state }
 
--- ---- set-up
+-- ---- set-up (01, "Exporter")
 
 -- A state that holds nothing: every server closed, all counters 0, S due, and the first record to take the initial DSN.
 unfoldable pub fresh : Settings → ℕ → State

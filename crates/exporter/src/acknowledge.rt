@@ -20,11 +20,17 @@ use octets::Answer;
 
 // A DATA ACK's answer, how many records it releases, and what it leaves of the ring's start and of the delivery's counters.
 pub(crate) struct AckChange {
+    // 0, or the number of the refusal
     pub answer: u8,
+    // how many records are released; 0 after a refusal
     pub released: usize,
+    // where the first record left begins in the store
     pub start: usize,
+    // the place of the next record to send
     pub sent: usize,
+    // how many records were reached
     pub reached: usize,
+    // the timer's ticks
     pub timer: u16,
 }
 
@@ -167,7 +173,7 @@ fn queue_after(q: Queue, n: usize) -> Queue
     release_queue(q.count, &lengths, &templates, &receivers, n)
 }
 
-// A DATA ACK from server v: 1, 2, 9, 10 or 11.
+// A DATA ACK from server v. Refused with 1, 2, 9, 10 or 11.
 pub(crate) fn acknowledge(s: State, v: u8, dsn: u32, config: u8) -> Wrote
     ensures { λ r. ⌜ r ≡ wroteOf (step 32 [] 0 (ack v dsn config) s []) ⌝ }
 {

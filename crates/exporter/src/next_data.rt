@@ -26,12 +26,19 @@ use wire::message::Written;
 // A sending's answer, how many octets it wrote, the place of its record with the set of servers that this was sent to, and what it leaves
 // of the delivery's counters and S.
 pub(crate) struct Sending {
+    // 0, or the number of the refusal
     pub answer: u8,
+    // how many octets were written
     pub written: usize,
+    // which entry of the sets is stored, below 64; 0 after a refusal
     pub place: usize,
+    // the set of servers that stands there
     pub set: u16,
+    // the place of the next record to send
     pub sent: usize,
+    // how many records were reached
     pub reached: usize,
+    // whether S is due
     pub due: bool,
 }
 

@@ -21,12 +21,19 @@ use wire::message::MAX_RECORD_OCTETS;
 
 // A put's answer, the place of its entries and what stands there, and what it leaves of the count and the next DSN.
 pub(crate) struct Putting {
+    // 0, or the number of the refusal
     pub answer: u8,
+    // which entry of each array is stored, below 64; 0 after a refusal
     pub place: usize,
+    // the length that stands there
     pub len: u16,
+    // the template ID that stands there
     pub template: u16,
+    // the set of servers that stands there
     pub set: u16,
+    // how many records are then held
     pub count: usize,
+    // the DSN that the next record put will take
     pub next: u32,
 }
 

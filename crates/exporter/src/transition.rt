@@ -179,7 +179,7 @@ fn move_change<'a>(
     }
 }
 
-// A transition of server v: 1, 2, then its own refusals, then 12 where its message does not fit the output.
+// A transition of server v. Refused with 1, 2, then by its own refusals, then with 12 where its message does not fit the output.
 pub(crate) fn move_server(s: State, v: u8, m: Move, table: &[u8], out: &mut [u8]) -> Wrote
     ensures { λ r. ⌜
         (let o = step 32 (now (table .entry)) (length (now (out .entry))) (move v (transitionOf m)) s [] in

@@ -1,5 +1,5 @@
--- `accept_ack` meets its contract by its calls: the counters are the delivery's after the release, and the start is where the first record
--- left begins. Assumes nothing.
+-- `accept_ack` meets its contract by its two calls. The counters are those of the delivery after the release, and the ring's start is where
+-- the first record left begins. What the calls require is what this function requires.
 use borrow.Author.Needs.{needs}
 use Rattle.exporter.proofs.acknowledge.accept_ack.Statement.{statement}
 use Rattle.exporter.proofs.acknowledge.accept_ack.Tie as tie

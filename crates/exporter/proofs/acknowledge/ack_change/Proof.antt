@@ -1,4 +1,5 @@
--- `ack_change` meets its contract: by the state, then by the refusals of an acknowledgement. Assumes nothing.
+-- `ack_change` meets its contract. An unsound state and a refused acknowledgement change nothing; else the records that the DSN names are
+-- released. These are at most those reached, so the lengths of what is released lie within the store.
 use mathlib.Core.List.{[]}
 use mathlib.Core.Path.{sym, _∙_}
 use native.Mathlib.Omega.{arith}

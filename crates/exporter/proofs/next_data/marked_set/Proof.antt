@@ -1,4 +1,5 @@
--- `marked_set` meets its contract, by whether somebody is active. Assumes nothing.
+-- `marked_set` meets its contract. While nobody is active the set stays; else the active server's bit is set, and its number is below 8, as
+-- the call requires.
 use mathlib.Core.Path.{subst}
 use Rattle.exporter.specs.Limits.{maxServers}
 use Rattle.exporter.specs.Changes.{Below}

@@ -1,4 +1,5 @@
--- `next_change` meets its contract: what is refused before the output is looked at changes nothing, and the rest is sent. Assumes nothing.
+-- `next_change` meets its contract. What is refused before the output is looked at (1, 13, 14) is refused by the definition with the same
+-- number and changes nothing. Else there is a record to send and somebody to send it to, which is what `send` requires.
 use Rattle.exporter.proofs.Sends.{send-facts, sending-kept}
 use Rattle.exporter.specs.Changes.{stateOf}
 use borrow.Author.Needs.{needs}

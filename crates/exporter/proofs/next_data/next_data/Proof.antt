@@ -1,5 +1,5 @@
--- `next_data` meets its contract: what sending changes by parts is stored into the state once. A refusal stores what was there.
--- Assumes nothing.
+-- `next_data` meets its contract. What sending changes was computed of the parts of the state, and is stored into the state once. The one
+-- entry that is stored lies below 64, and a refusal stores what was there.
 use native.Mathlib.Omega.{arith}
 use Rattle.exporter.proofs.Sends.{sending-inside, sent-applied}
 use borrow.Author.Needs.{needs}

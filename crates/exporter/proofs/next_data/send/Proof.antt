@@ -1,4 +1,5 @@
--- `send` meets its contract: the record is where its place is, and only a message that was written changes anything. Assumes nothing.
+-- `send` meets its contract. In a sound state the record's place and length lie within the store, so the message is the one that the
+-- definition writes. It is refused by the output's length alone; only a message that was written changes anything.
 use native.Mathlib.Omega.{arith}
 use Prim.Native.Nat.{_+_, _≤_}
 use native.Mathlib.Nat.{mod-lt}

@@ -1,5 +1,5 @@
--- `put` meets its contract: what putting changes by parts is stored into the arrays and the counters once. A refusal stores what was there.
--- Assumes nothing.
+-- `put` meets its contract. What putting changes was computed of the parts of the state, and is stored into the arrays and counters once.
+-- The entries that are stored lie below 64, and a refusal stores what was there.
 use native.Mathlib.Omega.{arith}
 use Rattle.exporter.proofs.Puts.{putting-inside, put-applied}
 use borrow.Author.Needs.{needs}

@@ -1,5 +1,5 @@
--- `put_answer` meets its contract: each return follows from the tests on the way to it, and the room is judged behind the record.
--- Assumes nothing.
+-- `put_answer` meets its contract. The state is judged first, then the record, then the room. A refusal of the record is that of the whole
+-- list, and where there is none the room decides (laws `refused-first` and `passed-first`).
 use mathlib.Core.List.{[]}
 use borrow.Author.Tests.{eq-eqb, ne-eqb}
 use Rattle.exporter.specs.Changes.{stateOf}

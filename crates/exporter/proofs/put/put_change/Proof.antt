@@ -1,5 +1,5 @@
--- `put_change` meets its contract: a refusal changes nothing, and a record that can be put fills the first unused entries, with its octets
--- after the held ones in the store. Assumes nothing.
+-- `put_change` meets its contract. A refusal changes nothing. A record that can be put finds fewer than 64 held and has at most 1,024
+-- octets, so every sum fits; it fills the first unused entries, and its octets follow the held ones.
 use native.Mathlib.Omega.{arith}
 use Rattle.exporter.specs.Changes.{stateOf}
 use Rattle.exporter.proofs.SoundFacts.{sound-facts}

@@ -1,4 +1,5 @@
--- `entries_sound` meets its contract. The loop's invariant: ok says whether the entries passed are in their limits. Assumes nothing.
+-- `entries_sound` meets its contract. The loop's invariant: ok says whether the entries passed are in their limits. A turn adds the next
+-- entry's test, and the bound is the power of 2 that the definition compares with.
 use mathlib.Core.Path.{_≡_, refl}
 use native.Mathlib.Omega.{arith}
 use Prim.Native.Nat.{_-_, _≤_}

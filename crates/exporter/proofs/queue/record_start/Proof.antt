@@ -1,4 +1,5 @@
--- `record_start` meets its contract: the sum is the place, or one length of the store past it. Assumes nothing.
+-- `record_start` meets its contract. Start and sum are each at most the store's length, so their sum is the place or one length of the
+-- store past it. Taking that away once is the remainder.
 use mathlib.Core.Path.{sym}
 use native.Mathlib.Omega.{arith}
 use native.Mathlib.Nat.{mod-eq-of-lt}

@@ -1,5 +1,5 @@
--- `restart_servers` meets its contract. The loop's invariant: the first i servers are restarted, and the others are as they were.
--- Assumes nothing.
+-- `restart_servers` meets its contract. The loop's invariant: the first i servers are restarted, and the others are as they were. After the
+-- last one the array is the definition's `map`.
 use mathlib.Core.Path.{_≡_, refl, _∙_}
 use mathlib.Core.List.{_++_, map}
 use Prim.Native.Nat.{_≤_, _-_}

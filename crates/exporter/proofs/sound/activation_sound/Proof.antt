@@ -1,4 +1,5 @@
--- `activation_sound` meets its contract, by whether somebody is active. Assumes nothing.
+-- `activation_sound` meets its contract, by whether somebody is active. With nobody active the three counters are tested; else each record
+-- reached was sent to the active server, whose number is below 8.
 use mathlib.Core.Path.{subst}
 use native.Mathlib.Omega.{arith}
 use Rattle.exporter.specs.Limits.{maxServers}

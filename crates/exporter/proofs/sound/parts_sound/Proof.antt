@@ -1,5 +1,5 @@
--- `parts_sound` meets its contract: each return follows from the tests on the way to it, and what the later calls require from the
--- numbers' facts. Assumes nothing.
+-- `parts_sound` meets its contract. It tests the clauses of `sound` in their order, and one clause that fails makes the state unsound. What
+-- the later calls require follows from the numbers, which are tested first.
 use mathlib.Core.Path.{sym, _∙_}
 use native.Mathlib.Omega.{arith}
 use borrow.Author.Tests.{not-true, not-false, le-leb, lt-leb}

@@ -1,4 +1,5 @@
--- `move_change` meets its contract, refusal by refusal; where a reply is written, what is left follows from it. Assumes nothing.
+-- `move_change` meets its contract, refusal by refusal: 1, 2, the transition's own, and 12 where its message does not fit. What is refused
+-- changes nothing. Else the message that was written is the definition's, and the choice is made anew.
 use mathlib.Core.List.{[]}
 use mathlib.Core.Path.{_∙_}
 use mathlib.Core.Bool.{true, false}

@@ -1,4 +1,5 @@
--- `move_server` meets its contract: what the transition changes by parts is applied to the state. Assumes nothing.
+-- `move_server` meets its contract. What the transition changes was computed of the parts that soundness looks at; by the law `moved-
+-- applied` it is what the transition of the whole state changes.
 use lib.ListN.{length}
 use Rattle.exporter.specs.Moves.{transitionOf}
 use Rattle.exporter.proofs.Changes.{moved-applied}
