@@ -1,4 +1,6 @@
--- Acknowledgements: how many records a DSN names, what a DATA ACK is judged by, and what it changes of a state. Assumes nothing.
+-- The DSN minus the first held one plus 1 is computed by two subtractions that wrap; the first law says that the remainders agree. An
+-- accepted acknowledgement keeps servers and choice, so what it leaves by parts is what the step leaves. A refused one releases no record
+-- and changes nothing.
 use mathlib.Core.Path.{_≡_, refl, sym, ap, _∙_}
 use mathlib.Core.Bool.{Bool, true, false, cond}
 use mathlib.Core.List.{List, [], append-nil}
@@ -13,14 +15,15 @@ use Rattle.exporter.specs.Servers.{chosen, withCounts, acknowledged}
 use Rattle.exporter.specs.Queue.{octetsTo, shifted, dropFront}
 use Rattle.exporter.specs.Sound.{sound}
 use Rattle.exporter.specs.Steps.{ackCount, ack, checks, answer, after, settled, written, step, wroteOf, outputAfter, ackCountBy, ackChecks}
-use Rattle.exporter.specs.Moves.{withNext, ackChangeOf, releasedFrom}
+use Rattle.exporter.specs.Changes.{stateOf}
+use Rattle.exporter.specs.Moves.{ackChangeOf}
 use Rattle.exporter.specs.declared.acknowledge.AckChange.{AckChange}
 use Rattle.exporter.specs.declared.state.Queue.{Queue}
 use Rattle.exporter.specs.declared.state.Settings.{Settings}
 use Rattle.exporter.specs.declared.state.Delivery.{Delivery}
 use Rattle.exporter.specs.declared.state.State.{State}
 use Rattle.exporter.specs.declared.state.Wrote.{Wrote}
-use Rattle.exporter.proofs.SoundFacts.{sound-facts, parts-of}
+use Rattle.exporter.proofs.SoundFacts.{sound-facts}
 use Rattle.exporter.proofs.Changes.{partsIn, settled-same, step-refused, step-done}
 
 -- ---- numbers that wrap at m
@@ -72,17 +75,25 @@ acked-counts d n = go (eqb n 0)
 
 -- ---- the answer, and the change
 
--- soundness does not look at the next DSN
-pub sound-next : (s : State) (next : ℕ) → sound (withNext s next) ≡ sound s
-unfolding sound
-sound-next s next = refl
+-- the state with such a change
+abbrev releasedFrom : State → AckChange → State
+releasedFrom s c =
+    record {
+      settings = s .settings;
+      capacity = s .capacity;
+      delivery = withCounts (s .delivery) (c .sent) (c .reached) (c .timer);
+      due = s .due;
+      queue = dropFront (s .queue) (c .released);
+      start = c .start;
+      next = s .next;
+    }
 
 -- a DATA ACK that is not refused names records that the active server was sent
-pub ack-reached : (p : Settings) (d : Delivery) (v config n : ℕ) → judge (ackChecks p d v config n) ≡ done → n ≤ d .reached
-ack-reached p d v config n e = ltb-false (d .reached) n (passed (ackChecks p d v config n) tt e .1 .1 .1 .0)
+pub ack-reached : (p : Settings) (d : Delivery) (v config n a : ℕ) → a ≡ judge (ackChecks p d v config n) → a ≡ done → n ≤ d .reached
+ack-reached p d v config n a j e = ltb-false (d .reached) n (passed (ackChecks p d v config n) tt (sym j ∙ e) .1 .1 .1 .0)
 
 -- how many records a DSN names of a state
-abbrev pub namedIn : ℕ → State → ℕ → ℕ
+abbrev namedIn : ℕ → State → ℕ → ℕ
 namedIn w s dsn = ackCountBy w (s .next) (s .queue .count) dsn
 
 module _ (w v dsn config : ℕ) (s : State) where
@@ -93,6 +104,9 @@ module _ (w v dsn config : ℕ) (s : State) where
   pub ack-judged : sound s ≡ true → answer w [] 0 (ack v dsn config) s [] ≡ judge (ackChecks (s .settings) (s .delivery) v config (namedIn w s dsn))
   unfolding answer checks ackCount
   ack-judged e = rw e
+
+  pub answered-ack : (a : ℕ) → sound s ≡ true → a ≡ judge (ackChecks (s .settings) (s .delivery) v config (namedIn w s dsn)) → answer w [] 0 (ack v dsn config) s [] ≡ a
+  answered-ack a e q = ack-judged e ∙ sym q
 
   pub refused-ack : (a : ℕ) (r : AckChange) → (a ≡ done → ⊥) → answer w [] 0 (ack v dsn config) s [] ≡ a
       → r ≡ record { answer = a; released = 0; start = s .start; sent = s .delivery .sent; reached = s .delivery .reached; timer = s .delivery .timer }
@@ -129,14 +143,23 @@ module _ (w v dsn config : ℕ) (s : State) where
   pub ack-held : answer w [] 0 (ack v dsn config) s [] ≡ done → (namedIn w s dsn ≤ s .queue .count) × (namedIn w s dsn ≤ 64)
   ack-held e =
       let f = sound-facts s (ack-sound e) .numbers in
-      let g = ack-reached (s .settings) (s .delivery) v config (namedIn w s dsn) (sym (ack-judged (ack-sound e)) ∙ e) in
+      let g = ack-reached (s .settings) (s .delivery) v config (namedIn w s dsn) done (sym e ∙ ack-judged (ack-sound e)) refl in
       omega arith
 
 -- ---- by parts
 
 -- the parts of a state that a DATA ACK looks at
-abbrev pub ackParts : State → State
-ackParts s = withNext (partsIn s) (s .next)
+abbrev ackParts : State → State
+ackParts s = stateOf (s .settings) (s .capacity) (s .delivery) (s .due) (s .queue .count) (s .queue .lengths) [] (s .queue .receivers) (s .start) (s .next)
+
+-- soundness looks at neither the template IDs nor the next DSN
+pub ack-sound-parts : (s : State) → sound (partsIn s) ≡ sound (ackParts s)
+unfolding sound
+ack-sound-parts s = refl
+
+ack-parts-sound : (s : State) → sound (ackParts s) ≡ sound s
+unfolding sound
+ack-parts-sound s = refl
 
 module _ (w v dsn config : ℕ) (s : State) where
   ack-same : answer w [] 0 (ack v dsn config) (ackParts s) [] ≡ answer w [] 0 (ack v dsn config) s []
@@ -182,7 +205,7 @@ module _ (w v dsn config : ℕ) (s : State) where
           rw (
             step-done w [] 0 (ack v dsn config) (ackParts s) [] (ack-same ∙ e),
             step-done w [] 0 (ack v dsn config) s [] e,
-            ack-settled w v dsn config (ackParts s) (sound-next (partsIn s) (s .next) ∙ parts-of s ∙ k),
+            ack-settled w v dsn config (ackParts s) (ack-parts-sound s ∙ k),
             ack-settled w v dsn config s k,
             acked-counts (s .delivery) (namedIn w s dsn),
           )

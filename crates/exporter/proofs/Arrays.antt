@@ -1,4 +1,5 @@
--- Laws of the queue's arrays: sums of lengths, sets of servers, entries moved to the front. Assumes nothing.
+-- Laws of the queue's arrays, by induction over lists and places: sums of lengths, sets of servers as bits, entries moved to the front.
+-- Each law of a loop says what one more turn adds.
 use mathlib.Core.Path.{_≡_, refl, sym, ap, _∙_}
 use mathlib.Core.Bool.{true, false, not, _&&_, _||_}
 use mathlib.Core.List.{List, [], _∷_, _++_, map, append-nil}

@@ -1,5 +1,5 @@
--- Calls that change only a state's delivery and S: what they do to a state is what they do to the parts that soundness looks at, applied
--- to that state. Assumes nothing.
+-- Transitions change only a state's delivery and S, and look at no template ID and no next DSN. So what they do to a state is what they do
+-- to the parts that soundness looks at, applied to that state. The first laws say what a refused and an accepted step is.
 use mathlib.Core.Path.{_≡_, refl, ap, _∙_}
 use mathlib.Core.Bool.{Bool, true, false, cond, not}
 use mathlib.Core.List.{List, []}
@@ -10,9 +10,9 @@ use lib.ListN.{length}
 use lib.Seq.{sets}
 use Rattle.octets.specs.Answers.{judge, done, unsoundState, noSuchServer}
 use Rattle.exporter.specs.Servers.{chosen, settle, changed, phaseAt, withServers, Transition, transition}
-use Rattle.exporter.specs.Sound.{sound, partsOf}
+use Rattle.exporter.specs.Sound.{sound}
 use Rattle.exporter.specs.Steps.{Outcome, Call, step, answer, checks, after, settled, storeAfter, written, move, replyTo, transitionChecks, outputAfter, wroteOf}
-use Rattle.exporter.specs.Changes.{changeOf, appliedTo, settledChange, refusedChange}
+use Rattle.exporter.specs.Changes.{stateOf, changeOf, appliedTo, settledChange, refusedChange}
 use Rattle.exporter.specs.declared.change.Change.{Change}
 use Rattle.exporter.specs.declared.state.State.{State}
 use Rattle.exporter.specs.declared.state.Wrote.{Wrote}
@@ -20,7 +20,7 @@ use Rattle.exporter.proofs.SoundFacts.{active-same, parts-of}
 
 -- the parts of a state that soundness looks at
 abbrev pub partsIn : State → State
-partsIn s = partsOf (s .settings) (s .capacity) (s .delivery) (s .due) (s .queue .count) (s .queue .lengths) (s .queue .receivers) (s .start)
+partsIn s = stateOf (s .settings) (s .capacity) (s .delivery) (s .due) (s .queue .count) (s .queue .lengths) [] (s .queue .receivers) (s .start) 0
 
 -- where the active server is the one to be chosen, choosing changes nothing
 pub settled-same : (s : State) → s .delivery .active ≡ chosen (s .settings) (s .delivery) → settled s ≡ s
@@ -68,7 +68,7 @@ module _ (w : ℕ) (table : List ℕ) (room v : ℕ) (t : Transition) (s : State
       (record { answer = done; state = settled (after w (move v t) s); store = []; written = replyTo (s .settings) table t })
       (record { answer = a; state = s; store = []; written = [] })
 
-  pub move-parts : _≡_ {A = Wrote}
+  move-parts : _≡_ {A = Wrote}
       (record {
         answer = changeOf (step w table room (move v t) (partsIn s) []) .answer;
         written = changeOf (step w table room (move v t) (partsIn s) []) .written;
@@ -88,13 +88,21 @@ module _ (w : ℕ) (table : List ℕ) (room v : ℕ) (t : Transition) (s : State
       go a true = refl
       go a false = refl
 
-  pub move-output : (out : List ℕ) → outputAfter out (step w table room (move v t) (partsIn s) []) ≡ outputAfter out (step w table room (move v t) s [])
+  move-output : (out : List ℕ) → outputAfter out (step w table room (move v t) (partsIn s) []) ≡ outputAfter out (step w table room (move v t) s [])
   unfolding step written storeAfter outcome
   move-output out = rw move-same (go (answer w table room (move v t) s []) (eqb (answer w table room (move v t) s []) done))
     where
       go : (a : ℕ) (b : Bool) → outputAfter out (outcome (partsIn s) a b) ≡ outputAfter out (outcome s a b)
       go a true = refl
       go a false = refl
+
+  -- what a transition changes by parts, applied to the state
+  pub moved-applied : (out left : List ℕ) (x : Change) (s′ : State)
+      → (x ≡ changeOf (step w table room (move v t) (partsIn s) [])) × (left ≡ outputAfter out (step w table room (move v t) (partsIn s) []))
+      → s′ ≡ appliedTo s x
+      → _≡_ {A = Wrote} (record { answer = x .answer; written = x .written; state = s′ }) (wroteOf (step w table room (move v t) s []))
+      × (left ≡ outputAfter out (step w table room (move v t) s []))
+  moved-applied out left x s′ e k = (rw (k, e .0) move-parts, e .1 ∙ move-output out)
 
 -- ---- changes, and what they leave of an output
 

@@ -1,15 +1,17 @@
--- Laws of the choice of the active server. Assumes nothing.
+-- `choose` goes through the servers once and keeps the best so far. By induction that one is agreed, none has a higher priority, and none
+-- before it the same. The rest are corollaries, and the law that ties a tick's one choice to whether another server is agreed.
 use mathlib.Core.Path.{_≡_, refl, sym, ap, _∙_, subst}
-use mathlib.Core.Bool.{Bool, true, false, not, _&&_, cond, false≢true}
+use mathlib.Core.Bool.{Bool, true, false, not, _&&_, _||_, cond, false≢true}
 use mathlib.Core.List.{List, [], _∷_}
-use mathlib.Core.Logic.{_≢_}
 use Prim.Native.Nat.{ℕ, zero, suc, _≤_, _<_}
 use native.Mathlib.Decide.{ℕ-discrete}
 use native.Mathlib.Omega.{arith}
+use lib.Dec.{eqb, ltb}
 use lib.ListN.{getD, set, replicate}
 use lib.Seq.{getD-set-other}
-use borrow.Author.Tests.{ltb-true, ltb-false}
-use Rattle.exporter.specs.Servers.{server, phaseAt, isAgreed, beats, choose, Best, IsChoice, isNobody, lateServers, anotherAgreed, sameActive, chosen, changed, settle}
+use borrow.Author.Tests.{eq-eqb, ne-eqb, ltb-true, ltb-false}
+use Rattle.exporter.specs.Limits.{maxServers}
+use Rattle.exporter.specs.Servers.{server, phaseAt, isAgreed, beats, choose, Best, IsChoice, isNobody, otherAgreed, sameActive, chosen, changed, activated, settle}
 use Rattle.exporter.specs.Sound.{sound}
 use Rattle.exporter.specs.Changes.{Below}
 use Rattle.exporter.specs.declared.state.Phase.the-variants.{Closed, Late}
@@ -63,7 +65,7 @@ choice priorities servers (suc n) = go (choose priorities servers n) (choice pri
     go (Server v) h true p false q = more v h (λ x. ltb-false (getD priorities v 0) (getD priorities n 0) q)
 
 -- where none is agreed nobody is chosen; that none is agreed where nobody is chosen is a case of `choice`
-pub nobody-none : (priorities : List ℕ) (servers : List serverOf.Server) (n : ℕ) → ((u : ℕ) → u < n → isAgreed (phaseAt servers u) ≡ false)
+nobody-none : (priorities : List ℕ) (servers : List serverOf.Server) (n : ℕ) → ((u : ℕ) → u < n → isAgreed (phaseAt servers u) ≡ false)
     → choose priorities servers n ≡ Nobody
 nobody-none priorities servers n h = go (choose priorities servers n) refl (choice priorities servers n)
   where
@@ -75,46 +77,38 @@ nobody-none priorities servers n h = go (choose priorities servers n) refl (choi
 pub chosen-below : (priorities : List ℕ) (servers : List serverOf.Server) (n v : ℕ) → choose priorities servers n ≡ Server v → v < n
 chosen-below priorities servers n v e = subst (IsChoice priorities servers n) e (choice priorities servers n) .inside
 
--- with v late, v is not agreed, and every other server is as it was
-pub late-agreed : (servers : List serverOf.Server) (v u : ℕ) → isAgreed (phaseAt (set servers v (server Late)) u) ≡ true
-    → (u ≢ v) × (isAgreed (phaseAt servers u) ≡ true)
-late-agreed servers v u e = go (ℕ-discrete u v)
+-- with v late, the others that were agreed are
+pub late-phase : (servers : List serverOf.Server) (v u : ℕ)
+    → isAgreed (phaseAt (set servers v (server Late)) u) ≡ not (eqb u v) && isAgreed (phaseAt servers u)
+late-phase servers v u = go (ℕ-discrete u v)
   where
     gone : (xs : List serverOf.Server) (k : ℕ) → isAgreed (phaseAt (set xs k (server Late)) k) ≡ false
     gone [] k = refl
     gone (x ∷ xs) zero = refl
     gone (x ∷ xs) (suc k) = gone xs k
 
-    go : Dec (u ≡ v) → (u ≢ v) × (isAgreed (phaseAt servers u) ≡ true)
-    go (yes q) = absurd (false≢true (sym (gone servers v) ∙ ap (λ (i : ℕ). isAgreed (phaseAt (set servers v (server Late)) i)) (sym q) ∙ e))
+    go : Dec (u ≡ v) → isAgreed (phaseAt (set servers v (server Late)) u) ≡ not (eqb u v) && isAgreed (phaseAt servers u)
+    go (yes q) = rw (eq-eqb u v q, q) (gone servers v)
     go (no n) =
-        (n, ap (λ (x : serverOf.Server). isAgreed (x .phase)) (sym (getD-set-other servers v u (server Late) (server Closed) n)) ∙ e)
+        rw (ne-eqb u v n) (ap (λ (x : serverOf.Server). isAgreed (x .phase)) (getD-set-other servers v u (server Late) (server Closed) n))
 
--- where a tick takes another server to be agreed, one is
-pub another : (p : Settings) (v : ℕ) (d : Delivery) → anotherAgreed p v d ≡ true
-    → (u : ℕ) × ((u < p .servers) × ((u ≢ v) × (isAgreed (phaseAt (d .servers) u) ≡ true)))
-another p v d e = go (choose (p .priorities) late (p .servers)) (choice (p .priorities) late (p .servers)) e
+-- with v late somebody is chosen exactly where another is agreed
+pub other-chosen : (priorities : List ℕ) (servers : List serverOf.Server) (v n : ℕ)
+    → not (isNobody (choose priorities (set servers v (server Late)) n)) ≡ otherAgreed servers v n
+unfolding choose otherAgreed
+other-chosen priorities servers v zero = refl
+other-chosen priorities servers v (suc n) =
+    rw (late-phase servers v n, ← other-chosen priorities servers v n)
+    (go (not (eqb n v) && isAgreed (phaseAt servers n)) (choose priorities (set servers v (server Late)) n))
   where
-    late : List serverOf.Server
-    late = lateServers d v
+    one : (b : ℕ) (t : Bool) → not (isNobody (cond t (Server n) (Server b))) ≡ true
+    one b true = refl
+    one b false = refl
 
-    go : (a : Active) → IsChoice (p .priorities) late (p .servers) a → not (isNobody a) ≡ true
-        → (u : ℕ) × ((u < p .servers) × ((u ≢ v) × (isAgreed (phaseAt (d .servers) u) ≡ true)))
-    go Nobody k q = absurd (false≢true q)
-    go (Server u) k q = (u, (k .inside, late-agreed (d .servers) v u (k .agreed)))
-
--- where it takes none to be, none is
-pub no-other : (p : Settings) (v : ℕ) (d : Delivery) → anotherAgreed p v d ≡ false
-    → (u : ℕ) → u < p .servers → u ≢ v → isAgreed (phaseAt (d .servers) u) ≡ false
-no-other p v d e u l n = go (choose (p .priorities) late (p .servers)) (choice (p .priorities) late (p .servers)) e
-  where
-    late : List serverOf.Server
-    late = lateServers d v
-
-    go : (a : Active) → IsChoice (p .priorities) late (p .servers) a → not (isNobody a) ≡ false → isAgreed (phaseAt (d .servers) u) ≡ false
-    go Nobody k q =
-        ap (λ (x : serverOf.Server). isAgreed (x .phase)) (sym (getD-set-other (d .servers) v u (server Late) (server Closed) n)) ∙ k u l
-    go (Server w) k q = absurd (false≢true (sym q))
+    go : (g : Bool) (a : Active) → not (isNobody (cond (g && beats priorities n a) (Server n) a)) ≡ g || not (isNobody a)
+    go false a = refl
+    go true Nobody = refl
+    go true (Server b) = one b (ltb (getD priorities b 0) (getD priorities n 0))
 
 -- after the choice is made anew it is the servers'
 pub settle-choice : (p : Settings) (d : Delivery) → settle p d .active ≡ chosen p (settle p d)
@@ -122,7 +116,7 @@ unfolding settle changed
 settle-choice p d = go (sameActive (chosen p d) (d .active)) refl
   where
     go : (b : Bool) → sameActive (chosen p d) (d .active) ≡ b
-        → let g = cond (not b) (record { servers = d .servers; active = chosen p d; sent = 0; reached = 0; timer = 0 }) d in g .active ≡ chosen p g
+        → let g = cond (not b) (activated d (chosen p d)) d in g .active ≡ chosen p g
     go true e = sym (same-active (chosen p d) (d .active) e)
     go false e = refl
 
@@ -135,14 +129,14 @@ all-closed priorities m n = nobody-none priorities (replicate m (server Closed))
     closed (suc m) zero = refl
     closed (suc m) (suc n) = closed m n
 
--- an active server that is chosen among at most eight is one of eight
-pub choice-below : (p : Settings) (d : Delivery) → d .active ≡ chosen p d → p .servers ≤ 8 → Below 8 (d .active)
-choice-below p d e l = go (d .active) refl
+-- an active server that is chosen among at most m is one of m
+pub choice-below : (p : Settings) (d : Delivery) (m : ℕ) → d .active ≡ chosen p d → p .servers ≤ m → Below m (d .active)
+choice-below p d m e l = go (d .active) refl
   where
-    go : (a : Active) → d .active ≡ a → Below 8 a
+    go : (a : Active) → d .active ≡ a → Below m a
     go Nobody k = tt
     go (Server v) k = omega (arith, chosen-below (p .priorities) (d .servers) (p .servers) v (sym e ∙ k))
 
--- a sound state's active server is one of eight
-pub active-below : (s : State) → sound s ≡ true → Below 8 (s .delivery .active)
-active-below s e = let f = sound-facts s e in choice-below (s .settings) (s .delivery) (f .choice) (f .numbers .settings .fewServers)
+-- a sound state's active server is one of those that an exporter has at most
+pub active-below : (s : State) → sound s ≡ true → Below maxServers (s .delivery .active)
+active-below s e = let f = sound-facts s e in choice-below (s .settings) (s .delivery) maxServers (f .choice) (f .numbers .settings .fewServers)

@@ -1,4 +1,5 @@
--- Transitions: their refusals but for the output's length, and the message that they write. Assumes nothing.
+-- The output's length is judged behind all other refusals of a transition, so it decides where those pass. A message that is written is
+-- placed whole, or the output stays as it was.
 use mathlib.Core.Path.{_≡_, refl, sym, ap, _∙_}
 use mathlib.Core.Bool.{Bool, true, false, cond, not, _&&_}
 use mathlib.Core.List.{List, [], _∷_, _++_}
@@ -63,15 +64,19 @@ module _ (p : Settings) (table : List ℕ) (room : ℕ) (phase : Phase) where
   turn-passed (malformed a) e = rw none-short e
 
 -- a transition that is not refused writes a sound table, if it writes one
-pub table-fits : (p : Settings) (table : List ℕ) (phase : Phase) (t : Transition) → judge (turnChecks p table t phase) ≡ done → tableFits t table ≡ true
-table-fits p table phase start e = refl
-table-fits p table phase stop e = refl
-table-fits p table phase negotiate e = refl
-table-fits p table phase offer e =
+table-passed : (p : Settings) (table : List ℕ) (phase : Phase) (t : Transition) → judge (turnChecks p table t phase) ≡ done → tableFits t table ≡ true
+table-passed p table phase start e = refl
+table-passed p table phase stop e = refl
+table-passed p table phase negotiate e = refl
+table-passed p table phase offer e =
     and-left (tableSound table) (eqb (configurationId table) (p .config)) (not-false (isSessions p table) (passed (turnChecks p table offer phase) tt e .0))
-table-fits p table phase down e = refl
-table-fits p table phase (agree config) e = refl
-table-fits p table phase (malformed a) e = refl
+table-passed p table phase down e = refl
+table-passed p table phase (agree config) e = refl
+table-passed p table phase (malformed a) e = refl
+
+-- the same, by what it was judged
+pub table-fits : (p : Settings) (table : List ℕ) (phase : Phase) (t : Transition) (a : ℕ) → a ≡ judge (turnChecks p table t phase) → a ≡ done → tableFits t table ≡ true
+table-fits p table phase t a j e = table-passed p table phase t (sym j ∙ e)
 
 -- ---- what is written
 

@@ -1,5 +1,5 @@
--- Laws of sequence numbers: places less than the modulus apart have different ones, and the place that a DATA ACK names is found.
--- Assumes nothing.
+-- Places less than the modulus apart have different sequence numbers, since their distance is no multiple of it. So of the 65 places from
+-- the released number on only one has a given DSN, and the search finds it.
 use mathlib.Core.Path.{_≡_, sym, ap, _∙_}
 use mathlib.Core.Logic.{_≢_}
 use mathlib.Core.Bool.{Bool, true, false, not, cond}

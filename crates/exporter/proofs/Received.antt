@@ -1,4 +1,5 @@
--- Received messages: the call that one makes, by what reading its header, and reading it alone, answer. Assumes nothing.
+-- Received messages: the call that one makes, by what reading its header, and reading it alone, answer. The form is judged in the order in
+-- which the code reads, so a refusal of the reading is that of `formAnswer`.
 use mathlib.Core.Path.{_≡_, refl, sym, ap, _∙_, subst}
 use mathlib.Core.Bool.{Bool, true, false, cond, not, _||_}
 use mathlib.Core.List.{List, [], _∷_}

@@ -1,4 +1,5 @@
--- Laws of writing to the ring: octets before what is written stay, and what is written is read. Assumes nothing.
+-- Writing to the ring goes octet by octet. An octet before what is written stays, because places less than a length apart are different; so
+-- what was held is read as before, and what is written is read back.
 use mathlib.Core.Path.{_≡_, refl, _∙_}
 use mathlib.Core.List.{List, [], _∷_}
 use Prim.Native.Nat.{ℕ, zero, suc, _+_, _%_, _≤_, _<_}

@@ -1,4 +1,5 @@
--- Laws of the ring: what is read where it does not wrap and where it wraps once, and what is left to write. Assumes nothing.
+-- Reading from the ring is splitting it: a octets and b octets behind them are a + b octets. So what does not reach past the end is one
+-- part of the store, and what does is two. Writing one octet leaves what is left to write one shorter.
 use mathlib.Core.Path.{_≡_, refl, sym, ap, _∙_}
 use mathlib.Core.List.{List, _∷_, _++_}
 use Prim.Native.Nat.{ℕ, zero, suc, _+_, _-_, _%_, _≤_, _<_}
@@ -12,7 +13,7 @@ use Rattle.exporter.specs.Queue.{ringRead, ringWrite}
 -- ---- reading
 
 -- a octets, and b octets behind them
-pub read-join : (room : ℕ) (st : List ℕ) (at a b : ℕ) → ringRead room st at (a + b) ≡ ringRead room st at a ++ ringRead room st (at + a) b
+read-join : (room : ℕ) (st : List ℕ) (at a b : ℕ) → ringRead room st at (a + b) ≡ ringRead room st at a ++ ringRead room st (at + a) b
 unfolding ringRead
 read-join room st at zero b = rw (zero-add, add-zero)
 read-join room st at (suc a) b =

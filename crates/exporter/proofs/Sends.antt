@@ -1,4 +1,5 @@
--- Laws of sending the next record. Assumes nothing.
+-- Where next data is not refused before the output is looked at, the record's place and length lie in the store. The message is then
+-- refused by the output's length alone. What is stored into the state is the step of the definition.
 use mathlib.Core.Path.{_≡_, refl, sym, ap, _∙_}
 use mathlib.Core.Bool.{Bool, true, false, cond, not, _&&_}
 use mathlib.Core.List.{List, [], _∷_}
@@ -9,7 +10,7 @@ use borrow.Author.Tests.{not-false, eq-eqb, ne-eqb, eqb-true, eqb-false, leb-fal
 use lib.Dec.{eqb, leb, ltb}
 use lib.ListN.{length, getD, set}
 use lib.Seq.{sets, set-getD}
-use Rattle.octets.specs.Answers.{Check, _when_, judge, done, unsoundState, outputTooShort, noActiveServer, nothingToSend}
+use Rattle.octets.specs.Answers.{Check, _when_, judge, done, unsoundState, outputTooShort}
 use Rattle.octets.proofs.Judging.{passed, judged-first}
 use Rattle.octets.proofs.Stores.{put-fits, put-short}
 use Rattle.wire.proofs.Each.{and-left, and-right}
@@ -18,17 +19,12 @@ use Rattle.wire.specs.declared.message.Message.the-variants.{Data}
 use Rattle.wire.specs.declared.message.DataHead.{DataHead}
 use Rattle.wire.specs.declared.message.Written.{Written}
 use Rattle.wire.specs.declared.message.Written.the-variants.{Octets, Refused}
-use Rattle.exporter.specs.Servers.{isNobody, sentOne}
-use Rattle.exporter.specs.Queue.{ringRead, recordAt, octetsTo, marked}
+use Rattle.exporter.specs.Servers.{withCounts, sentOne}
+use Rattle.exporter.specs.Queue.{ringRead, recordAt, octetsTo, markedSet, marked}
 use Rattle.exporter.specs.Sound.{sound}
-use Rattle.exporter.specs.Steps.{Outcome, headOf, markedFor, nextData, answer, checks, soundFor, after, settled, written, nextDataStep, wroteOf, outputAfter}
-use Rattle.exporter.specs.Changes.{SendFacts, stateOf, markedSet, sendingOf, withSent}
+use Rattle.exporter.specs.Steps.{Outcome, headOf, sendChecks, nextData, answer, checks, soundFor, after, settled, written, nextDataStep, wroteOf, outputAfter}
+use Rattle.exporter.specs.Changes.{SendFacts, stateOf, sendingOf}
 use Rattle.exporter.specs.declared.next_data.Sending.{Sending}
-use Rattle.exporter.specs.declared.state.Active.{Active}
-use Rattle.exporter.specs.declared.state.Active.the-variants.{Nobody, Server}
-use Rattle.exporter.specs.declared.state.Settings.{Settings}
-use Rattle.exporter.specs.declared.state.Delivery.{Delivery}
-use Rattle.exporter.specs.declared.state.Queue.{Queue}
 use Rattle.exporter.specs.declared.state.State.{State}
 use Rattle.exporter.specs.declared.state.Wrote.{Wrote}
 use Rattle.exporter.proofs.Rings.{read-same}
@@ -74,20 +70,16 @@ place-back at room l h =
 -- ---- the call
 
 -- what is judged before the room
-abbrev sendChecks : State → List ℕ → List Check
-sendChecks s store =
-    (unsoundState when not (sound (partsIn s) && eqb (length store) (s .capacity)))
-    ∷ (noActiveServer when isNobody (s .delivery .active))
-    ∷ (nothingToSend when leb (s .queue .count) (s .delivery .sent))
-    ∷ []
+abbrev earlyChecks : State → List ℕ → List Check
+earlyChecks s store =
+    (unsoundState when not (sound (partsIn s) && eqb (length store) (s .capacity))) ∷ sendChecks (s .delivery) (s .queue .count)
 
-abbrev pub sendAnswer : State → List ℕ → ℕ
-sendAnswer s store =
-    judge (sendChecks s store)
+abbrev sendAnswer : State → List ℕ → ℕ
+sendAnswer s store = judge (earlyChecks s store)
 
-pub send-facts : (s : State) (store : List ℕ) → sendAnswer s store ≡ 0 → SendFacts s store
-send-facts s store e =
-    let p = passed (sendChecks s store) tt e in
+pub send-facts : (s : State) (store : List ℕ) (a : ℕ) → a ≡ sendAnswer s store → a ≡ 0 → SendFacts s store
+send-facts s store a j e =
+    let p = passed (earlyChecks s store) tt (sym j ∙ e) in
     let both = not-false (sound (partsIn s) && eqb (length store) (s .capacity)) (p .0) in
     record {
       isSound = sym (parts-of s) ∙ and-left (sound (partsIn s)) _ both;
@@ -97,9 +89,9 @@ send-facts s store e =
     }
 
 -- a refusal before the room is judged is the call's
-pub send-refused : (s : State) (store out : List ℕ) → (sendAnswer s store ≡ 0 → ⊥) → sendAnswer s store ≡ answer 32 [] (length out) nextData s store
+send-refused : (s : State) (store out : List ℕ) → (sendAnswer s store ≡ 0 → ⊥) → sendAnswer s store ≡ answer 32 [] (length out) nextData s store
 unfolding answer checks
-send-refused s store out n = sym (judged-first (sendChecks s store) ((outputTooShort when ltb (length out) (length (written 32 [] nextData s store))) ∷ []) n) ∙ rw (parts-of s)
+send-refused s store out n = sym (judged-first (earlyChecks s store) ((outputTooShort when ltb (length out) (length (written 32 [] nextData s store))) ∷ []) n) ∙ rw (parts-of s)
 
 -- where there is a record to send and a server to send it to, only the output's room is judged
 answer-room : (s : State) (store out : List ℕ) → SendFacts s store
@@ -108,19 +100,31 @@ unfolding answer checks
 answer-room s store out f =
     rw (f .isSound, eq-eqb (length store) (s .capacity) (f .stored), f .some, lt-leb (s .queue .count) (s .delivery .sent) (f .more))
 
+-- the record to be sent is one of the first 64
+pub sent-few : (s : State) (store : List ℕ) → SendFacts s store → s .delivery .sent < 64
+sent-few s store f = omega (arith, f .more, sound-facts s (f .isSound) .numbers .few)
+
+-- what the head of the next DATA looks at: not the store's length, the lengths and the start
+abbrev headParts : State → State
+headParts s = stateOf (s .settings) 0 (s .delivery) (s .due) (s .queue .count) [] (s .queue .templates) (s .queue .receivers) 0 (s .next)
+
+head-parts : (s : State) → headOf 32 (headParts s) ≡ headOf 32 s
+unfolding headOf
+head-parts s = refl
+
 -- the octets of the next DATA, where the record is read from a place inside the store
-pub next-octets : (s : State) (store : List ℕ) (h : DataHead) (room at : ℕ) → h ≡ headOf 32 s → room ≡ s .capacity
+pub next-octets : (s : State) (store : List ℕ) (h : DataHead) (room at : ℕ) → h ≡ headOf 32 (headParts s) → room ≡ s .capacity
     → at ≡ (s .start + octetsTo (s .queue) (s .delivery .sent)) % s .capacity → s .start < s .capacity
     → layoutOf (Data h) (ringRead room store at (getD (s .queue .lengths) (s .delivery .sent) 0)) ≡ written 32 [] nextData s store
 unfolding written recordAt
 next-octets s store h room at e r a l =
-    rw (e, r)
+    rw (e, head-parts s, r)
     (ap (layoutOf (Data (headOf 32 s)))
     (read-same (s .capacity) store at _ (getD (s .queue .lengths) (s .delivery .sent) 0)
     (ap (λ (n : ℕ). n % s .capacity) a ∙ mod-mod (s .start + octetsTo (s .queue) (s .delivery .sent)) (s .capacity))))
 
 -- the message was written
-pub sent-done : (s : State) (store out after' octets : List ℕ) (r : Written) (n : ℕ) → SendFacts s store → octets ≡ written 32 [] nextData s store → r ≡ Octets n
+sent-done : (s : State) (store out after' octets : List ℕ) (r : Written) (n : ℕ) → SendFacts s store → octets ≡ written 32 [] nextData s store → r ≡ Octets n
     → Placed octets out r after'
     → _≡_ {A = Wrote} (record { answer = 0; written = n; state = settled (after 32 nextData s) }) (wroteOf (nextDataStep 32 s store out))
     × (after' ≡ outputAfter out (nextDataStep 32 s store out))
@@ -136,7 +140,7 @@ sent-done s store out after' octets r n f o q p = go (ltb (length out) (length o
         (rw (e, k, o), rw (e, ← o) (p .left ∙ put-fits out 0 octets (omega (arith, ltb-false (length out) (length octets) t))))
 
 -- it was not: the output is too short
-pub sent-refused : (s : State) (store out after' octets : List ℕ) (r : Written) (a : ℕ) → SendFacts s store → octets ≡ written 32 [] nextData s store → r ≡ Refused a
+sent-refused : (s : State) (store out after' octets : List ℕ) (r : Written) (a : ℕ) → SendFacts s store → octets ≡ written 32 [] nextData s store → r ≡ Refused a
     → Placed octets out r after'
     → _≡_ {A = Wrote} (record { answer = a; written = 0; state = s }) (wroteOf (nextDataStep 32 s store out))
     × (after' ≡ outputAfter out (nextDataStep 32 s store out))
@@ -168,14 +172,8 @@ sendingBy s r =
       due = r .state .due;
     }
 
--- the head does not depend on the store's length, the lengths and the start
-pub head-parts : (p : Settings) (capacity : ℕ) (d : Delivery) (due : Bool) (count : ℕ) (lengths templates receivers : List ℕ) (start next : ℕ)
-    → headOf 32 (stateOf p 0 d due count [] templates receivers 0 next) ≡ headOf 32 (stateOf p capacity d due count lengths templates receivers start next)
-unfolding headOf
-head-parts p capacity d due count lengths templates receivers start next = refl
-
 -- the change that a sending of n octets makes
-abbrev pub sentOctets : State → ℕ → Sending
+abbrev sentOctets : State → ℕ → Sending
 sentOctets s n =
     record {
       answer = done;
@@ -257,21 +255,27 @@ next-facts s store out e =
       more = leb-false (s .queue .count) (s .delivery .sent) (p .1 .1 .0);
     }
 
--- the entries after sending
-sent-entries : (a : Active) (q : Queue) (i : ℕ) → set (q .receivers) i (markedSet a (getD (q .receivers) i 0)) ≡ markedFor a q i .receivers
-unfolding marked
-sent-entries Nobody q i = set-getD (q .receivers) i 0
-sent-entries (Server v) q i = refl
-
-sent-queue : (a : Active) (q : Queue) (i : ℕ)
-    → _≡_ {A = Queue} (record { count = q .count; lengths = q .lengths; templates = q .templates; receivers = markedFor a q i .receivers }) (markedFor a q i)
-unfolding marked
-sent-queue Nobody q i = refl
-sent-queue (Server v) q i = refl
+-- the state with such a change
+abbrev withSent : State → Sending → State
+withSent s c =
+    record {
+      settings = s .settings;
+      capacity = s .capacity;
+      delivery = withCounts (s .delivery) (c .sent) (c .reached) (s .delivery .timer);
+      due = c .due;
+      queue = record {
+        count = s .queue .count;
+        lengths = s .queue .lengths;
+        templates = s .queue .templates;
+        receivers = set (s .queue .receivers) (c .place) (c .set);
+      };
+      start = s .start;
+      next = s .next;
+    }
 
 module _ (s : State) (store out : List ℕ) where
   -- an outcome's change is made to one of the 64 entries
-  pub sending-place : sendingOf s (nextDataStep 32 s store out) .place < 64
+  sending-place : sendingOf s (nextDataStep 32 s store out) .place < 64
   sending-place = go (eqb (answer 32 [] (length out) nextData s store) done) refl
     where
       go : (b : Bool) → eqb (answer 32 [] (length out) nextData s store) done ≡ b → sendingOf s (nextDataStep 32 s store out) .place < 64
@@ -282,15 +286,18 @@ module _ (s : State) (store out : List ℕ) where
           rw (step-done 32 [] (length out) nextData s store e) (omega (arith, f .more, n .few))
       go false q = rw (step-refused 32 [] (length out) nextData s store _ (eqb-false (answer 32 [] (length out) nextData s store) done q) refl, q) (omega arith)
 
+  pub sending-inside : (x : Sending) → x ≡ sendingOf s (nextDataStep 32 s store out) → x .place < 64
+  sending-inside x e = rw e sending-place
+
   -- the state with an outcome's change is the outcome's
-  pub sending-applied : _≡_ {A = Wrote}
+  sending-applied : _≡_ {A = Wrote}
       (record {
         answer = sendingOf s (nextDataStep 32 s store out) .answer;
         written = sendingOf s (nextDataStep 32 s store out) .written;
         state = withSent s (sendingOf s (nextDataStep 32 s store out));
       })
       (wroteOf (nextDataStep 32 s store out))
-  unfolding after sentOne
+  unfolding after sentOne marked
   sending-applied = go (eqb (answer 32 [] (length out) nextData s store) done) refl
     where
       applied : Outcome → Wrote
@@ -308,8 +315,6 @@ module _ (s : State) (store out : List ℕ) where
           rw (
             step-done 32 [] (length out) nextData s store e,
             settled-same (after 32 nextData s) (sound-facts s k .choice),
-            sent-entries (s .delivery .active) (s .queue) (s .delivery .sent),
-            sent-queue (s .delivery .active) (s .queue) (s .delivery .sent),
           )
       go false q =
           rw (
@@ -317,3 +322,7 @@ module _ (s : State) (store out : List ℕ) where
             q,
             set-getD (s .queue .receivers) 0 0,
           )
+
+  pub sent-applied : (x : Sending) → x ≡ sendingOf s (nextDataStep 32 s store out)
+      → _≡_ {A = Wrote} (record { answer = x .answer; written = x .written; state = withSent s x }) (wroteOf (nextDataStep 32 s store out))
+  sent-applied x e = rw e sending-applied

@@ -1,16 +1,19 @@
--- What the numbers of a sound state, and a sound state, are known by: each clause as a fact, and back. Assumes nothing.
+-- Soundness is a list of tests; each test that holds is a fact, and a state of which all the facts hold passes every test. One test that
+-- fails makes the state unsound. Soundness looks at no template ID and no next DSN.
 use mathlib.Core.Path.{_≡_, refl, sym, ap, _∙_}
 use mathlib.Core.Bool.{Bool, true, false, not, _&&_, _||_, false≢true}
 use mathlib.Core.List.{List, [], _∷_}
 use Prim.Native.Nat.{ℕ, zero, suc, _^_, _≤_, _<_}
 use lib.Dec.{eqb, leb, ltb}
 use lib.ListN.{getD}
-use borrow.Author.Tests.{leb-true, ltb-true, eqb-true, le-leb, lt-ltb, eq-eqb}
+use borrow.Author.Tests.{not-true, not-false, leb-true, ltb-true, eqb-true, le-leb, lt-ltb, eq-eqb}
 use Rattle.wire.specs.Each.{every, allOf}
 use Rattle.wire.proofs.Each.{and-left, and-right, every-at, every-intro, clause-first, clause-rest, cond-same}
+use Rattle.exporter.specs.Limits.{maxServers, maxThreshold, minStoreOctets, maxStoreOctets, maxHeld}
 use Rattle.exporter.specs.Servers.{sameActive, chosen}
 use Rattle.exporter.specs.Queue.{heldOctets, has}
-use Rattle.exporter.specs.Sound.{maxServers, maxHeld, maxRecordOctets, settingsSound, numbersSound, entrySound, activationSound, sound, partsOf}
+use Rattle.exporter.specs.Sound.{maxRecordOctets, settingsSound, numbersSound, entrySound, activationSound, sound}
+use Rattle.exporter.specs.Changes.{stateOf}
 use Rattle.exporter.specs.declared.state.Active.{Active}
 use Rattle.exporter.specs.declared.state.Active.the-variants.{Nobody, Server}
 use Rattle.exporter.specs.declared.state.Settings.{Settings}
@@ -64,17 +67,17 @@ pub record SettingsFacts (p : Settings) (room : ℕ) : Type 0 where
   pub someServers : 1 ≤ p .servers
   pub fewServers : p .servers ≤ maxServers
   pub someThreshold : 1 ≤ p .threshold
-  pub smallThreshold : p .threshold ≤ maxHeld
+  pub smallThreshold : p .threshold ≤ maxThreshold
   pub someDuration : 1 ≤ p .duration
-  pub someRoom : 1024 ≤ room
-  pub smallRoom : room ≤ 65536
+  pub someRoom : minStoreOctets ≤ room
+  pub smallRoom : room ≤ maxStoreOctets
 
 pub settings-facts : (p : Settings) (room : ℕ) → settingsSound p room ≡ true → SettingsFacts p room
 unfolding settingsSound
 settings-facts p room e =
     let at =
     both-at
-    (leb 1 (p .servers) ∷ leb (p .servers) maxServers ∷ leb 1 (p .threshold) ∷ leb (p .threshold) maxHeld ∷ leb 1 (p .duration) ∷ leb 1024 room ∷ leb room 65536 ∷ []) in
+    (leb 1 (p .servers) ∷ leb (p .servers) maxServers ∷ leb 1 (p .threshold) ∷ leb (p .threshold) maxThreshold ∷ leb 1 (p .duration) ∷ leb minStoreOctets room ∷ leb room maxStoreOctets ∷ []) in
     record {
       someServers = leb-true _ _ (at 0 e);
       fewServers = leb-true _ _ (at 1 e);
@@ -85,17 +88,17 @@ settings-facts p room e =
       smallRoom = leb-true _ _ (at 6 e);
     }
 
-pub settings-hold : (p : Settings) (room : ℕ) → SettingsFacts p room → settingsSound p room ≡ true
+settings-hold : (p : Settings) (room : ℕ) → SettingsFacts p room → settingsSound p room ≡ true
 unfolding settingsSound
 settings-hold p room f =
     rw (
       le-leb 1 (p .servers) (f .someServers),
       le-leb (p .servers) maxServers (f .fewServers),
       le-leb 1 (p .threshold) (f .someThreshold),
-      le-leb (p .threshold) maxHeld (f .smallThreshold),
+      le-leb (p .threshold) maxThreshold (f .smallThreshold),
       le-leb 1 (p .duration) (f .someDuration),
-      le-leb 1024 room (f .someRoom),
-      le-leb room 65536 (f .smallRoom),
+      le-leb minStoreOctets room (f .someRoom),
+      le-leb room maxStoreOctets (f .smallRoom),
     )
 
 pub record NumbersFacts (p : Settings) (room : ℕ) (d : Delivery) (due : Bool) (count start : ℕ) : Type 0 where
@@ -124,7 +127,7 @@ numbers-facts p room d due count start e =
       fresh = λ q. eqb-true _ _ (asked due (eqb (d .reached) 0) (at 6 e) q);
     }
 
-pub numbers-hold : (p : Settings) (room : ℕ) (d : Delivery) (due : Bool) (count start : ℕ)
+numbers-hold : (p : Settings) (room : ℕ) (d : Delivery) (due : Bool) (count start : ℕ)
     → NumbersFacts p room d due count start → numbersSound p room d due count start ≡ true
 unfolding numbersSound
 numbers-hold p room d due count start f =
@@ -169,7 +172,7 @@ clauses s =
     let d = s .delivery in
     let q = s .queue in
     numbersSound p (s .capacity) d (s .due) (q .count) (s .start)
-    ∷ every (q .count) (entrySound p q)
+    ∷ every (q .count) (entrySound (p .servers) (q .lengths) (q .receivers))
     ∷ leb (heldOctets q) (s .capacity)
     ∷ sameActive (d .active) (chosen p d)
     ∷ activationSound d (q .receivers) (d .active)
@@ -196,7 +199,8 @@ sound-facts s e =
     let d = s .delivery in
     let q = s .queue in
     let at = all-at (clauses s) in
-    let entry : (i : ℕ) → i < q .count → entrySound p q i ≡ true = every-at (q .count) (entrySound p q) (at 1 e) in
+    let entry : (i : ℕ) → i < q .count → entrySound (p .servers) (q .lengths) (q .receivers) i ≡ true =
+    every-at (q .count) (entrySound (p .servers) (q .lengths) (q .receivers)) (at 1 e) in
     let sent : (a : Active) → d .active ≡ a → activationSound d (q .receivers) a ≡ true =
     λ a k. ap (activationSound d (q .receivers)) (sym k) ∙ at 4 e in
     record {
@@ -216,12 +220,12 @@ facts-sound s f =
     let p = s .settings in
     let d = s .delivery in
     let q = s .queue in
-    let entry : (i : ℕ) → i < q .count → entrySound p q i ≡ true =
+    let entry : (i : ℕ) → i < q .count → entrySound (p .servers) (q .lengths) (q .receivers) i ≡ true =
     λ i l. rw (le-leb (getD (q .lengths) i 0) maxRecordOctets (f .short i l)) (lt-ltb (getD (q .receivers) i 0) (2 ^ p .servers) (f .known i l)) in
     let choice : sameActive (d .active) (chosen p d) ≡ true = rw (← f .choice) (active-same (d .active)) in
     rw (
       numbers-hold p (s .capacity) d (s .due) (q .count) (s .start) (f .numbers),
-      every-intro (q .count) (entrySound p q) entry,
+      every-intro (q .count) (entrySound (p .servers) (q .lengths) (q .receivers)) entry,
       le-leb (heldOctets q) (s .capacity) (f .fits),
       choice,
       sent (d .active) refl,
@@ -233,6 +237,13 @@ facts-sound s f =
 
 -- a state is sound where its parts are
 pub parts-of : (s : State)
-    → sound (partsOf (s .settings) (s .capacity) (s .delivery) (s .due) (s .queue .count) (s .queue .lengths) (s .queue .receivers) (s .start)) ≡ sound s
+    → sound (stateOf (s .settings) (s .capacity) (s .delivery) (s .due) (s .queue .count) (s .queue .lengths) [] (s .queue .receivers) (s .start) 0) ≡ sound s
 unfolding sound
 parts-of s = refl
+
+-- a state that passed the test, and one that failed it, by what the test came to
+pub passed-sound : (s : State) (b : Bool) → b ≡ sound s → not b ≡ false → sound s ≡ true
+passed-sound s b e h = sym e ∙ not-false b h
+
+pub failed-sound : (s : State) (b : Bool) → b ≡ sound s → not b ≡ true → sound s ≡ false
+failed-sound s b e h = sym e ∙ not-true b h

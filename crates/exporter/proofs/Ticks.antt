@@ -1,14 +1,15 @@
--- A tick by its clock: the timer, and where it has run out the choice among the servers with the active one late, leave what a tick of the
--- definition leaves. Assumes nothing.
+-- A tick is its clock, and where that has run out one choice with the active server late. Somebody is chosen exactly where another is
+-- agreed, so the change is the definition's; else the choice stays and no activation begins. An unsound state changes nothing.
 use mathlib.Core.Path.{_≡_, refl, sym, ap, _∙_, subst}
 use mathlib.Core.Bool.{Bool, true, false, not, cond, false≢true}
 use mathlib.Core.List.{List, []}
 use Prim.Native.Nat.{ℕ, _+_}
 use native.Mathlib.Omega.{arith}
-use borrow.Author.Tests.{ne-eqb}
+use borrow.Author.Tests.{not-true}
 use lib.Dec.{eqb, ltb}
 use Rattle.octets.specs.Answers.{done, unsoundState}
-use Rattle.exporter.specs.Servers.{choose, IsChoice, sameActive, isNobody, chosen, changed, settle, withServers, withCounts, lateServers, expired, tickedFor, ticked}
+use Rattle.wire.proofs.Each.{and-left}
+use Rattle.exporter.specs.Servers.{choose, IsChoice, sameActive, isNobody, chosen, changed, activated, settle, withServers, withCounts, lateServers, expired, tickedFor, ticked}
 use Rattle.exporter.specs.Sound.{sound}
 use Rattle.exporter.specs.Steps.{tick, answer, checks, after, settled, tickStep, steppedOf}
 use Rattle.exporter.specs.Changes.{settledChange, refusedChange, appliedTo, numberOf, runningClock, clockFor, clockOf, tickChangeTo, tickChangeBy}
@@ -21,10 +22,10 @@ use Rattle.exporter.specs.declared.state.Delivery.{Delivery}
 use Rattle.exporter.specs.declared.state.State.{State}
 use Rattle.exporter.specs.declared.state.Stepped.{Stepped}
 use Rattle.exporter.proofs.SoundFacts.{active-same, sound-facts}
-use Rattle.exporter.proofs.Choice.{choice, late-agreed}
+use Rattle.exporter.proofs.Choice.{choice, late-phase, other-chosen}
 use Rattle.exporter.proofs.Changes.{step-refused, step-done}
 
--- ---- the choice made once more
+-- ---- the choice made anew
 
 -- where the active server is the one to be chosen, nothing changes
 settle-kept : (p : Settings) (d : Delivery) (due : Bool) → d .active ≡ chosen p d
@@ -35,7 +36,7 @@ settle-kept p d due e = rw (← e, active-same (d .active))
 -- where another is, an activation begins
 settle-moved : (p : Settings) (d : Delivery) (due : Bool) (w : ℕ) → chosen p d ≡ Server w → sameActive (Server w) (d .active) ≡ false
     → settledChange p d due 0
-    ≡ record { answer = done; written = 0; delivery = record { servers = d .servers; active = Server w; sent = 0; reached = 0; timer = 0 }; due = true }
+    ≡ record { answer = done; written = 0; delivery = activated d (Server w); due = true }
 unfolding settle changed
 settle-moved p d due w e f = rw (e, f)
 
@@ -73,8 +74,8 @@ turned-settled p d due e = go (d .active) refl
     out v k Nobody q = sym (settle-kept p (withCounts d 0 (d .reached) 0) due e)
     out v k (Server w) q =
         let b = subst (IsChoice (p .priorities) (lateServers d v) (p .servers)) q (choice (p .priorities) (lateServers d v) (p .servers)) in
-        let n = late-agreed (d .servers) v w (b .agreed) .0 in
-        sym (settle-moved p (withCounts (withServers d (lateServers d v)) (d .sent) (d .reached) 0) due w q (ap (sameActive (Server w)) k ∙ ne-eqb w v n))
+        let n = and-left (not (eqb w v)) _ (sym (late-phase (d .servers) v w) ∙ b .agreed) in
+        sym (settle-moved p (withCounts (withServers d (lateServers d v)) (d .sent) (d .reached) 0) due w q (ap (sameActive (Server w)) k ∙ not-true (eqb w v) n))
 
     -- a server is active: below the threshold or not, run out or not
     run : (v : ℕ) → d .active ≡ Server v → (t u : Bool)
@@ -82,7 +83,7 @@ turned-settled p d due e = go (d .active) refl
         ≡ settledChange p (cond t (withCounts d (d .sent) (d .reached) 0) (cond u (expired p v d) (withCounts d (d .sent) (d .reached) (d .timer + 1)))) due 0
     run v k true u = sym (settle-kept p (withCounts d (d .sent) (d .reached) 0) due e)
     run v k false false = sym (settle-kept p (withCounts d (d .sent) (d .reached) (d .timer + 1)) due e)
-    run v k false true = rw (ap numberOf k) (out v k (choose (p .priorities) (lateServers d v) (p .servers)) refl)
+    run v k false true = rw (ap numberOf k, ← other-chosen (p .priorities) (d .servers) v (p .servers)) (out v k (choose (p .priorities) (lateServers d v) (p .servers)) refl)
 
     go : (a : Active) → d .active ≡ a → tickChangeBy true p d due (clockFor p d a) ≡ settledChange p (tickedFor p d a) due 0
     go Nobody k = sym (settle-kept p (withCounts d (d .sent) (d .reached) 0) due e)

@@ -1,4 +1,5 @@
--- What a step writes: nothing where its call writes nothing, and no more than the output has room for. Assumes nothing.
+-- A refused step writes nothing, and an accepted one writes its call's message. 12 is among the refusals of every call that writes, so what
+-- is written has room in the output.
 use mathlib.Core.Path.{_≡_, refl}
 use mathlib.Core.Bool.{not}
 use mathlib.Core.List.{List, [], _∷_}
@@ -31,7 +32,7 @@ abbrev allChecks : ℕ → List ℕ → ℕ → Call → State → List ℕ → 
 allChecks w table room c s store = (unsoundState when not (soundFor c s store)) ∷ checks w table room c s store
 
 -- an accepted call writes no more than the output has room for
-pub accepted-fits : (w : ℕ) (table : List ℕ) (room : ℕ) (c : Call) (s : State) (store : List ℕ) → answer w table room c s store ≡ done
+accepted-fits : (w : ℕ) (table : List ℕ) (room : ℕ) (c : Call) (s : State) (store : List ℕ) → answer w table room c s store ≡ done
     → length (written w table c s store) ≤ room
 unfolding answer checks written
 accepted-fits w table room (put id r) s store e = omega arith

@@ -1,21 +1,20 @@
--- What the code computes on the way to a step (01, "Exporter"): what each call changes of a state, as a small value, and the state with
--- that change. Assumes nothing.
+-- What private functions compute of parts of a state: what each call changes, as a small value. These definitions render no rule of 01: the
+-- rules are in Steps, and every public contract cites those. Assumes nothing.
 use mathlib.Core.Path.{_≡_}
 use Prim.Native.Nat.{ℕ, _+_, _<_}
 use mathlib.Core.Bool.{Bool, true, false, not, _||_, cond}
-use mathlib.Core.List.{List, []}
+use mathlib.Core.List.{List}
 use lib.Dec.{eqb, ltb}
-use lib.ListN.{length, getD, set}
+use lib.ListN.{length, getD}
 use Rattle.octets.specs.Answers.{done, unsoundState}
-use Rattle.exporter.specs.Servers.{server, choose, chosen, isNobody, changed, settle, withCounts}
-use Rattle.exporter.specs.Queue.{with}
+use Rattle.exporter.specs.Servers.{choose, chosen, isNobody, changed, settle, lateServers}
+use Rattle.exporter.specs.Queue.{markedSet}
 use Rattle.exporter.specs.Sound.{sound}
-use Rattle.exporter.specs.Steps.{Outcome}
+use Rattle.exporter.specs.Steps.{withDue, Outcome}
 use Rattle.exporter.specs.declared.change.Change.{Change}
 use Rattle.exporter.specs.declared.next_data.Sending.{Sending}
 use Rattle.exporter.specs.declared.put.Putting.{Putting}
 use Rattle.exporter.specs.declared.tick.Clock.{Clock}
-use Rattle.exporter.specs.declared.state.Phase.the-variants.{Late}
 use Rattle.exporter.specs.declared.state.Server as serverOf
 use Rattle.exporter.specs.declared.state.Active.{Active}
 use Rattle.exporter.specs.declared.state.Active.the-variants as active
@@ -23,9 +22,42 @@ use Rattle.exporter.specs.declared.state.Settings.{Settings}
 use Rattle.exporter.specs.declared.state.Delivery.{Delivery}
 use Rattle.exporter.specs.declared.state.State.{State}
 
+-- ---- states by their parts
+
+-- A state, by its parts. Where a function does not look at template IDs or the next DSN, [] and 0 stand for them.
+abbrev pub stateOf : Settings → ℕ → Delivery → Bool → ℕ → List ℕ → List ℕ → List ℕ → ℕ → ℕ → State
+stateOf p capacity d due count lengths templates receivers start next =
+    record {
+      settings = p;
+      capacity = capacity;
+      delivery = d;
+      due = due;
+      queue = record { count = count; lengths = lengths; templates = templates; receivers = receivers };
+      start = start;
+      next = next;
+    }
+
+-- ---- what private functions require
+
+-- The active server, if there is one, has a number below n.
+abbrev pub Below : ℕ → Active → Type 0
+Below n active.Nobody = Unit {0}
+Below n (active.Server v) = v < n
+
+-- What soundness says of a delivery: the timer is below the duration, and the active server is the chosen one.
+abbrev pub Steady : Bool → Settings → Delivery → Type 0
+Steady sound p d = sound ≡ true → (d .timer < p .duration) × (d .active ≡ chosen p d)
+
+-- There is a record to send and a server to send it to, and the lent store is that of the state.
+pub record SendFacts (s : State) (store : List ℕ) : Type 0 where
+  pub isSound : sound s ≡ true
+  pub stored : length store ≡ s .capacity
+  pub some : isNobody (s .delivery .active) ≡ false
+  pub more : s .delivery .sent < s .queue .count
+
 -- ---- calls that change a state's delivery and S
 
--- The change of an accepted call: the choice made once more.
+-- The change of an accepted call: the choice made anew.
 abbrev pub settledChange : Settings → Delivery → Bool → ℕ → Change
 settledChange p d due written = record { answer = done; written = written; delivery = settle p d; due = changed p d || due }
 
@@ -39,26 +71,14 @@ changeOf o = record { answer = o .answer; written = length (o .written); deliver
 
 -- The state with a change.
 abbrev pub appliedTo : State → Change → State
-appliedTo s c =
-    record { settings = s .settings; capacity = s .capacity; delivery = c .delivery; due = c .due; queue = s .queue; start = s .start; next = s .next }
+appliedTo s c = withDue s (c .delivery) (c .due)
 
--- ---- the active server
-
--- The active server, if there is one, has a number below n.
-abbrev pub Below : ℕ → Active → Type 0
-Below n active.Nobody = Unit {0}
-Below n (active.Server v) = v < n
+-- ---- ticks
 
 -- The active server's number, 0 for nobody.
 abbrev pub numberOf : Active → ℕ
 numberOf active.Nobody = 0
 numberOf (active.Server v) = v
-
--- ---- ticks
-
--- What soundness says of a delivery: the timer is below the duration, and the active server is the chosen one.
-abbrev pub Steady : Bool → Settings → Delivery → Type 0
-Steady sound p d = sound ≡ true → (d .timer < p .duration) × (d .active ≡ chosen p d)
 
 -- The clock of an active server: 0 below the threshold, and again where the duration has passed.
 abbrev pub runningClock : Settings → Delivery → Clock
@@ -92,28 +112,13 @@ tickChangeTo sound d due k late choice =
       due = switched || due;
     }
 
--- The servers with the active one late.
-abbrev pub lateActive : Delivery → List serverOf.Server
-lateActive d = set (d .servers) (numberOf (d .active)) (server Late)
-
--- What a tick changes by the clock after it: only where the timer has run out there is a choice to make.
+-- What a tick changes by the clock after it: only where the timer has run out there is a choice to make, with the active server late.
 abbrev pub tickChangeBy : Bool → Settings → Delivery → Bool → Clock → Change
-tickChangeBy sound p d due k = tickChangeTo sound d due k (lateActive d) (choose (p .priorities) (lateActive d) (cond (k .expired) (p .servers) 0))
+tickChangeBy sound p d due k =
+    let late = lateServers d (numberOf (d .active)) in
+    tickChangeTo sound d due k late (choose (p .priorities) late (cond (k .expired) (p .servers) 0))
 
 -- ---- put and next data
-
--- A state, by its parts.
-abbrev pub stateOf : Settings → ℕ → Delivery → Bool → ℕ → List ℕ → List ℕ → List ℕ → ℕ → ℕ → State
-stateOf p capacity d due count lengths templates receivers start next =
-    record {
-      settings = p;
-      capacity = capacity;
-      delivery = d;
-      due = due;
-      queue = record { count = count; lengths = lengths; templates = templates; receivers = receivers };
-      start = start;
-      next = next;
-    }
 
 -- What putting a record changes, of its outcome: where it is refused, what stood in the first entries stands there still.
 abbrev pub puttingOf : State → ℕ → List ℕ → Outcome → Putting
@@ -129,36 +134,6 @@ puttingOf s id r o =
       next = o .state .next;
     }
 
--- The state with such a change.
-abbrev pub withPut : State → Putting → State
-withPut s c =
-    record {
-      settings = s .settings;
-      capacity = s .capacity;
-      delivery = s .delivery;
-      due = s .due;
-      queue = record {
-        count = c .count;
-        lengths = set (s .queue .lengths) (c .place) (c .len);
-        templates = set (s .queue .templates) (c .place) (c .template);
-        receivers = set (s .queue .receivers) (c .place) (c .set);
-      };
-      start = s .start;
-      next = c .next;
-    }
-
--- A set of servers with the active one.
-abbrev pub markedSet : Active → ℕ → ℕ
-markedSet active.Nobody m = m
-markedSet (active.Server v) m = with m v
-
--- There is a record to send and a server to send it to, and the lent store is that of the state.
-pub record SendFacts (s : State) (store : List ℕ) : Type 0 where
-  pub isSound : sound s ≡ true
-  pub stored : length store ≡ s .capacity
-  pub some : isNobody (s .delivery .active) ≡ false
-  pub more : s .delivery .sent < s .queue .count
-
 -- What sending the next record changes, of its outcome: where it is refused, the set of the first record stays.
 abbrev pub sendingOf : State → Outcome → Sending
 sendingOf s o =
@@ -171,22 +146,4 @@ sendingOf s o =
       sent = o .state .delivery .sent;
       reached = o .state .delivery .reached;
       due = o .state .due;
-    }
-
--- The state with such a change.
-abbrev pub withSent : State → Sending → State
-withSent s c =
-    record {
-      settings = s .settings;
-      capacity = s .capacity;
-      delivery = withCounts (s .delivery) (c .sent) (c .reached) (s .delivery .timer);
-      due = c .due;
-      queue = record {
-        count = s .queue .count;
-        lengths = s .queue .lengths;
-        templates = s .queue .templates;
-        receivers = set (s .queue .receivers) (c .place) (c .set);
-      };
-      start = s .start;
-      next = s .next;
     }

@@ -1,3 +1,4 @@
+pub mod Limits
 pub mod Servers
 pub mod Queue
 pub mod Sound

@@ -1,19 +1,16 @@
--- What the code takes a message, or a call that moves a server, to mean; how it judges a transition and an acknowledgement, and what
--- an acknowledgement changes (01, "Answer numbers" and "Exporter"). Assumes nothing.
-use Prim.Native.Nat.{ℕ, _-_}
+-- What the values of private functions stand for: transitions, requests and readings, and what an acknowledgement changes. These definitions
+-- render no rule of 01: the rules are in Steps, and every public contract cites those. Assumes nothing.
+use Prim.Native.Nat.{ℕ}
 use mathlib.Core.Bool.{Bool, true, cond}
-use mathlib.Core.List.{List, []}
+use mathlib.Core.List.{List}
 use lib.Dec.{eqb}
 use Rattle.octets.specs.Answers.{done}
 use Rattle.wire.specs.Table.{tableSound}
 use Rattle.wire.specs.declared.message.Reading.{Reading}
 use Rattle.wire.specs.declared.message.Reading.the-variants as reading
-use Rattle.exporter.specs.Servers.{withCounts, Transition, start, stop, negotiate, offer, down, agree, malformed}
+use Rattle.exporter.specs.Servers.{Transition, start, stop, negotiate, offer, down, agree, malformed}
 use Rattle.exporter.specs.Steps.{Call, ack, move, callOfMessage, Outcome}
-use Rattle.exporter.specs.Queue.{dropFront}
 use Rattle.exporter.specs.declared.acknowledge.AckChange.{AckChange}
-use Rattle.exporter.specs.declared.state.Active.the-variants as active
-use Rattle.exporter.specs.declared.state.State.{State}
 use Rattle.exporter.specs.declared.decode.Request.{Request}
 use Rattle.exporter.specs.declared.decode.Request.the-variants as request
 use Rattle.exporter.specs.declared.transition.Move.{Move}
@@ -55,11 +52,6 @@ callOfReading v (reading.Refused a) = move v (malformed a)
 
 -- ---- acknowledgements
 
--- The state with another next DSN.
-abbrev pub withNext : State → ℕ → State
-withNext s next =
-    record { settings = s .settings; capacity = s .capacity; delivery = s .delivery; due = s .due; queue = s .queue; start = s .start; next = next }
-
 -- What a DATA ACK that names n records changes, of its outcome: where it is refused, no record is released.
 abbrev pub ackChangeOf : ℕ → Outcome → AckChange
 ackChangeOf n o =
@@ -70,17 +62,4 @@ ackChangeOf n o =
       sent = o .state .delivery .sent;
       reached = o .state .delivery .reached;
       timer = o .state .delivery .timer;
-    }
-
--- The state with such a change.
-abbrev pub releasedFrom : State → AckChange → State
-releasedFrom s c =
-    record {
-      settings = s .settings;
-      capacity = s .capacity;
-      delivery = withCounts (s .delivery) (c .sent) (c .reached) (c .timer);
-      due = s .due;
-      queue = dropFront (s .queue) (c .released);
-      start = c .start;
-      next = s .next;
     }

@@ -6,6 +6,8 @@ use mathlib.Core.List.{List, [], _∷_, _++_}
 use lib.Bits.{bitOr}
 use lib.ListN.{getD, set, take, drop, replicate}
 use lib.Dec.{eqb}
+use Rattle.exporter.specs.declared.state.Active.{Active}
+use Rattle.exporter.specs.declared.state.Active.the-variants as active
 use Rattle.exporter.specs.declared.state.Queue.{Queue}
 use Rattle.exporter.specs.declared.state.State.{State}
 
@@ -41,6 +43,11 @@ octetsTo q k = sumOf (take k (q .lengths))
 abbrev pub heldOctets : Queue → ℕ
 heldOctets q = octetsTo q (q .count)
 
+-- The place in the store where the record at place i of the queue begins, by the ring's start and the lengths: behind those before it,
+-- modulo the store's length.
+abbrev pub ringPlace : ℕ → ℕ → List ℕ → ℕ → ℕ
+ringPlace capacity start lengths i = (start + sumOf (take i lengths)) % capacity
+
 -- The octets of the record at place i of the queue: they follow those before it from the ring's start on.
 unfoldable pub recordAt : State → List ℕ → ℕ → List ℕ
 recordAt s store i = ringRead (s .capacity) store (s .start + octetsTo (s .queue) i) (getD (s .queue .lengths) i 0)
@@ -64,6 +71,11 @@ has m v = eqb (m / 2 ^ v % 2) 1
 -- The set with server v.
 abbrev pub with : ℕ → ℕ → ℕ
 with m v = bitOr m (2 ^ v)
+
+-- The set with the active server, if there is one.
+abbrev pub markedSet : Active → ℕ → ℕ
+markedSet active.Nobody m = m
+markedSet (active.Server v) m = with m v
 
 -- One of the first n servers, other than v, is in the set.
 unfoldable pub hasOther : ℕ → ℕ → ℕ → Bool
@@ -96,12 +108,12 @@ dropFront q n =
       receivers = shifted (q .receivers) n;
     }
 
--- The queue after the record at place i was sent to server v.
+-- The queue whose record at place i was sent to the servers of the set m.
 unfoldable pub marked : Queue → ℕ → ℕ → Queue
-marked q i v =
+marked q i m =
     record {
       count = q .count;
       lengths = q .lengths;
       templates = q .templates;
-      receivers = set (q .receivers) i (with (getD (q .receivers) i 0) v);
+      receivers = set (q .receivers) i m;
     }

@@ -3,10 +3,11 @@
 use mathlib.Core.Path.{_≡_}
 use mathlib.Core.Logic.{_≢_}
 use Prim.Native.Nat.{ℕ, zero, suc, _+_, _-_, _≤_, _<_, max}
-use mathlib.Core.Bool.{Bool, true, false, not, _&&_, cond}
+use mathlib.Core.Bool.{Bool, true, false, not, _&&_, _||_, cond}
 use mathlib.Core.List.{List, map}
-use lib.ListN.{getD, set}
+use lib.ListN.{getD, set, replicate}
 use lib.Dec.{eqb, ltb}
+use Rattle.exporter.specs.Limits.{maxServers}
 use Rattle.exporter.specs.declared.state.Phase.{Phase}
 use Rattle.exporter.specs.declared.state.Phase.the-variants.{Closed, Started, Offered, Agreed, Late}
 use Rattle.exporter.specs.declared.state.Server.{Server}
@@ -15,7 +16,7 @@ use Rattle.exporter.specs.declared.state.Active.the-variants as active
 use Rattle.exporter.specs.declared.state.Settings.{Settings}
 use Rattle.exporter.specs.declared.state.Delivery.{Delivery}
 
--- ---- phases
+-- ---- phases: server states of 01
 
 -- A server in a phase.
 abbrev pub server : Phase → Server
@@ -65,7 +66,7 @@ restarted Offered = Started
 restarted Agreed = Started
 restarted Late = Started
 
--- The same of a server.
+-- A server after START NEGOTIATE.
 abbrev pub restart : Server → Server
 restart s = server (restarted (s .phase))
 
@@ -76,13 +77,15 @@ abbrev pub beats : List ℕ → ℕ → Active → Bool
 beats priorities v active.Nobody = true
 beats priorities v (active.Server b) = ltb (getD priorities b 0) (getD priorities v 0)
 
+-- The choice so far, or server v where it is agreed and has a higher priority.
+abbrev pub preferred : List ℕ → List Server → ℕ → Active → Active
+preferred priorities servers v best = cond (isAgreed (phaseAt servers v) && beats priorities v best) (active.Server v) best
+
 -- Of the first n servers, the one to be active: agreed, no other agreed one has a higher priority, and of equals it has the lowest
 -- number; nobody where none is agreed.
 unfoldable pub choose : List ℕ → List Server → ℕ → Active
 choose priorities servers zero = active.Nobody
-choose priorities servers (suc n) =
-    let best = choose priorities servers n in
-    cond (isAgreed (phaseAt servers n) && beats priorities n best) (active.Server n) best
+choose priorities servers (suc n) = preferred priorities servers n (choose priorities servers n)
 
 -- Among the first n servers v is agreed, no agreed one has a higher priority, and none of a lower number has the same.
 pub record Best (priorities : List ℕ) (servers : List Server) (n v : ℕ) : Type 0 where
@@ -116,12 +119,17 @@ chosen p d = choose (p .priorities) (d .servers) (p .servers)
 unfoldable pub changed : Settings → Delivery → Bool
 changed p d = not (sameActive (chosen p d) (d .active))
 
--- The choice made once more. Where it differs from the active server an activation begins, with sent, reached and timer 0.
+-- A new activation of a choice begins with sent, reached and timer 0.
+abbrev pub activated : Delivery → Active → Delivery
+activated d choice = record { servers = d .servers; active = choice; sent = 0; reached = 0; timer = 0 }
+
+-- The choice made anew: where it differs from the active server an activation begins.
 unfoldable pub settle : Settings → Delivery → Delivery
-settle p d =
-    cond (changed p d)
-    (record { servers = d .servers; active = chosen p d; sent = 0; reached = 0; timer = 0 })
-    d
+settle p d = cond (changed p d) (activated d (chosen p d)) d
+
+-- Of a fresh exporter: every server is closed, nobody is active, and all counters are 0.
+abbrev pub freshDelivery : Delivery
+freshDelivery = record { servers = replicate maxServers (server Closed); active = active.Nobody; sent = 0; reached = 0; timer = 0 }
 
 -- ---- steps
 
@@ -163,9 +171,14 @@ acknowledged n d = cond (eqb n 0) (withCounts d 0 (d .reached) (d .timer)) (with
 abbrev pub lateServers : Delivery → ℕ → List Server
 lateServers d v = set (d .servers) v (server Late)
 
--- A server other than v is agreed, which is to say that one would be chosen with v late (laws `another` and `no-other`).
+-- One of the first n servers, other than v, is agreed.
+unfoldable pub otherAgreed : List Server → ℕ → ℕ → Bool
+otherAgreed servers v zero = false
+otherAgreed servers v (suc n) = (not (eqb n v) && isAgreed (phaseAt servers n)) || otherAgreed servers v n
+
+-- A server other than v is agreed.
 abbrev pub anotherAgreed : Settings → ℕ → Delivery → Bool
-anotherAgreed p v d = not (isNobody (choose (p .priorities) (lateServers d v) (p .servers)))
+anotherAgreed p v d = otherAgreed (d .servers) v (p .servers)
 
 -- The timer of the active server v has run out: it turns late if another server is agreed, else what was sent is sent again.
 unfoldable pub expired : Settings → ℕ → Delivery → Delivery

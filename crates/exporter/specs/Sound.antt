@@ -5,28 +5,18 @@ use mathlib.Core.List.{List, [], _∷_}
 use lib.Dec.{eqb, leb, ltb}
 use lib.ListN.{getD}
 use Rattle.wire.specs.Each.{every, allOf}
+pub use Rattle.wire.specs.Messages.{maxRecordOctets}
+pub use Rattle.exporter.specs.Limits.{maxHeld}
+use Rattle.exporter.specs.Limits.{maxServers, maxThreshold, minStoreOctets, maxStoreOctets}
 use Rattle.exporter.specs.Servers.{sameActive, chosen}
 use Rattle.exporter.specs.Queue.{heldOctets, has}
 use Rattle.exporter.specs.declared.state.Active.{Active}
 use Rattle.exporter.specs.declared.state.Active.the-variants as active
 use Rattle.exporter.specs.declared.state.Settings.{Settings}
 use Rattle.exporter.specs.declared.state.Delivery.{Delivery}
-use Rattle.exporter.specs.declared.state.Queue.{Queue}
 use Rattle.exporter.specs.declared.state.State.{State}
 
--- ---- limits
-
--- The most servers that an exporter has.
-abbrev pub maxServers : ℕ
-maxServers = 8
-
--- The most records that are held at a time.
-abbrev pub maxHeld : ℕ
-maxHeld = 64
-
--- The most octets of a record that is put.
-abbrev pub maxRecordOctets : ℕ
-maxRecordOctets = 1024
+-- ---- settings
 
 -- 1 to 8 servers, a threshold of 1 to 64, a duration of 1 or more, a store of 1,024 to 65,536 octets. A duration has 16 bits and a
 -- priority 8, so neither needs an upper test.
@@ -35,10 +25,10 @@ settingsSound p room =
     leb 1 (p .servers)
     && leb (p .servers) maxServers
     && leb 1 (p .threshold)
-    && leb (p .threshold) 64
+    && leb (p .threshold) maxThreshold
     && leb 1 (p .duration)
-    && leb 1024 room
-    && leb room 65536
+    && leb minStoreOctets room
+    && leb room maxStoreOctets
 
 -- ---- sound states
 
@@ -47,9 +37,9 @@ abbrev pub activationSound : Delivery → List ℕ → Active → Bool
 activationSound d receivers active.Nobody = eqb (d .sent) 0 && eqb (d .reached) 0 && eqb (d .timer) 0
 activationSound d receivers (active.Server v) = every (d .reached) (λ i. has (getD receivers i 0) v)
 
--- A held record has at most 1,024 octets, and was sent to existing servers only.
-abbrev pub entrySound : Settings → Queue → ℕ → Bool
-entrySound p q i = leb (getD (q .lengths) i 0) maxRecordOctets && ltb (getD (q .receivers) i 0) (2 ^ p .servers)
+-- The held record at place i has at most 1,024 octets, and was sent to existing servers only, by how many there are.
+abbrev pub entrySound : ℕ → List ℕ → List ℕ → ℕ → Bool
+entrySound servers lengths receivers i = leb (getD lengths i 0) maxRecordOctets && ltb (getD receivers i 0) (2 ^ servers)
 
 -- The numbers of a state are in their limits; if S is due, nothing was reached.
 unfoldable pub numbersSound : Settings → ℕ → Delivery → Bool → ℕ → ℕ → Bool
@@ -68,21 +58,8 @@ unfoldable pub sound : State → Bool
 sound s =
     allOf
     (numbersSound (s .settings) (s .capacity) (s .delivery) (s .due) (s .queue .count) (s .start)
-    ∷ every (s .queue .count) (entrySound (s .settings) (s .queue))
+    ∷ every (s .queue .count) (entrySound (s .settings .servers) (s .queue .lengths) (s .queue .receivers))
     ∷ leb (heldOctets (s .queue)) (s .capacity)
     ∷ sameActive (s .delivery .active) (chosen (s .settings) (s .delivery))
     ∷ activationSound (s .delivery) (s .queue .receivers) (s .delivery .active)
     ∷ [])
-
--- A state with the parts that soundness looks at.
-abbrev pub partsOf : Settings → ℕ → Delivery → Bool → ℕ → List ℕ → List ℕ → ℕ → State
-partsOf p room d due count lengths receivers start =
-    record {
-      settings = p;
-      capacity = room;
-      delivery = d;
-      due = due;
-      queue = record { count = count; lengths = lengths; templates = []; receivers = receivers };
-      start = start;
-      next = 0;
-    }

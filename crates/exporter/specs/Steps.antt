@@ -9,16 +9,16 @@ use lib.Seq.{sets}
 use Rattle.octets.specs.Answers.{Check, _when_, judge, done, unsoundState, noSuchServer, otherSession, messageNotAccepted, bodyLengthWrong, outOfTurn, otherConfiguration, dsnNotAcknowledgeable, outputTooShort, noActiveServer, nothingToSend, templateNotFound, recordInvalid, recordTooLong, queueFull, storeFull, settingsOutsideLimits, unsoundTable}
 use Rattle.wire.specs.Table.{configurationId, tableSound, isMissing, templateOf}
 use Rattle.wire.specs.Record.{recordValid}
-use Rattle.wire.specs.Messages.{headerChecks, sessionOf, messageNumber, headerOctets, bodyFits, meaningOf, layoutOf}
+use Rattle.wire.specs.Messages.{maxRecordOctets, headerChecks, sessionOf, messageNumber, headerOctets, bodyFits, meaningOf, layoutOf}
 use Rattle.wire.specs.Messages as wire
 use Rattle.wire.specs.declared.message.Message.{Message}
 use Rattle.wire.specs.declared.message.Message.the-variants.{Start, StartAck, Stop, StopAck, TmplData, FinalTmplDataAck, StartNegotiate, StartNegotiateAck, Data, DataAck}
 use Rattle.wire.specs.declared.message.DataHead.{DataHead}
-use Rattle.exporter.specs.Servers.{server, phaseAt, isClosed, isOffered, canOffer, sameActive, isNobody, changed, settle, withServers, Transition, start, stop, negotiate, offer, down, agree, malformed, transition, sentOne, acknowledged, ticked}
-use Rattle.exporter.specs.Queue.{sumOf, octetsTo, heldOctets, recordAt, ringWrite, hasOther, pushed, dropFront, marked}
-use Rattle.exporter.specs.Sound.{maxHeld, maxRecordOctets, settingsSound, sound}
+use Rattle.exporter.specs.Servers.{phaseAt, isClosed, isOffered, canOffer, sameActive, isNobody, changed, settle, freshDelivery, withServers, Transition, start, stop, negotiate, offer, down, agree, malformed, transition, sentOne, acknowledged, ticked}
+use Rattle.exporter.specs.Queue.{sumOf, heldOctets, ringPlace, recordAt, ringWrite, markedSet, hasOther, pushed, dropFront, marked}
+use Rattle.exporter.specs.Limits.{maxServers, maxHeld}
+use Rattle.exporter.specs.Sound.{settingsSound, sound}
 use Rattle.exporter.specs.declared.state.Phase.{Phase}
-use Rattle.exporter.specs.declared.state.Phase.the-variants.{Closed}
 use Rattle.exporter.specs.declared.state.Active.{Active}
 use Rattle.exporter.specs.declared.state.Active.the-variants as active
 use Rattle.exporter.specs.declared.state.Settings.{Settings}
@@ -29,30 +29,38 @@ use Rattle.exporter.specs.declared.state.Made.{Made}
 use Rattle.exporter.specs.declared.state.Stepped.{Stepped}
 use Rattle.exporter.specs.declared.state.Wrote.{Wrote}
 
--- ---- sequence numbers
+-- ---- sequence numbers (01, "Exporter")
 
 -- How many sequence numbers there are.
 abbrev pub modulus : ℕ → ℕ
 modulus w = 2 ^ w
 
--- The DSN of the first held record; the next DSN stands for it where none is held.
+-- The DSN of the first of `count` held records, by the next DSN, which stands for it where none is held.
+abbrev pub firstHeldBy : ℕ → ℕ → ℕ → ℕ
+firstHeldBy w next count = (next + (modulus w - count)) % modulus w
+
+-- The DSN of the first held record of a state.
 abbrev pub firstHeld : ℕ → State → ℕ
-firstHeld w s = (s .next + (modulus w - s .queue .count)) % modulus w
+firstHeld w s = firstHeldBy w (s .next) (s .queue .count)
+
+-- The DSN of the record at place i of `count` held ones, by the next DSN.
+abbrev pub dsnAtBy : ℕ → ℕ → ℕ → ℕ → ℕ
+dsnAtBy w next count i = (firstHeldBy w next count + i) % modulus w
 
 -- The DSN of the record at place i of the queue.
 abbrev pub dsnAt : ℕ → State → ℕ → ℕ
-dsnAt w s i = (firstHeld w s + i) % modulus w
+dsnAt w s i = dsnAtBy w (s .next) (s .queue .count) i
 
 -- How many records a DATA ACK of this DSN names from the front of `count` held ones, by the next DSN: the DSN minus the first held one,
--- plus 1.
+-- plus 1, modulo 2 ^ w.
 abbrev pub ackCountBy : ℕ → ℕ → ℕ → ℕ → ℕ
-ackCountBy w next count dsn = (dsn + (modulus w - (next + (modulus w - count)) % modulus w) + 1) % modulus w
+ackCountBy w next count dsn = (dsn + (modulus w - firstHeldBy w next count) + 1) % modulus w
 
--- The same of a state.
+-- How many records it names of those that a state holds.
 unfoldable pub ackCount : ℕ → State → ℕ → ℕ
 ackCount w s dsn = ackCountBy w (s .next) (s .queue .count) dsn
 
--- ---- calls, by what they mean
+-- ---- calls, by what they mean (01, "Messages")
 
 -- Put of a record under a template ID; next data; tick; a DATA ACK from a server, of a DSN and a Configuration ID; a transition of a
 -- server.
@@ -77,8 +85,7 @@ formAnswer p m =
     ∷ (bodyLengthWrong when not (bodyFits (messageNumber m) (length m - headerOctets)))
     ∷ []))
 
--- The call that a message from server v makes, by its meaning; `received` asks this only of messages
--- that receive accepts.
+-- The call that a message from server v makes, by its meaning; `received` asks this only of messages that receive accepts.
 unfoldable pub callOfMessage : ℕ → Message → Call
 callOfMessage v (Start s) = move v start
 callOfMessage v (StartAck s boot) = move v (malformed messageNotAccepted)
@@ -95,7 +102,7 @@ callOfMessage v (DataAck s dsn config) = ack v dsn config
 unfoldable pub received : Settings → ℕ → List ℕ → Call
 received p v m = cond (eqb (formAnswer p m) done) (callOfMessage v (meaningOf m)) (move v (malformed (formAnswer p m)))
 
--- ---- what is written
+-- ---- what is written (01, "Messages" and "Exporter")
 
 -- D: the record was sent to a server other than the active one.
 abbrev pub isDuplicate : Settings → Active → ℕ → Bool
@@ -115,7 +122,7 @@ headOf w s =
       dsn = dsnAt w s i;
     }
 
--- START, STOP and START NEGOTIATE are acknowledged; an offer writes the table.
+-- START, STOP and START NEGOTIATE are acknowledged; an offer writes TMPL DATA with the table; no other transition writes.
 abbrev pub replyTo : Settings → List ℕ → Transition → List ℕ
 replyTo p table start = layoutOf (StartAck (p .session) (p .boot)) []
 replyTo p table stop = layoutOf (StopAck (p .session)) []
@@ -133,17 +140,21 @@ written w table tick s store = []
 written w table (ack v dsn config) s store = []
 written w table (move v m) s store = replyTo (s .settings) table m
 
--- ---- refusals
+-- ---- refusals (01, "Answer numbers")
 
 -- A lent table is the session's.
 abbrev pub isSessions : Settings → List ℕ → Bool
 isSessions p table = tableSound table && eqb (configurationId table) (p .config)
 
+-- START NEGOTIATE is refused with 9 from a closed server.
+abbrev pub negotiateChecks : Phase → List Check
+negotiateChecks phase = (outOfTurn when isClosed phase) ∷ []
+
 -- The refusals of a transition of a server in this phase, after 1 and 2, that do not look at the output.
 abbrev pub turnChecks : Settings → List ℕ → Transition → Phase → List Check
 turnChecks p table start phase = []
 turnChecks p table stop phase = []
-turnChecks p table negotiate phase = (outOfTurn when isClosed phase) ∷ []
+turnChecks p table negotiate phase = negotiateChecks phase
 turnChecks p table offer phase = (unsoundTable when not (isSessions p table)) ∷ (outOfTurn when not (canOffer phase)) ∷ []
 turnChecks p table down phase = []
 turnChecks p table (agree config) phase =
@@ -160,7 +171,7 @@ replyChecks p table room down = []
 replyChecks p table room (agree config) = []
 replyChecks p table room (malformed a) = []
 
--- All of them.
+-- All refusals of a transition after 1 and 2.
 abbrev pub transitionChecks : Settings → List ℕ → ℕ → Transition → Phase → List Check
 transitionChecks p table room t phase = turnChecks p table t phase ++ replyChecks p table room t
 
@@ -178,6 +189,10 @@ abbrev pub roomChecks : ℕ → ℕ → List ℕ → List ℕ → List Check
 roomChecks capacity n lengths r =
     (queueFull when leb maxHeld n) ∷ (storeFull when ltb capacity (sumOf (take n lengths) + length r)) ∷ []
 
+-- The refusals of next data with n records held, after 1, that do not look at the output: 13, 14.
+abbrev pub sendChecks : Delivery → ℕ → List Check
+sendChecks d n = (noActiveServer when isNobody (d .active)) ∷ (nothingToSend when leb n (d .sent)) ∷ []
+
 -- The refusals of a DATA ACK from server v that names n records, after 1.
 abbrev pub ackChecks : Settings → Delivery → ℕ → ℕ → ℕ → List Check
 ackChecks p d v config n =
@@ -192,10 +207,8 @@ unfoldable pub checks : ℕ → List ℕ → ℕ → Call → State → List ℕ
 checks w table room (put id r) s store =
     recordChecks (s .settings) table id r ++ roomChecks (s .capacity) (s .queue .count) (s .queue .lengths) r
 checks w table room nextData s store =
-    (noActiveServer when isNobody (s .delivery .active))
-    ∷ (nothingToSend when leb (s .queue .count) (s .delivery .sent))
-    ∷ (outputTooShort when ltb room (length (written w table nextData s store)))
-    ∷ []
+    sendChecks (s .delivery) (s .queue .count)
+    ++ ((outputTooShort when ltb room (length (written w table nextData s store))) ∷ [])
 checks w table room tick s store = []
 checks w table room (ack v dsn config) s store = ackChecks (s .settings) (s .delivery) v config (ackCount w s dsn)
 checks w table room (move v m) s store =
@@ -214,17 +227,20 @@ soundFor (move v m) s store = sound s
 unfoldable pub answer : ℕ → List ℕ → ℕ → Call → State → List ℕ → ℕ
 answer w table room c s store = judge ((unsoundState when not (soundFor c s store)) ∷ checks w table room c s store)
 
--- ---- what an accepted call leaves
+-- ---- what an accepted call leaves (01, "Exporter")
 
--- A state with another delivery.
+-- A state with this delivery and S due or not.
+abbrev pub withDue : State → Delivery → Bool → State
+withDue s d due =
+    record { settings = s .settings; capacity = s .capacity; delivery = d; due = due; queue = s .queue; start = s .start; next = s .next }
+
+-- A state with this delivery.
 abbrev pub withDelivery : State → Delivery → State
-withDelivery s d =
-    record { settings = s .settings; capacity = s .capacity; delivery = d; due = s .due; queue = s .queue; start = s .start; next = s .next }
+withDelivery s d = withDue s d (s .due)
 
 -- The queue after the record at place i was sent to the active server.
 abbrev pub markedFor : Active → Queue → ℕ → Queue
-markedFor active.Nobody q i = q
-markedFor (active.Server v) q i = marked q i v
+markedFor a q i = marked q i (markedSet a (getD (q .receivers) i 0))
 
 -- The state before the choice is made anew.
 unfoldable pub after : ℕ → Call → State → State
@@ -257,23 +273,14 @@ after w (ack v dsn config) s =
       delivery = acknowledged n (s .delivery);
       due = s .due;
       queue = dropFront (s .queue) n;
-      start = (s .start + octetsTo (s .queue) n) % s .capacity;
+      start = ringPlace (s .capacity) (s .start) (s .queue .lengths) n;
       next = s .next;
     }
 after w (move v m) s = withDelivery s (withServers (s .delivery) (transition v m (s .delivery .servers)))
 
 -- The choice made anew; a changed one makes S due.
 unfoldable pub settled : State → State
-settled s =
-    record {
-      settings = s .settings;
-      capacity = s .capacity;
-      delivery = settle (s .settings) (s .delivery);
-      due = changed (s .settings) (s .delivery) || s .due;
-      queue = s .queue;
-      start = s .start;
-      next = s .next;
-    }
+settled s = withDue s (settle (s .settings) (s .delivery)) (changed (s .settings) (s .delivery) || s .due)
 
 -- Only a put changes the store: its octets follow the held ones.
 unfoldable pub storeAfter : Call → State → List ℕ → List ℕ
@@ -283,9 +290,9 @@ storeAfter tick s store = store
 storeAfter (ack v dsn config) s store = store
 storeAfter (move v m) s store = store
 
--- ---- the step
+-- ---- the step (01, "Answer numbers")
 
--- What a call answers and leaves, and the octets that it writes.
+-- What a call answers and leaves, and the octets that it writes. The store is [] where none was lent.
 pub record Outcome : Type 0 where
   pub answer : ℕ
   pub state : State
@@ -300,22 +307,27 @@ step w table room c s store =
     (record { answer = done; state = settled (after w c s); store = storeAfter c s store; written = written w table c s store })
     (record { answer = a; state = s; store = store; written = [] })
 
--- The six calls, each given what it is lent.
+-- Put of a record under a template ID, lent the store and a table.
 abbrev pub putStep : ℕ → State → List ℕ → List ℕ → ℕ → List ℕ → Outcome
 putStep w s store table id r = step w table 0 (put id r) s store
 
+-- Next data, lent the store and an output.
 abbrev pub nextDataStep : ℕ → State → List ℕ → List ℕ → Outcome
 nextDataStep w s store out = step w [] (length out) nextData s store
 
+-- A message from server v, lent an output; it sees no table and no store.
 abbrev pub receiveStep : ℕ → State → ℕ → List ℕ → List ℕ → Outcome
 receiveStep w s v m out = step w [] (length out) (received (s .settings) v m) s []
 
+-- An offer of the lent table to server v, lent an output.
 abbrev pub offerStep : ℕ → State → ℕ → List ℕ → List ℕ → Outcome
 offerStep w s v table out = step w table (length out) (move v offer) s []
 
+-- The line to server v is down: nothing is lent.
 abbrev pub lineDownStep : ℕ → State → ℕ → Outcome
 lineDownStep w s v = step w [] 0 (move v down) s []
 
+-- One tick: nothing is lent.
 abbrev pub tickStep : ℕ → State → Outcome
 tickStep w s = step w [] 0 tick s []
 
@@ -323,14 +335,15 @@ tickStep w s = step w [] 0 tick s []
 abbrev pub outputAfter : List ℕ → Outcome → List ℕ
 outputAfter out o = sets out 0 (o .written)
 
--- What the code hands back of an outcome.
+-- What a call hands back that writes no message.
 abbrev pub steppedOf : Outcome → Stepped
 steppedOf o = record { answer = o .answer; state = o .state }
 
+-- What a call hands back that may write one: also how many octets it wrote.
 abbrev pub wroteOf : Outcome → Wrote
 wroteOf o = record { answer = o .answer; written = length (o .written); state = o .state }
 
--- ---- set-up
+-- ---- set-up (01, "Exporter")
 
 -- A state that holds nothing: every server closed, all counters 0, S due, and the first record to take the initial DSN.
 unfoldable pub fresh : Settings → ℕ → State
@@ -338,9 +351,9 @@ fresh p capacity =
     record {
       settings = p;
       capacity = capacity;
-      delivery = record { servers = replicate 8 (server Closed); active = active.Nobody; sent = 0; reached = 0; timer = 0 };
+      delivery = freshDelivery;
       due = true;
-      queue = record { count = 0; lengths = replicate 64 0; templates = replicate 64 0; receivers = replicate 64 0 };
+      queue = record { count = 0; lengths = replicate maxHeld 0; templates = replicate maxHeld 0; receivers = replicate maxHeld 0 };
       start = 0;
       next = p .initial;
     }
@@ -348,7 +361,7 @@ fresh p capacity =
 -- Settings of 0, which no set-up accepts.
 abbrev pub noSettings : Settings
 noSettings =
-    record { session = 0; config = 0; boot = 0; initial = 0; servers = 0; priorities = replicate 8 0; threshold = 0; duration = 0 }
+    record { session = 0; config = 0; boot = 0; initial = 0; servers = 0; priorities = replicate maxServers 0; threshold = 0; duration = 0 }
 
 -- What set-up hands back with a refusal: a state without servers or store, which every call refuses.
 abbrev pub refusedState : State

@@ -1,14 +1,15 @@
 // DATA ACK: a server acknowledges records, which are released from the front of the queue.
 ghost use mathlib.Core.Path.{_≡_};
 ghost use mathlib.Core.List.{[]};
-ghost use Prim.Native.Nat.{_+_, _%_, _≤_, _<_};
+ghost use Prim.Native.Nat.{_≤_, _<_};
 ghost use lib.ListN.{take};
 ghost use Rattle.octets.specs.Answers.{judge, done};
+ghost use Rattle.exporter.specs.Limits.{maxHeld, maxStoreOctets};
 ghost use Rattle.exporter.specs.Servers.{acknowledged};
-ghost use Rattle.exporter.specs.Queue.{sumOf, dropFront};
-ghost use Rattle.exporter.specs.Sound.{partsOf};
+ghost use Rattle.exporter.specs.Queue.{sumOf, ringPlace, dropFront};
+ghost use Rattle.exporter.specs.Changes.{stateOf};
 ghost use Rattle.exporter.specs.Steps.{ack, step, wroteOf, ackCountBy, ackChecks};
-ghost use Rattle.exporter.specs.Moves.{withNext, ackChangeOf};
+ghost use Rattle.exporter.specs.Moves.{ackChangeOf};
 use crate::state::Active;
 use crate::state::Delivery;
 use crate::state::Queue;
@@ -19,18 +20,24 @@ use octets::Answer;
 
 // A DATA ACK's answer, how many records it releases, and what it leaves of the ring's start and of the delivery's counters.
 pub(crate) struct AckChange {
+    // 0, or the number of the refusal
     pub answer: u8,
+    // how many records are released; 0 after a refusal
     pub released: usize,
+    // where the first record left begins in the store
     pub start: usize,
+    // the place of the next record to send
     pub sent: usize,
+    // how many records were reached
     pub reached: usize,
+    // the timer's ticks
     pub timer: u16,
 }
 
 // How many records a DATA ACK of this DSN names from the front of the queue. The first held DSN is `count` before the next one; DSNs
 // wrap.
 fn ack_count(next: u32, count: usize, dsn: u32) -> u32
-    requires { ⌜ count ≤ 64 ⌝ }
+    requires { ⌜ count ≤ maxHeld ⌝ }
     ensures { λ r. ⌜ r ≡ ackCountBy 32 next count dsn ⌝ }
 {
     let first = std::num::wrapping_sub_u32(next, count as u32);
@@ -80,11 +87,11 @@ fn accept_ack(
     start: usize,
     n: usize,
 ) -> AckChange
-    requires { ⌜ (n ≤ d .reached) × ((d .reached ≤ 64) × ((start < capacity) × ((capacity ≤ 65536) × (sumOf (take n (now lengths)) ≤ capacity)))) ⌝ }
+    requires { ⌜ (n ≤ d .reached) × ((d .reached ≤ maxHeld) × ((start < capacity) × ((capacity ≤ maxStoreOctets) × (sumOf (take n (now lengths)) ≤ capacity)))) ⌝ }
     ensures { λ r. ⌜ r ≡ record {
       answer = done;
       released = n;
-      start = (start + sumOf (take n (now (lengths .entry)))) % capacity;
+      start = ringPlace capacity start (now (lengths .entry)) n;
       sent = acknowledged n d .sent;
       reached = acknowledged n d .reached;
       timer = acknowledged n d .timer;
@@ -94,7 +101,7 @@ fn accept_ack(
     AckChange {
         answer: Answer::DONE,
         released: n,
-        start: crate::next_data::place_of(capacity, start, lengths, n),
+        start: crate::queue::record_start(capacity, start, lengths, n),
         sent: moved.sent,
         reached: moved.reached,
         timer: moved.timer,
@@ -117,7 +124,7 @@ fn ack_change<'a>(
     config: u8,
 ) -> AckChange
     ensures { λ r. ⌜ r ≡ ackChangeOf (ackCountBy 32 next count dsn)
-        (step 32 [] 0 (ack v dsn config) (withNext (partsOf p capacity d due count (now (lengths .entry)) (now (receivers .entry)) start) next) []) ⌝ }
+        (step 32 [] 0 (ack v dsn config) (stateOf p capacity d due count (now (lengths .entry)) [] (now (receivers .entry)) start next) []) ⌝ }
 {
     if !crate::sound::parts_sound(p, capacity, d, due, count, lengths, receivers, start) {
         return refuse_ack(Answer::UNSOUND_STATE, d, start);
@@ -138,7 +145,7 @@ fn release_queue<'a>(
     receivers: &'a [u16; 64],
     n: usize,
 ) -> Queue
-    requires { ⌜ (n ≤ count) × (n ≤ 64) ⌝ }
+    requires { ⌜ (n ≤ count) × (n ≤ maxHeld) ⌝ }
     ensures { λ r. ⌜ r ≡ dropFront (record { count = count; lengths = now (lengths .entry); templates = now (templates .entry); receivers = now (receivers .entry) }) n ⌝ }
 {
     let moved_lengths = crate::queue::shift(lengths, n);
@@ -154,7 +161,7 @@ fn release_queue<'a>(
 
 // The queue without its first n records; the same one where none is released.
 fn queue_after(q: Queue, n: usize) -> Queue
-    requires { ⌜ (n ≤ q .count) × (n ≤ 64) ⌝ }
+    requires { ⌜ (n ≤ q .count) × (n ≤ maxHeld) ⌝ }
     ensures { λ r. ⌜ r ≡ dropFront q n ⌝ }
 {
     if n == 0 {
@@ -166,7 +173,7 @@ fn queue_after(q: Queue, n: usize) -> Queue
     release_queue(q.count, &lengths, &templates, &receivers, n)
 }
 
-// A DATA ACK from server v: 1, 2, 9, 10 or 11.
+// A DATA ACK from server v. Refused with 1, 2, 9, 10 or 11.
 pub(crate) fn acknowledge(s: State, v: u8, dsn: u32, config: u8) -> Wrote
     ensures { λ r. ⌜ r ≡ wroteOf (step 32 [] 0 (ack v dsn config) s []) ⌝ }
 {

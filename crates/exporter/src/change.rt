@@ -8,13 +8,17 @@ use octets::Answer;
 
 // A call's answer, how many octets it wrote, and the delivery and S as it leaves them.
 pub(crate) struct Change {
+    // 0, or the number of the refusal
     pub answer: u8,
+    // how many octets were written
     pub written: usize,
+    // the delivery
     pub delivery: Delivery,
+    // whether S is due
     pub due: bool,
 }
 
-// The change of an accepted call that wrote some octets: the choice is made once more, and compared with the active server.
+// The change of an accepted call that wrote some octets: the choice is made anew and compared with the active server.
 pub(crate) fn settle_change(p: Settings, d: Delivery, due: bool, written: usize) -> Change
     ensures { λ r. ⌜ r ≡ settledChange p d due written ⌝ }
 {

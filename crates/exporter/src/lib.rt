@@ -1,4 +1,13 @@
-// The exporting side of a CRANE session: set-up and six calls over a state that is passed by value and a store that is lent.
+// The exporting side of one CRANE session (RFC 3423), without sockets, clocks or memory of its own. `set_up` makes a `State`; `put`,
+// `next_data`, `receive`, `offer_templates`, `line_down` and `tick` each take a state by value and give back the next one with an answer
+// number (`octets::Answer`). The octets of the records lie in a store that the caller lends, used as a ring. A refused call changes nothing:
+// not the state, the store or the output.
+//
+// It does not read or write the octets of messages and tables by itself: `wire` does. It opens no line and waits for nothing: the caller
+// brings what was received, sends what was written and says when a tick has passed.
+//
+// Three types matter: `state::State`; its `Delivery`, the servers and how far the active one was sent the queue; and its `Queue`, the records
+// held.
 mod acknowledge;
 mod change;
 mod decode;

@@ -5,7 +5,7 @@ use crate::state::State;
 use crate::state::Stepped;
 use crate::transition::Move;
 
-// The line to server v is down, which closes it: 1 or 2.
+// The line to server v is down, which closes it. Refused with 1 or 2.
 pub fn line_down(s: State, v: u8) -> Stepped
     ensures { λ r. ⌜ r ≡ steppedOf (lineDownStep 32 s v) ⌝ }
 {

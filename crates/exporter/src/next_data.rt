@@ -2,17 +2,17 @@
 ghost use mathlib.Core.Path.{_≡_};
 ghost use mathlib.Core.List.{[], _∷_};
 ghost use mathlib.Core.Bool.{false, not, _&&_};
-ghost use Prim.Native.Nat.{_+_, _-_, _%_, _≤_, _<_, max};
-ghost use lib.Dec.{eqb, leb};
-ghost use lib.ListN.{length, take};
-ghost use Rattle.octets.specs.Answers.{_when_, judge, done, unsoundState, noActiveServer, nothingToSend};
-ghost use Rattle.wire.specs.Messages.{Placed, layoutOf};
+ghost use Prim.Native.Nat.{_+_, _≤_, _<_, max};
+ghost use lib.Dec.{eqb};
+ghost use lib.ListN.{length};
+ghost use Rattle.octets.specs.Answers.{_when_, judge, done, unsoundState};
+ghost use Rattle.wire.specs.Messages.{maxRecordOctets, Placed, layoutOf};
 ghost use Rattle.wire.specs.declared.message.Message.the-variants.{Data};
-ghost use Rattle.exporter.specs.Servers.{isNobody};
-ghost use Rattle.exporter.specs.Queue.{sumOf, ringRead};
-ghost use Rattle.exporter.specs.Sound.{partsOf, sound};
-ghost use Rattle.exporter.specs.Changes.{Below, markedSet, SendFacts, stateOf, sendingOf};
-ghost use Rattle.exporter.specs.Steps.{isDuplicate, headOf, nextDataStep, wroteOf, outputAfter};
+ghost use Rattle.exporter.specs.Limits.{maxServers, maxHeld};
+ghost use Rattle.exporter.specs.Queue.{markedSet, ringRead};
+ghost use Rattle.exporter.specs.Sound.{sound};
+ghost use Rattle.exporter.specs.Changes.{Below, SendFacts, stateOf, sendingOf};
+ghost use Rattle.exporter.specs.Steps.{dsnAtBy, isDuplicate, headOf, sendChecks, nextDataStep, wroteOf, outputAfter};
 use crate::state::Active;
 use crate::state::Delivery;
 use crate::state::Queue;
@@ -26,12 +26,19 @@ use wire::message::Written;
 // A sending's answer, how many octets it wrote, the place of its record with the set of servers that this was sent to, and what it leaves
 // of the delivery's counters and S.
 pub(crate) struct Sending {
+    // 0, or the number of the refusal
     pub answer: u8,
+    // how many octets were written
     pub written: usize,
+    // which entry of the sets is stored, below 64; 0 after a refusal
     pub place: usize,
+    // the set of servers that stands there
     pub set: u16,
+    // the place of the next record to send
     pub sent: usize,
+    // how many records were reached
     pub reached: usize,
+    // whether S is due
     pub due: bool,
 }
 
@@ -48,8 +55,9 @@ fn send_answer<'a>(
     start: usize,
     stored: usize,
 ) -> u8
-    ensures { λ a. ⌜ a ≡ judge ((unsoundState when not (sound (partsOf p capacity d due count (now (lengths .entry)) (now (receivers .entry)) start) && eqb stored capacity))
-        ∷ (noActiveServer when isNobody (d .active)) ∷ (nothingToSend when leb count (d .sent)) ∷ []) ⌝ }
+    ensures { λ a. ⌜ a ≡ judge
+        ((unsoundState when not (sound (stateOf p capacity d due count (now (lengths .entry)) [] (now (receivers .entry)) start 0) && eqb stored capacity))
+        ∷ sendChecks d count) ⌝ }
 {
     if !crate::sound::parts_sound(p, capacity, d, due, count, lengths, receivers, start) {
         return Answer::UNSOUND_STATE;
@@ -79,8 +87,8 @@ fn is_duplicate(p: Settings, active: Active, set: u16) -> bool
 
 // The DSN of the record at place i: the first of the `count` held ones is that many before the next DSN.
 fn dsn_at(next: u32, count: usize, i: usize) -> u32
-    requires { ⌜ (count ≤ 64) × (i ≤ 64) ⌝ }
-    ensures { λ r. ⌜ r ≡ ((next + (4294967296 - count)) % 4294967296 + i) % 4294967296 ⌝ }
+    requires { ⌜ (count ≤ maxHeld) × (i ≤ maxHeld) ⌝ }
+    ensures { λ r. ⌜ r ≡ dsnAtBy 32 next count i ⌝ }
 {
     let first = std::num::wrapping_sub_u32(next, count as u32);
     std::num::wrapping_add_u32(first, i as u32)
@@ -96,7 +104,7 @@ fn next_head<'a>(
     receivers: &'a [u16; 64],
     next: u32,
 ) -> DataHead
-    requires { ⌜ (count ≤ 64) × (d .sent < 64) ⌝ }
+    requires { ⌜ (count ≤ maxHeld) × (d .sent < maxHeld) ⌝ }
     ensures { λ r. ⌜ r ≡ headOf 32 (stateOf p 0 d due count [] (now (templates .entry)) (now (receivers .entry)) 0 next) ⌝ }
 {
     let active = d.active;
@@ -113,7 +121,7 @@ fn next_head<'a>(
 
 // Writes a DATA whose record lies in the store from a place on.
 fn write_record(head: DataHead, store: &[u8], at: usize, len: usize, out: &mut [u8]) -> Written
-    requires { ⌜ (at < length (now store)) × ((len ≤ length (now store)) × (len ≤ 1024)) ⌝ }
+    requires { ⌜ (at < length (now store)) × ((len ≤ length (now store)) × (len ≤ maxRecordOctets)) ⌝ }
     ensures { λ r. ⌜ Placed (layoutOf (Data head) (ringRead (length (now (store .entry))) (now (store .entry)) at len)) (now (out .entry)) r (now (out .exit)) ⌝ }
 {
     let written = wire::message::write_data_head(head, len, out);
@@ -126,21 +134,9 @@ fn write_record(head: DataHead, store: &[u8], at: usize, len: usize, out: &mut [
     }
 }
 
-// The place in the store where the record at place i of the queue begins.
-pub(crate) fn place_of(capacity: usize, start: usize, lengths: &[u16; 64], i: usize) -> usize
-    requires { ⌜ (start < capacity) × ((capacity ≤ 65536) × ((i ≤ 64) × (sumOf (take i (now lengths)) ≤ capacity))) ⌝ }
-    ensures { λ r. ⌜ r ≡ (start + sumOf (take i (now (lengths .entry)))) % capacity ⌝ }
-{
-    let at = start + (crate::queue::octets_to(lengths, i) as usize);
-    if at < capacity {
-        return at;
-    }
-    at - capacity
-}
-
 // A set of servers with the active one.
 fn marked_set(active: Active, set: u16) -> u16
-    requires { ⌜ Below 8 active ⌝ }
+    requires { ⌜ Below maxServers active ⌝ }
     ensures { λ r. ⌜ r ≡ markedSet active set ⌝ }
 {
     match active {
@@ -176,7 +172,7 @@ fn refuse_sending(answer: u8, d: Delivery, due: bool, set: u16) -> Sending
 
 // What a sending of n octets changes: one more record was sent, and its set has the active server.
 fn accept_sending(d: Delivery, set: u16, n: usize) -> Sending
-    requires { ⌜ (d .sent < 64) × Below 8 (d .active) ⌝ }
+    requires { ⌜ (d .sent < maxHeld) × Below maxServers (d .active) ⌝ }
     ensures { λ r. ⌜ r ≡ record { answer = done; written = n; place = d .sent; set = markedSet (d .active) set; sent = d .sent + 1; reached = max (d .reached) (d .sent + 1); due = false } ⌝ }
 {
     let active = d.active;
@@ -192,8 +188,8 @@ fn accept_sending(d: Delivery, set: u16, n: usize) -> Sending
     }
 }
 
-// A length as a number of octets.
-fn octets_in(len: u16) -> usize
+// A length as a count, so that reading an entry and widening it are proved apart.
+fn wide(len: u16) -> usize
     ensures { λ r. ⌜ r ≡ len ⌝ }
 {
     len as usize
@@ -215,12 +211,14 @@ fn send<'a, 'b>(
     out: &mut [u8],
 ) -> Sending
     requires { ⌜ SendFacts (stateOf p capacity d due count (now lengths) (now templates) (now receivers) start next) (now store) ⌝ }
-    ensures { λ r. ⌜ (r ≡ sendingOf (stateOf p capacity d due count (now (lengths .entry)) (now (templates .entry)) (now (receivers .entry)) start next) (nextDataStep 32 (stateOf p capacity d due count (now (lengths .entry)) (now (templates .entry)) (now (receivers .entry)) start next) (now (store .entry)) (now (out .entry))))
-        × (now (out .exit) ≡ outputAfter (now (out .entry)) (nextDataStep 32 (stateOf p capacity d due count (now (lengths .entry)) (now (templates .entry)) (now (receivers .entry)) start next) (now (store .entry)) (now (out .entry)))) ⌝ }
+    ensures { λ r. ⌜
+        (let s = stateOf p capacity d due count (now (lengths .entry)) (now (templates .entry)) (now (receivers .entry)) start next in
+        let o = nextDataStep 32 s (now (store .entry)) (now (out .entry)) in
+        (r ≡ sendingOf s o) × (now (out .exit) ≡ outputAfter (now (out .entry)) o)) ⌝ }
 {
     let i = d.sent;
-    let at = place_of(capacity, start, lengths, i);
-    let len = octets_in(lengths[i]);
+    let at = crate::queue::record_start(capacity, start, lengths, i);
+    let len = wide(lengths[i]);
     let head = next_head(p, d, due, count, templates, receivers, next);
     let written = write_record(head, store, at, len, out);
     match written {
@@ -244,8 +242,10 @@ fn next_change<'a, 'b>(
     store: &'b [u8],
     out: &mut [u8],
 ) -> Sending
-    ensures { λ r. ⌜ (r ≡ sendingOf (stateOf p capacity d due count (now (lengths .entry)) (now (templates .entry)) (now (receivers .entry)) start next) (nextDataStep 32 (stateOf p capacity d due count (now (lengths .entry)) (now (templates .entry)) (now (receivers .entry)) start next) (now (store .entry)) (now (out .entry))))
-        × (now (out .exit) ≡ outputAfter (now (out .entry)) (nextDataStep 32 (stateOf p capacity d due count (now (lengths .entry)) (now (templates .entry)) (now (receivers .entry)) start next) (now (store .entry)) (now (out .entry)))) ⌝ }
+    ensures { λ r. ⌜
+        (let s = stateOf p capacity d due count (now (lengths .entry)) (now (templates .entry)) (now (receivers .entry)) start next in
+        let o = nextDataStep 32 s (now (store .entry)) (now (out .entry)) in
+        (r ≡ sendingOf s o) × (now (out .exit) ≡ outputAfter (now (out .entry)) o)) ⌝ }
 {
     let stored = store.len();
     let answer = send_answer(

@@ -5,7 +5,7 @@ use crate::state::State;
 use crate::state::Wrote;
 use crate::transition::Move;
 
-// Writes the TMPL DATA that offers a table to server v: 1, 2, 21, 9 or 12.
+// Writes the TMPL DATA that offers a table to server v. Refused with 1, 2, 21, 9 or 12.
 pub fn offer_templates(s: State, v: u8, table: &[u8], out: &mut [u8]) -> Wrote
     ensures { λ r. ⌜ (r ≡ wroteOf (offerStep 32 s v (now (table .entry)) (now (out .entry))))
         × (now (out .exit) ≡ outputAfter (now (out .entry)) (offerStep 32 s v (now (table .entry)) (now (out .entry)))) ⌝ }

@@ -6,26 +6,34 @@ ghost use Prim.Native.Nat.{_≤_};
 ghost use lib.Dec.{eqb};
 ghost use lib.ListN.{length};
 ghost use Rattle.octets.specs.Answers.{_when_, judge, unsoundState};
-ghost use Rattle.exporter.specs.Sound.{partsOf, sound};
+ghost use Rattle.exporter.specs.Limits.{maxHeld};
+ghost use Rattle.exporter.specs.Sound.{sound};
 ghost use Rattle.exporter.specs.Changes.{stateOf, puttingOf};
 ghost use Rattle.exporter.specs.Steps.{putStep, steppedOf, recordChecks, roomChecks};
 use crate::queue::MAX_HELD;
-use crate::queue::MAX_RECORD_OCTETS;
 use crate::state::Delivery;
 use crate::state::Queue;
 use crate::state::Settings;
 use crate::state::State;
 use crate::state::Stepped;
 use octets::Answer;
+use wire::message::MAX_RECORD_OCTETS;
 
 // A put's answer, the place of its entries and what stands there, and what it leaves of the count and the next DSN.
 pub(crate) struct Putting {
+    // 0, or the number of the refusal
     pub answer: u8,
+    // which entry of each array is stored, below 64; 0 after a refusal
     pub place: usize,
+    // the length that stands there
     pub len: u16,
+    // the template ID that stands there
     pub template: u16,
+    // the set of servers that stands there
     pub set: u16,
+    // how many records are then held
     pub count: usize,
+    // the DSN that the next record put will take
     pub next: u32,
 }
 
@@ -51,7 +59,7 @@ fn record_answer(p: Settings, table: &[u8], id: u16, r: &[u8]) -> u8
 
 // 0 for a record that finds room beside n held ones, else 18 or 19.
 fn room_answer(capacity: usize, n: usize, lengths: &[u16; 64], r: &[u8]) -> u8
-    requires { ⌜ n ≤ 64 ⌝ }
+    requires { ⌜ n ≤ maxHeld ⌝ }
     ensures { λ a. ⌜ a ≡ judge (roomChecks capacity n (now (lengths .entry)) (now (r .entry))) ⌝ }
 {
     if MAX_HELD <= n {
@@ -80,7 +88,7 @@ fn put_answer<'a, 'b, 'c>(
     id: u16,
     r: &'c [u8],
 ) -> u8
-    ensures { λ a. ⌜ a ≡ judge ((unsoundState when not (sound (partsOf p capacity d due count (now (lengths .entry)) (now (receivers .entry)) start) && eqb stored capacity))
+    ensures { λ a. ⌜ a ≡ judge ((unsoundState when not (sound (stateOf p capacity d due count (now (lengths .entry)) [] (now (receivers .entry)) start 0) && eqb stored capacity))
         ∷ (recordChecks p (now (table .entry)) id (now (r .entry)) ++ roomChecks capacity count (now (lengths .entry)) (now (r .entry)))) ⌝ }
 {
     if !crate::sound::parts_sound(p, capacity, d, due, count, lengths, receivers, start) {
@@ -128,8 +136,10 @@ fn put_change<'a, 'b, 'c>(
     id: u16,
     r: &'c [u8],
 ) -> Putting
-    ensures { λ x. ⌜ (x ≡ puttingOf (stateOf p capacity d due count (now (lengths .entry)) (now (templates .entry)) (now (receivers .entry)) start next) id (now (r .entry)) (putStep 32 (stateOf p capacity d due count (now (lengths .entry)) (now (templates .entry)) (now (receivers .entry)) start next) (now (store .entry)) (now (table .entry)) id (now (r .entry))))
-        × (now (store .exit) ≡ putStep 32 (stateOf p capacity d due count (now (lengths .entry)) (now (templates .entry)) (now (receivers .entry)) start next) (now (store .entry)) (now (table .entry)) id (now (r .entry)) .store) ⌝ }
+    ensures { λ x. ⌜
+        (let s = stateOf p capacity d due count (now (lengths .entry)) (now (templates .entry)) (now (receivers .entry)) start next in
+        let o = putStep 32 s (now (store .entry)) (now (table .entry)) id (now (r .entry)) in
+        (x ≡ puttingOf s id (now (r .entry)) o) × (now (store .exit) ≡ o .store)) ⌝ }
 {
     let stored = store.len();
     let answer = put_answer(

@@ -1,21 +1,19 @@
 // The queue's arrays: lengths, template IDs and the sets of servers that each record was sent to.
 ghost use mathlib.Core.Path.{_≡_};
-ghost use mathlib.Core.Bool.{_&&_};
-ghost use Prim.Native.Nat.{_+_, _^_, _≤_, _<_};
-ghost use lib.Dec.{leb, ltb};
+ghost use Prim.Native.Nat.{_+_, _≤_, _<_};
 ghost use lib.ListN.{getD, take};
 ghost use Rattle.wire.specs.Each.{every};
-ghost use Rattle.exporter.specs.Queue.{sumOf, has, with, hasOther, shifted};
+ghost use Rattle.exporter.specs.Limits.{maxServers, maxStoreOctets, maxHeld};
+ghost use Rattle.exporter.specs.Queue.{sumOf, ringPlace, has, with, hasOther, shifted};
+ghost use Rattle.exporter.specs.Sound.{entrySound};
+use wire::message::MAX_RECORD_OCTETS;
 
 // The most records that are held at a time.
 pub const MAX_HELD: usize = 64;
 
-// The most octets that a record has.
-pub const MAX_RECORD_OCTETS: usize = 1024;
-
 // How many octets the first n records have together.
 pub(crate) fn octets_to(lengths: &[u16; 64], n: usize) -> u32
-    requires { ⌜ n ≤ 64 ⌝ }
+    requires { ⌜ n ≤ maxHeld ⌝ }
     ensures { λ r. ⌜ r ≡ sumOf (take n (now (lengths .entry))) ⌝ }
 {
     let part = &lengths[..];
@@ -26,6 +24,18 @@ pub(crate) fn octets_to(lengths: &[u16; 64], n: usize) -> u32
         i += 1;
     }
     sum
+}
+
+// The place in the store where the record at place i of the queue begins.
+pub(crate) fn record_start(capacity: usize, start: usize, lengths: &[u16; 64], i: usize) -> usize
+    requires { ⌜ (start < capacity) × ((capacity ≤ maxStoreOctets) × ((i ≤ maxHeld) × (sumOf (take i (now lengths)) ≤ capacity))) ⌝ }
+    ensures { λ r. ⌜ r ≡ ringPlace capacity start (now (lengths .entry)) i ⌝ }
+{
+    let at = start + (octets_to(lengths, i) as usize);
+    if at < capacity {
+        return at;
+    }
+    at - capacity
 }
 
 // Whether a server is in a set.
@@ -53,7 +63,7 @@ pub(crate) fn has_other(set: u16, v: u8, n: u8) -> bool
 
 // A set with a server.
 pub(crate) fn with_server(set: u16, v: u8) -> u16
-    requires { ⌜ v < 8 ⌝ }
+    requires { ⌜ v < maxServers ⌝ }
     ensures { λ r. ⌜ r ≡ with set v ⌝ }
 {
     set | (1u16 << v)
@@ -66,14 +76,15 @@ pub(crate) fn entries_sound<'a>(
     n: usize,
     servers: u8,
 ) -> bool
-    requires { ⌜ (n ≤ 64) × (servers ≤ 8) ⌝ }
-    ensures { λ r. ⌜ r ≡ every n (λ i. leb (getD (now (lengths .entry)) i 0) 1024 && ltb (getD (now (receivers .entry)) i 0) (2 ^ servers)) ⌝ }
+    requires { ⌜ (n ≤ maxHeld) × (servers ≤ maxServers) ⌝ }
+    ensures { λ r. ⌜ r ≡ every n (entrySound servers (now (lengths .entry)) (now (receivers .entry))) ⌝ }
 {
+    let most = MAX_RECORD_OCTETS as u16;
     let bound = 1u16 << servers;
     let mut ok = true;
     let mut i: usize = 0;
     while i < n {
-        ok = ok & ((lengths[i] <= 1024) & (receivers[i] < bound));
+        ok = ok & ((lengths[i] <= most) & (receivers[i] < bound));
         i += 1;
     }
     ok
@@ -81,7 +92,7 @@ pub(crate) fn entries_sound<'a>(
 
 // Whether each of the first n records was sent to a server: it is in what their sets have in common.
 pub(crate) fn all_received(receivers: &[u16; 64], n: usize, v: u8) -> bool
-    requires { ⌜ (n ≤ 64) × (v < 16) ⌝ }
+    requires { ⌜ (n ≤ maxHeld) × (v < 16) ⌝ }
     ensures { λ r. ⌜ r ≡ every n (λ i. has (getD (now (receivers .entry)) i 0) v) ⌝ }
 {
     let mut common: u16 = 65535;
@@ -95,12 +106,12 @@ pub(crate) fn all_received(receivers: &[u16; 64], n: usize, v: u8) -> bool
 
 // The entries from n on, moved to the front, with 0 in those that this frees.
 pub(crate) fn shift(entries: &[u16; 64], n: usize) -> [u16; 64]
-    requires { ⌜ n ≤ 64 ⌝ }
+    requires { ⌜ n ≤ maxHeld ⌝ }
     ensures { λ r. ⌜ r ≡ shifted (now (entries .entry)) n ⌝ }
 {
     let part = &entries[..];
     let mut moved = [0u16; 64];
-    let end = 64 - n;
+    let end = MAX_HELD - n;
     let mut i: usize = 0;
     while i < end {
         moved[i] = part[n + i];

@@ -5,7 +5,7 @@ use crate::decode::Request;
 use crate::state::State;
 use crate::state::Wrote;
 
-// Takes a message from server v, and writes its acknowledgement if it has one: 1 to 12, the least that applies.
+// Takes a message from server v, and writes its acknowledgement if it has one. Refused with the least of 1 to 12 that applies.
 pub fn receive(s: State, v: u8, message: &[u8], out: &mut [u8]) -> Wrote
     ensures { λ r. ⌜ (r ≡ wroteOf (receiveStep 32 s v (now (message .entry)) (now (out .entry))))
         × (now (out .exit) ≡ outputAfter (now (out .entry)) (receiveStep 32 s v (now (message .entry)) (now (out .entry)))) ⌝ }
@@ -14,7 +14,7 @@ pub fn receive(s: State, v: u8, message: &[u8], out: &mut [u8]) -> Wrote
     let request = crate::decode::decode(p, message);
     match request {
         Request::Ack(dsn, config) => crate::acknowledge::acknowledge(s, v, dsn, config),
-        // what is handed back is built anew, so that an acknowledgement copies no state
+        // the state is copied in this arm alone, so that a DATA ACK is handed the one that came
         Request::Move(m) => {
             let before = s;
             let left = crate::transition::move_server(before, v, m, &[], out);

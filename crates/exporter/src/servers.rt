@@ -1,10 +1,10 @@
 // Servers: their phases, the choice of the active one, and the steps of a delivery.
 ghost use mathlib.Core.Path.{_≡_};
-ghost use mathlib.Core.Bool.{cond, not, _&&_};
+ghost use mathlib.Core.Bool.{cond, not};
 ghost use Prim.Native.Nat.{_≤_};
 ghost use mathlib.Core.List.{map};
 ghost use lib.ListN.{getD, set};
-ghost use Rattle.exporter.specs.Servers.{server, phaseAt, isClosed, isOffered, canOffer, isAgreed, restart, beats, choose, sameActive, isNobody, acknowledged};
+ghost use Rattle.exporter.specs.Servers.{server, phaseAt, isClosed, isOffered, canOffer, isAgreed, restart, beats, preferred, choose, sameActive, isNobody, activated, acknowledged};
 ghost use Rattle.exporter.specs.Changes.{numberOf};
 ghost use Rattle.exporter.specs.declared.state.Phase.the-variants.{Closed};
 use crate::state::Active;
@@ -19,17 +19,19 @@ pub const MAX_SERVERS: u8 = 8;
 fn priority_at(priorities: [u8; 8], v: u8) -> u8
     ensures { λ r. ⌜ r ≡ getD priorities v 0 ⌝ }
 {
-    let i = v as usize;
-    if i < 8 { priorities[i] } else { 0 }
+    if v < MAX_SERVERS {
+        priorities[v as usize]
+    } else {
+        0
+    }
 }
 
 // The phase of a server, closed past the last.
 pub(crate) fn phase_at(servers: [Server; 8], v: u8) -> Phase
     ensures { λ r. ⌜ r ≡ phaseAt servers v ⌝ }
 {
-    let i = v as usize;
-    if i < 8 {
-        let server = servers[i];
+    if v < MAX_SERVERS {
+        let server = servers[v as usize];
         return server.phase;
     }
     Phase::Closed
@@ -40,9 +42,8 @@ pub(crate) fn with_phase(servers: [Server; 8], v: u8, phase: Phase) -> [Server; 
     ensures { λ r. ⌜ r ≡ set servers v (server phase) ⌝ }
 {
     let mut changed = servers;
-    let i = v as usize;
-    if i < 8 {
-        changed[i] = Server { phase };
+    if v < MAX_SERVERS {
+        changed[v as usize] = Server { phase };
     }
     changed
 }
@@ -128,8 +129,9 @@ pub(crate) fn restart_servers(servers: [Server; 8]) -> [Server; 8]
     ensures { λ r. ⌜ r ≡ map restart servers ⌝ }
 {
     let mut changed = servers;
+    let end = MAX_SERVERS as usize;
     let mut i: usize = 0;
-    while i < 8 {
+    while i < end {
         changed[i] = restart_server(servers[i]);
         i += 1;
     }
@@ -148,7 +150,7 @@ fn beats_best(priorities: [u8; 8], v: u8, best: Active) -> bool
 
 // The choice so far, or a server if it is agreed and has a higher priority.
 fn better(priorities: [u8; 8], servers: [Server; 8], v: u8, best: Active) -> Active
-    ensures { λ r. ⌜ r ≡ cond (isAgreed (phaseAt servers v) && beats priorities v best) (Active.Server v) best ⌝ }
+    ensures { λ r. ⌜ r ≡ preferred priorities servers v best ⌝ }
 {
     if is_agreed(phase_at(servers, v)) & beats_best(priorities, v, best) {
         return Active::Server(v);
@@ -207,7 +209,7 @@ pub(crate) fn is_nobody(a: Active) -> bool
 
 // The delivery after the choice is made anew: another than the active server begins an activation.
 pub(crate) fn settle_delivery(d: Delivery, choice: Active, same: bool) -> Delivery
-    ensures { λ r. ⌜ r ≡ cond (not same) (record { servers = d .servers; active = choice; sent = 0; reached = 0; timer = 0 }) d ⌝ }
+    ensures { λ r. ⌜ r ≡ cond (not same) (activated d choice) d ⌝ }
 {
     if same {
         return d;

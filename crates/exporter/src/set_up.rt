@@ -63,8 +63,8 @@ fn no_settings() -> Settings
     }
 }
 
-// Makes an exporter over a store, whose length it keeps: 20 for a store or a setting outside the limits, with a state that every call
-// refuses.
+// Makes an exporter over a store, whose length it keeps. Refused with 20 for a store or a setting outside the limits, and then with a state
+// that every call refuses.
 pub fn set_up(p: Settings, store: &[u8]) -> Made
     ensures { λ r. ⌜ r ≡ setUp p (length (now (store .entry))) ⌝ }
 {

@@ -1,17 +1,23 @@
 // The limits of the settings, and whether a state is sound.
 ghost use mathlib.Core.Path.{_≡_};
 ghost use Prim.Native.Nat.{_≤_};
-ghost use Rattle.exporter.specs.Changes.{Below};
-ghost use Rattle.exporter.specs.Sound.{settingsSound, numbersSound, activationSound, partsOf, sound};
+ghost use mathlib.Core.List.{[]};
+ghost use Rattle.exporter.specs.Limits.{maxServers, maxHeld};
+ghost use Rattle.exporter.specs.Changes.{Below, stateOf};
+ghost use Rattle.exporter.specs.Sound.{settingsSound, numbersSound, activationSound, sound};
 use crate::queue::MAX_HELD;
 use crate::servers::MAX_SERVERS;
 use crate::state::Active;
 use crate::state::Delivery;
 use crate::state::Settings;
 
-// The least and the most octets that a store has.
+// The greatest threshold.
+pub const MAX_THRESHOLD: u8 = 64;
+
+// The fewest octets that a store has.
 pub const MIN_STORE_OCTETS: usize = 1024;
 
+// The most octets that a store has.
 pub const MAX_STORE_OCTETS: usize = 65536;
 
 // Whether settings and a store's length are in their limits.
@@ -21,7 +27,7 @@ pub(crate) fn settings_sound(p: Settings, room: usize) -> bool
     (1 <= p.servers)
         & (p.servers <= MAX_SERVERS)
         & (1 <= p.threshold)
-        & (p.threshold <= 64)
+        & (p.threshold <= MAX_THRESHOLD)
         & (1 <= p.duration)
         & (MIN_STORE_OCTETS <= room)
         & (room <= MAX_STORE_OCTETS)
@@ -49,7 +55,7 @@ fn numbers_sound(
 
 // Whether the activation is as the records have it.
 fn activation_sound(d: Delivery, receivers: &[u16; 64]) -> bool
-    requires { ⌜ (d .reached ≤ 64) × Below 8 (d .active) ⌝ }
+    requires { ⌜ (d .reached ≤ maxHeld) × Below maxServers (d .active) ⌝ }
     ensures { λ r. ⌜ r ≡ activationSound d (now (receivers .entry)) (d .active) ⌝ }
 {
     let active = d.active;
@@ -70,7 +76,7 @@ pub(crate) fn parts_sound<'a>(
     receivers: &'a [u16; 64],
     start: usize,
 ) -> bool
-    ensures { λ r. ⌜ r ≡ sound (partsOf p room d due count (now (lengths .entry)) (now (receivers .entry)) start) ⌝ }
+    ensures { λ r. ⌜ r ≡ sound (stateOf p room d due count (now (lengths .entry)) [] (now (receivers .entry)) start 0) ⌝ }
 {
     if !numbers_sound(p, room, d, due, count, start) {
         return false;

@@ -11,6 +11,7 @@ pub enum Phase {
 
 // A server, by its phase.
 pub struct Server {
+    // its server state, as 01 calls it
     pub phase: Phase,
 }
 
@@ -68,12 +69,15 @@ pub struct Queue {
 
 // An exporter. The octets of the held records lie in the lent store, one after the other from `start` on, modulo its length.
 pub struct State {
+    // what it was set up with
     pub settings: Settings,
     // the length of the store that was lent at set-up
     pub capacity: usize,
+    // the servers, and how far the active one was sent the queue
     pub delivery: Delivery,
     // whether the next DATA is the first of its activation and so has S set
     pub due: bool,
+    // the records held
     pub queue: Queue,
     // where the first held record's octets begin; below `capacity`
     pub start: usize,
@@ -83,19 +87,26 @@ pub struct State {
 
 // What set-up answers.
 pub struct Made {
+    // the fresh exporter; after a refusal one that every call refuses
     pub state: State,
+    // 0 or 20
     pub answer: u8,
 }
 
 // What a call answers that writes no message.
 pub struct Stepped {
+    // the next state; after a refusal the one that came
     pub state: State,
+    // 0, or the number of the refusal
     pub answer: u8,
 }
 
 // What a call answers that may write a message: how many octets it wrote.
 pub struct Wrote {
+    // the next state; after a refusal the one that came
     pub state: State,
+    // 0, or the number of the refusal
     pub answer: u8,
+    // how many octets of the output it wrote, from the first one on; 0 after a refusal
     pub written: usize,
 }

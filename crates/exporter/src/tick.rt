@@ -16,7 +16,9 @@ use octets::Answer;
 
 // The timer after a tick, and whether it has run out.
 pub(crate) struct Clock {
+    // its ticks, 0 where it has run out
     pub timer: u16,
+    // whether the duration has passed
     pub expired: bool,
 }
 
@@ -105,8 +107,8 @@ fn pick_number(first: bool, x: u8, y: u8) -> u8
     y
 }
 
-// What a tick changes, by the timer after it. Where that has run out the next agreed server takes over, or all is sent again if there is
-// none. Before, the choice is among no servers and so nobody: this way no memory is written on one path alone.
+// What a tick changes, by the clock after it. Where the timer has run out the next agreed server takes over, or all is sent again if there
+// is none. Where it has not, the choice is among 0 servers, so it is nobody, and every field is stored on one path.
 fn tick_change(sound: bool, p: Settings, d: Delivery, due: bool, clock: Clock) -> Change
     ensures { λ r. ⌜ r ≡ tickChangeBy sound p d due clock ⌝ }
 {
@@ -135,7 +137,7 @@ fn tick_change(sound: bool, p: Settings, d: Delivery, due: bool, clock: Clock) -
     }
 }
 
-// One tick passes: 1 for an unsound state.
+// One tick passes. Refused with 1.
 pub fn tick(s: State) -> Stepped
     ensures { λ r. ⌜ r ≡ steppedOf (tickStep 32 s) ⌝ }
 {

@@ -1,14 +1,13 @@
 // Transitions of a server: by a message, by an offer of templates, by a line that is down.
 ghost use mathlib.Core.Path.{_≡_};
 ghost use mathlib.Core.Bool.{true};
-ghost use mathlib.Core.List.{[], _∷_};
+ghost use mathlib.Core.List.{[]};
 ghost use lib.ListN.{length};
-ghost use Rattle.octets.specs.Answers.{_when_, judge, outOfTurn};
+ghost use Rattle.octets.specs.Answers.{judge};
 ghost use Rattle.wire.specs.Messages.{Placed};
-ghost use Rattle.exporter.specs.Servers.{isClosed, offer, agree, transition, withServers};
-ghost use Rattle.exporter.specs.Sound.{partsOf};
-ghost use Rattle.exporter.specs.Steps.{isSessions, move, step, replyTo, outputAfter, wroteOf, turnChecks};
-ghost use Rattle.exporter.specs.Changes.{changeOf};
+ghost use Rattle.exporter.specs.Servers.{offer, agree, transition, withServers};
+ghost use Rattle.exporter.specs.Steps.{isSessions, move, step, replyTo, outputAfter, wroteOf, negotiateChecks, turnChecks};
+ghost use Rattle.exporter.specs.Changes.{stateOf, changeOf};
 ghost use Rattle.exporter.specs.Moves.{transitionOf, tableFits};
 use crate::change::Change;
 use crate::state::Delivery;
@@ -43,7 +42,7 @@ pub(crate) fn is_sessions(p: Settings, table: &[u8]) -> bool
 
 // START NEGOTIATE is judged 9.
 fn negotiate_answer(phase: Phase) -> u8
-    ensures { λ r. ⌜ r ≡ judge ((outOfTurn when isClosed phase) ∷ []) ⌝ }
+    ensures { λ r. ⌜ r ≡ judge (negotiateChecks phase) ⌝ }
 {
     if crate::servers::is_closed(phase) {
         return Answer::OUT_OF_TURN;
@@ -157,8 +156,10 @@ fn move_change<'a>(
     table: &[u8],
     out: &mut [u8],
 ) -> Change
-    ensures { λ r. ⌜ (r ≡ changeOf (step 32 (now (table .entry)) (length (now (out .entry))) (move v (transitionOf m)) (partsOf p capacity d due count (now (lengths .entry)) (now (receivers .entry)) start) []))
-        × (now (out .exit) ≡ outputAfter (now (out .entry)) (step 32 (now (table .entry)) (length (now (out .entry))) (move v (transitionOf m)) (partsOf p capacity d due count (now (lengths .entry)) (now (receivers .entry)) start) [])) ⌝ }
+    ensures { λ r. ⌜
+        (let s = stateOf p capacity d due count (now (lengths .entry)) [] (now (receivers .entry)) start 0 in
+        let o = step 32 (now (table .entry)) (length (now (out .entry))) (move v (transitionOf m)) s [] in
+        (r ≡ changeOf o) × (now (out .exit) ≡ outputAfter (now (out .entry)) o)) ⌝ }
 {
     if !crate::sound::parts_sound(p, capacity, d, due, count, lengths, receivers, start) {
         return crate::change::refuse_change(Answer::UNSOUND_STATE, d, due);
@@ -178,10 +179,11 @@ fn move_change<'a>(
     }
 }
 
-// A transition of server v: 1, 2, then its own refusals, then 12 where its message does not fit the output.
+// A transition of server v. Refused with 1, 2, then by its own refusals, then with 12 where its message does not fit the output.
 pub(crate) fn move_server(s: State, v: u8, m: Move, table: &[u8], out: &mut [u8]) -> Wrote
-    ensures { λ r. ⌜ (r ≡ wroteOf (step 32 (now (table .entry)) (length (now (out .entry))) (move v (transitionOf m)) s []))
-        × (now (out .exit) ≡ outputAfter (now (out .entry)) (step 32 (now (table .entry)) (length (now (out .entry))) (move v (transitionOf m)) s [])) ⌝ }
+    ensures { λ r. ⌜
+        (let o = step 32 (now (table .entry)) (length (now (out .entry))) (move v (transitionOf m)) s [] in
+        (r ≡ wroteOf o) × (now (out .exit) ≡ outputAfter (now (out .entry)) o)) ⌝ }
 {
     let p = s.settings;
     let d = s.delivery;

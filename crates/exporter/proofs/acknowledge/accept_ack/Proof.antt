@@ -1,5 +1,5 @@
--- `accept_ack` meets its contract by its calls: the counters are the delivery's after the release, and the start is where the first record
--- left begins. Assumes nothing.
+-- `accept_ack` meets its contract by its two calls. The counters are those of the delivery after the release, and the ring's start is where
+-- the first record left begins. What the calls require is what this function requires.
 use borrow.Author.Needs.{needs}
 use Rattle.exporter.proofs.acknowledge.accept_ack.Statement.{statement}
 use Rattle.exporter.proofs.acknowledge.accept_ack.Tie as tie
@@ -7,11 +7,11 @@ use Rattle.exporter.proofs.acknowledge.accept_ack.Tie as tie
 acknowledge-delivery-requires : tie.Need-acknowledge-delivery-requires
 acknowledge-delivery-requires c κs = search needs
 
-place-of-requires : tie.Need-place-of-requires
-place-of-requires c κs = search needs
+record-start-requires : tie.Need-record-start-requires
+record-start-requires c κs = search needs
 
 returns : tie.Need-returns
-returns c = rw (c .place-of .ensures, c .before .acknowledge-delivery .ensures)
+returns c = rw (c .record-start .ensures, c .before .acknowledge-delivery .ensures)
 
 pub accept-ack-spec : {M : Type 1} → statement M
-accept-ack-spec = tie.close (tie.spec acknowledge-delivery-requires place-of-requires returns)
+accept-ack-spec = tie.close (tie.spec acknowledge-delivery-requires record-start-requires returns)

@@ -1,4 +1,5 @@
--- `ack_answer` meets its contract, test by test. Assumes nothing.
+-- `ack_answer` meets its contract. The code makes the tests of `ackChecks` in their order, so at each return the tests before it failed and
+-- its own passed, which is what `judge` looks for.
 use mathlib.Core.Path.{sym, _∙_}
 use borrow.Author.Tests.{not-true, not-false, le-leb, lt-leb, eq-eqb, ne-eqb, lt-ltb, le-ltb}
 use borrow.Author.Needs.{needs}

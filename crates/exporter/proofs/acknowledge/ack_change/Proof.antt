@@ -1,11 +1,13 @@
--- `ack_change` meets its contract: by the state, then by the refusals of an acknowledgement. Assumes nothing.
+-- `ack_change` meets its contract. An unsound state and a refused acknowledgement change nothing; else the records that the DSN names are
+-- released. These are at most those reached, so the lengths of what is released lie within the store.
+use mathlib.Core.List.{[]}
 use mathlib.Core.Path.{sym, _∙_}
 use native.Mathlib.Omega.{arith}
-use borrow.Author.Tests.{not-true, not-false}
 use Prim.Native.Nat.{_≤_}
+use Rattle.exporter.specs.Changes.{stateOf}
 use Rattle.exporter.proofs.Arrays.{sum-fewer}
-use Rattle.exporter.proofs.SoundFacts.{sound-facts}
-use Rattle.exporter.proofs.Acks.{sound-next, ack-unsound, ack-judged, refused-ack, accepted-ack, ack-reached}
+use Rattle.exporter.proofs.SoundFacts.{sound-facts, passed-sound, failed-sound}
+use Rattle.exporter.proofs.Acks.{ack-sound-parts, ack-unsound, answered-ack, refused-ack, accepted-ack, ack-reached}
 use borrow.Author.Needs.{needs}
 use Rattle.exporter.proofs.acknowledge.ack_change.Statement.{statement}
 use Rattle.exporter.proofs.acknowledge.ack_change.Tie as tie
@@ -18,11 +20,18 @@ refuse-ack-requires c κs = search needs
 
 returns : tie.Need-returns
 returns c =
-    let e = sound-next _ _ ∙ sym (c .before .before .parts-sound .ensures) ∙ not-true _ (c .before .if1 .taken) in
-    refused-ack _ _ _ _ _ 1 _ (λ z. omega arith) (ack-unsound _ _ _ _ _ e) (c .refuse-ack .ensures)
+    let a = c .before .before .before .args in
+    let parts = stateOf (a .p) (a .capacity) (a .d) (a .due) (a .count) (a .lengths .now) [] (a .receivers .now) (a .start) 0 in
+    let s = stateOf (a .p) (a .capacity) (a .d) (a .due) (a .count) (a .lengths .now) [] (a .receivers .now) (a .start) (a .next) in
+    let e = failed-sound parts (c .before .before .parts-sound .result) (c .before .before .parts-sound .ensures) (c .before .if1 .taken) in
+    refused-ack 32 (a .v) (a .dsn) (a .config) s 1 (c .refuse-ack .result) (λ z. omega arith) (ack-unsound 32 (a .v) (a .dsn) (a .config) s (sym (ack-sound-parts s) ∙ e)) (c .refuse-ack .ensures)
 
 ack-count-requires : tie.Need-ack-count-requires
-ack-count-requires c κs = let f = sound-facts _ (sym (c .before .parts-sound .ensures) ∙ not-false _ (c .if1 .left)) .numbers in omega arith
+ack-count-requires c κs =
+    let a = c .before .before .args in
+    let s = stateOf (a .p) (a .capacity) (a .d) (a .due) (a .count) (a .lengths .now) [] (a .receivers .now) (a .start) 0 in
+    let f = sound-facts s (passed-sound s (c .before .parts-sound .result) (c .before .parts-sound .ensures) (c .if1 .left)) in
+    omega (arith, f .numbers .few)
 
 cast-n : tie.Need-cast-n
 cast-n c = search needs
@@ -35,23 +44,38 @@ refuse-ack-requires-2 c κs = search needs
 
 returns-2 : tie.Need-returns-2
 returns-2 c =
-    let e = sound-next _ _ ∙ sym (c .before .before .before .before .before .parts-sound .ensures) ∙ not-false _ (c .before .before .before .before .if1 .left) in
-    let a = rw (c .before .before .before .ack-count .ensures) at (c .before .before .ack-answer .ensures) in
-    refused-ack _ _ _ _ _ _ _ (c .before .if2 .taken) (ack-judged _ _ _ _ _ e ∙ sym a) (c .refuse-ack2 .ensures)
+    let a = c .before .before .before .before .before .before .args in
+    let parts = stateOf (a .p) (a .capacity) (a .d) (a .due) (a .count) (a .lengths .now) [] (a .receivers .now) (a .start) 0 in
+    let s = stateOf (a .p) (a .capacity) (a .d) (a .due) (a .count) (a .lengths .now) [] (a .receivers .now) (a .start) (a .next) in
+    let e = passed-sound parts (c .before .before .before .before .before .parts-sound .result) (c .before .before .before .before .before .parts-sound .ensures) (c .before .before .before .before .if1 .left) in
+    let q = rw (c .before .before .before .ack-count .ensures) at (c .before .before .ack-answer .ensures) in
+    refused-ack 32 (a .v) (a .dsn) (a .config) s (c .before .before .ack-answer .result) (c .refuse-ack2 .result) (c .before .if2 .taken)
+    (answered-ack 32 (a .v) (a .dsn) (a .config) s (c .before .before .ack-answer .result) (sym (ack-sound-parts s) ∙ e) q) (c .refuse-ack2 .ensures)
 
 accept-ack-requires : tie.Need-accept-ack-requires
 accept-ack-requires c κs =
-    let f = sound-facts _ (sym (c .before .before .before .before .parts-sound .ensures) ∙ not-false _ (c .before .before .before .if1 .left)) in
     let a = c .before .before .before .before .before .args in
-    let g = ack-reached (a .p) (a .d) (a .v) (a .config) (c .before .before .ack-count .result) (sym (c .before .ack-answer .ensures) ∙ c .if2 .left) in
-    let m : c .before .before .ack-count .result ≤ a .count = omega arith in
-    (g, (omega arith, (f .numbers .inside, (f .numbers .settings .smallRoom, omega (arith, sum-fewer (a .lengths .now) (c .before .before .ack-count .result) (a .count) m, f .fits)))))
+    let s = stateOf (a .p) (a .capacity) (a .d) (a .due) (a .count) (a .lengths .now) [] (a .receivers .now) (a .start) 0 in
+    let f = sound-facts s (passed-sound s (c .before .before .before .before .parts-sound .result) (c .before .before .before .before .parts-sound .ensures) (c .before .before .before .if1 .left)) in
+    let n = c .before .before .ack-count .result in
+    let g = ack-reached (a .p) (a .d) (a .v) (a .config) n (c .before .ack-answer .result) (c .before .ack-answer .ensures) (c .if2 .left) in
+    let m : n ≤ a .count = omega (arith, g, f .numbers .reachedHeld) in (
+      g,
+      (
+        omega (arith, f .numbers .reachedHeld, f .numbers .few),
+        (f .numbers .inside, (f .numbers .settings .smallRoom, omega (arith, sum-fewer (a .lengths .now) n (a .count) m, f .fits))),
+      ),
+    )
 
 returns-3 : tie.Need-returns-3
 returns-3 c =
-    let e = sound-next _ _ ∙ sym (c .before .before .before .before .before .parts-sound .ensures) ∙ not-false _ (c .before .before .before .before .if1 .left) in
-    let a = rw (c .before .before .before .ack-count .ensures) at (c .before .before .ack-answer .ensures) in
-    accepted-ack _ _ _ _ _ _ e (ack-judged _ _ _ _ _ e ∙ sym a ∙ c .before .if2 .left) (rw (c .before .before .before .ack-count .ensures) at (c .accept-ack .ensures))
+    let a = c .before .before .before .before .before .before .args in
+    let parts = stateOf (a .p) (a .capacity) (a .d) (a .due) (a .count) (a .lengths .now) [] (a .receivers .now) (a .start) 0 in
+    let s = stateOf (a .p) (a .capacity) (a .d) (a .due) (a .count) (a .lengths .now) [] (a .receivers .now) (a .start) (a .next) in
+    let e = sym (ack-sound-parts s) ∙ passed-sound parts (c .before .before .before .before .before .parts-sound .result) (c .before .before .before .before .before .parts-sound .ensures) (c .before .before .before .before .if1 .left) in
+    let q = rw (c .before .before .before .ack-count .ensures) at (c .before .before .ack-answer .ensures) in
+    accepted-ack 32 (a .v) (a .dsn) (a .config) s (c .accept-ack .result) e (answered-ack 32 (a .v) (a .dsn) (a .config) s (c .before .before .ack-answer .result) e q ∙ c .before .if2 .left)
+    (rw (c .before .before .before .ack-count .ensures) at (c .accept-ack .ensures))
 
 pub ack-change-spec : {M : Type 1} → statement M
 ack-change-spec =

@@ -1,4 +1,5 @@
--- `ack_count` meets its contract: it subtracts and adds as the definition does, modulo 2 ^ 32. Assumes nothing.
+-- `ack_count` meets its contract. Each of its two subtractions gives the one number below 2 ^ 32 that the definition's remainder is (law
+-- `named`); adding 1 wraps in both alike.
 use native.Mathlib.Omega.{arith}
 use mathlib.Core.Path.{_∙_}
 use Rattle.exporter.proofs.Acks.{named}

@@ -1,4 +1,5 @@
--- `acknowledge` meets its contract: what the acknowledgement changes by parts is applied to the state. Assumes nothing.
+-- `acknowledge` meets its contract. What the acknowledgement changes was computed of the parts that it looks at, and is stored into the
+-- state once. A refusal releases no record and stores the counters that were there.
 use Rattle.exporter.proofs.Acks.{released-few, ack-parts}
 use borrow.Author.Needs.{needs}
 use Rattle.exporter.proofs.acknowledge.acknowledge.Statement.{statement}

@@ -1,4 +1,5 @@
--- `queue_after` meets its contract: a release of none leaves the queue as it is. Assumes nothing.
+-- `queue_after` meets its contract. A release of no record leaves each array as it is, since nothing is dropped and nothing appended; any
+-- other is done array by array.
 use mathlib.Core.Path.{sym}
 use Rattle.exporter.proofs.Acks.{dropped-none}
 use borrow.Author.Needs.{needs}

@@ -1,5 +1,5 @@
--- `settle_change` meets its contract: one choice is made, and whether it differs from the active server decides both the delivery and S.
--- Assumes nothing.
+-- `settle_change` meets its contract. One choice is made, and whether it differs from the active server decides both the delivery and S, as
+-- in `settle` and `changed`.
 use Rattle.exporter.specs.Servers.{changed, settle, server}
 use borrow.Author.Needs.{needs}
 use Rattle.exporter.proofs.change.settle_change.Statement.{statement}

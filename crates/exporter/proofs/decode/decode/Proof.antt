@@ -1,4 +1,5 @@
--- `decode` meets its contract: the header, the session and the number are judged before the body. Assumes nothing.
+-- `decode` meets its contract. The header is judged first, then the session, then the message number, in the order of `formAnswer`. Where
+-- all pass, reading the message alone gives what is left, its body, and the call that it makes.
 use mathlib.Core.Path.{sym, _∙_}
 use borrow.Author.Tests.{not-true, not-false}
 use Rattle.exporter.proofs.Received.{request-refused, request-session, request-number, request-body}

@@ -1,4 +1,4 @@
--- `decode_body` meets its contract, by what reading answers. Assumes nothing.
+-- `decode_body` meets its contract. Reading answers a message or a refusal, and each arm makes of it what `callOfReading` does.
 use mathlib.Core.Path.{sym, _∙_}
 use borrow.Author.Needs.{needs}
 use Rattle.exporter.proofs.decode.decode_body.Statement.{statement}

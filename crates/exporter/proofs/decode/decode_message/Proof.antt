@@ -1,4 +1,5 @@
--- `decode_message` meets its contract, message by message. Assumes nothing.
+-- `decode_message` meets its contract. Each arm of the match is the row of `callOfMessage` for that message, so each is shown by computing
+-- it.
 use Rattle.exporter.specs.Steps.{callOfMessage}
 use borrow.Author.Needs.{needs}
 use Rattle.exporter.proofs.decode.decode_message.Statement.{statement}

@@ -1,4 +1,5 @@
--- `line_down` meets its contract: the transition is given no table and no output. Assumes nothing.
+-- `line_down` meets its contract. It is the transition to closed, given no table and no output; that writes no message, so what is left out
+-- of the result was 0.
 use borrow.Author.Needs.{needs}
 use Rattle.exporter.proofs.line_down.line_down.Statement.{statement}
 use Rattle.exporter.proofs.line_down.line_down.Tie as tie

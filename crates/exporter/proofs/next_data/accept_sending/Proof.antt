@@ -1,4 +1,5 @@
--- `accept_sending` meets its contract by its calls. Assumes nothing.
+-- `accept_sending` meets its contract by its two calls. The set is marked and the larger counter taken as the definition has it; sent is
+-- below 64, so adding 1 fits.
 use borrow.Author.Needs.{needs}
 use Rattle.exporter.proofs.next_data.accept_sending.Statement.{statement}
 use Rattle.exporter.proofs.next_data.accept_sending.Tie as tie

@@ -1,4 +1,5 @@
--- `is_duplicate` meets its contract, by whether somebody is active. Assumes nothing.
+-- `is_duplicate` meets its contract. While nobody is active there is no duplicate; else the call looks for another server in the set, as
+-- the definition does.
 use borrow.Author.Needs.{needs}
 use Rattle.exporter.proofs.next_data.is_duplicate.Statement.{statement}
 use Rattle.exporter.proofs.next_data.is_duplicate.Tie as tie

@@ -1,5 +1,7 @@
--- `marked_set` meets its contract, by whether somebody is active. Assumes nothing.
+-- `marked_set` meets its contract. While nobody is active the set stays; else the active server's bit is set, and its number is below 8, as
+-- the call requires.
 use mathlib.Core.Path.{subst}
+use Rattle.exporter.specs.Limits.{maxServers}
 use Rattle.exporter.specs.Changes.{Below}
 use borrow.Author.Needs.{needs}
 use Rattle.exporter.proofs.next_data.marked_set.Statement.{statement}
@@ -12,7 +14,7 @@ enum-known-active : tie.Need-enum-known-active
 enum-known-active c = search needs
 
 with-server-requires : tie.Need-with-server-requires
-with-server-requires c κs = subst (Below 8) (c .before .active .given .1) (c .before .before .before .pre)
+with-server-requires c κs = subst (Below maxServers) (c .before .active .given .1) (c .before .before .before .pre)
 
 returns : tie.Need-returns
 returns c = search needs

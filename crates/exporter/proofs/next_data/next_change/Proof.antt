@@ -1,5 +1,5 @@
--- `next_change` meets its contract: what is refused before the output is looked at changes nothing, and the rest is sent. Assumes nothing.
-use mathlib.Core.Path.{sym, _∙_}
+-- `next_change` meets its contract. What is refused before the output is looked at (1, 13, 14) is refused by the definition with the same
+-- number and changes nothing. Else there is a record to send and somebody to send it to, which is what `send` requires.
 use Rattle.exporter.proofs.Sends.{send-facts, sending-kept}
 use Rattle.exporter.specs.Changes.{stateOf}
 use borrow.Author.Needs.{needs}
@@ -18,12 +18,14 @@ refuse-sending-requires c κs = search needs
 returns : tie.Need-returns
 returns c =
     let a = c .before .before .before .before .before .before .args in
-    sending-kept (stateOf (a .p) (a .capacity) (a .d) (a .due) (a .count) (a .lengths .now) (a .templates .now) (a .receivers .now) (a .start) (a .next)) (a .store .now) (a .out .now) _ _ (c .before .before .if1 .taken) (c .before .before .before .send-answer .ensures) (c .refuse-sending .ensures)
+    sending-kept (stateOf (a .p) (a .capacity) (a .d) (a .due) (a .count) (a .lengths .now) (a .templates .now) (a .receivers .now) (a .start) (a .next)) (a .store .now) (a .out .now)
+    (c .before .before .before .send-answer .result) (c .refuse-sending .result) (c .before .before .if1 .taken) (c .before .before .before .send-answer .ensures) (c .refuse-sending .ensures)
 
 send-requires : tie.Need-send-requires
 send-requires c κs =
     let a = c .before .before .before .before .before .args in
-    send-facts (stateOf (a .p) (a .capacity) (a .d) (a .due) (a .count) (a .lengths .now) (a .templates .now) (a .receivers .now) (a .start) (a .next)) (a .store .now) (sym (c .before .before .send-answer .ensures) ∙ c .before .if1 .left)
+    send-facts (stateOf (a .p) (a .capacity) (a .d) (a .due) (a .count) (a .lengths .now) (a .templates .now) (a .receivers .now) (a .start) (a .next)) (a .store .now)
+    (c .before .before .send-answer .result) (c .before .before .send-answer .ensures) (c .before .if1 .left)
 
 same-length : tie.Need-same-length
 same-length c = search needs

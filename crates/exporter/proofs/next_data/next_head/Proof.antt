@@ -1,4 +1,5 @@
--- `next_head` meets its contract: each field is that of the definition. Assumes nothing.
+-- `next_head` meets its contract. Each field is that of `headOf`: most are copied, and the two calls give D and the DSN. The place is below
+-- 64, so both arrays are read inside.
 use Rattle.exporter.specs.Steps.{headOf}
 use borrow.Author.Needs.{needs}
 use Rattle.exporter.proofs.next_data.next_head.Statement.{statement}

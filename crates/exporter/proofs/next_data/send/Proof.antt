@@ -1,51 +1,46 @@
--- `send` meets its contract: the record is where its place is, and only a message that was written changes anything. Assumes nothing.
-use mathlib.Core.Path.{_∙_}
+-- `send` meets its contract. In a sound state the record's place and length lie within the store, so the message is the one that the
+-- definition writes. It is refused by the output's length alone; only a message that was written changes anything.
 use native.Mathlib.Omega.{arith}
-use Prim.Native.Nat.{_+_, _≤_, _<_}
+use Prim.Native.Nat.{_+_, _≤_}
 use native.Mathlib.Nat.{mod-lt}
-use lib.ListN.{take}
+use lib.ListN.{length, take}
 use Rattle.exporter.specs.Queue.{sumOf}
 use Rattle.exporter.specs.Changes.{stateOf}
 use Rattle.exporter.proofs.Arrays.{sum-fewer}
 use Rattle.exporter.proofs.SoundFacts.{sound-facts}
 use Rattle.exporter.proofs.Choice.{active-below}
-use Rattle.exporter.proofs.Sends.{next-octets, head-parts, sending-done, sending-refused}
+use Rattle.exporter.proofs.Sends.{sent-few, next-octets, sending-done, sending-refused}
 use borrow.Author.Needs.{needs}
 use Rattle.exporter.proofs.next_data.send.Statement.{statement}
 use Rattle.exporter.proofs.next_data.send.Tie as tie
 
-place-of-requires : tie.Need-place-of-requires
-place-of-requires c κs =
+record-start-requires : tie.Need-record-start-requires
+record-start-requires c κs =
     let z = c .before .before in
     let a = z .args in
     let s = stateOf (a .p) (a .capacity) (a .d) (a .due) (a .count) (a .lengths .now) (a .templates .now) (a .receivers .now) (a .start) (a .next) in
     let f = sound-facts s (z .pre .isSound) in
-    let k : a .d .sent < 64 = omega (arith, z .pre .more, f .numbers .few) in
     let m : a .d .sent ≤ a .count = omega (arith, z .pre .more) in (
       f .numbers .inside,
-      (f .numbers .settings .smallRoom, (omega (arith, k), omega (arith, sum-fewer (a .lengths .now) (a .d .sent) (a .count) m, f .fits))),
+      (f .numbers .settings .smallRoom, (omega (arith, sent-few s (a .store .now) (z .pre)), omega (arith, sum-fewer (a .lengths .now) (a .d .sent) (a .count) m, f .fits))),
     )
 
-mul-octets-in : tie.Need-mul-octets-in
-mul-octets-in c =
+mul-wide : tie.Need-mul-wide
+mul-wide c =
     let z = c .before .before .before in
     let a = z .args in
     let s = stateOf (a .p) (a .capacity) (a .d) (a .due) (a .count) (a .lengths .now) (a .templates .now) (a .receivers .now) (a .start) (a .next) in
-    let f = sound-facts s (z .pre .isSound) in
-    let k : a .d .sent < 64 = omega (arith, z .pre .more, f .numbers .few) in
-    omega (arith, k)
+    omega (arith, sent-few s (a .store .now) (z .pre))
 
-element-copy-out-octets-in : tie.Need-element-copy-out-octets-in
-element-copy-out-octets-in c =
+element-copy-out-wide : tie.Need-element-copy-out-wide
+element-copy-out-wide c =
     let z = c .before .before .before in
     let a = z .args in
     let s = stateOf (a .p) (a .capacity) (a .d) (a .due) (a .count) (a .lengths .now) (a .templates .now) (a .receivers .now) (a .start) (a .next) in
-    let f = sound-facts s (z .pre .isSound) in
-    let k : a .d .sent < 64 = omega (arith, z .pre .more, f .numbers .few) in
-    k
+    sent-few s (a .store .now) (z .pre)
 
-octets-in-requires : tie.Need-octets-in-requires
-octets-in-requires c κs = search needs
+wide-requires : tie.Need-wide-requires
+wide-requires c κs = search needs
 
 next-head-requires : tie.Need-next-head-requires
 next-head-requires c κs =
@@ -53,8 +48,7 @@ next-head-requires c κs =
     let a = z .args in
     let s = stateOf (a .p) (a .capacity) (a .d) (a .due) (a .count) (a .lengths .now) (a .templates .now) (a .receivers .now) (a .start) (a .next) in
     let f = sound-facts s (z .pre .isSound) in
-    let k : a .d .sent < 64 = omega (arith, z .pre .more, f .numbers .few) in
-    (f .numbers .few, k)
+    (f .numbers .few, sent-few s (a .store .now) (z .pre))
 
 write-record-requires : tie.Need-write-record-requires
 write-record-requires c κs =
@@ -62,11 +56,10 @@ write-record-requires c κs =
     let a = z .args in
     let s = stateOf (a .p) (a .capacity) (a .d) (a .due) (a .count) (a .lengths .now) (a .templates .now) (a .receivers .now) (a .start) (a .next) in
     let f = sound-facts s (z .pre .isSound) in
-    let k : a .d .sent < 64 = omega (arith, z .pre .more, f .numbers .few) in
     let short = f .short (a .d .sent) (z .pre .more) in
-    let len = c .before .before .octets-in .ensures in
+    let len = c .before .before .wide .ensures in
     let at = mod-lt (a .start + sumOf (take (a .d .sent) (a .lengths .now))) {m = a .capacity} (omega (arith, f .numbers .inside)) in (
-      omega (arith, at, z .pre .stored, c .before .before .before .before .place-of .ensures),
+      omega (arith, at, z .pre .stored, c .before .before .before .before .record-start .ensures),
       (omega (arith, short, len, z .pre .stored, f .numbers .settings .someRoom), omega (arith, short, len)),
     )
 
@@ -78,27 +71,21 @@ mul-accept-sending c =
     let z = c .before .before .before .before .before .before .before .before .before .before .before .before .before in
     let a = z .args in
     let s = stateOf (a .p) (a .capacity) (a .d) (a .due) (a .count) (a .lengths .now) (a .templates .now) (a .receivers .now) (a .start) (a .next) in
-    let f = sound-facts s (z .pre .isSound) in
-    let k : a .d .sent < 64 = omega (arith, z .pre .more, f .numbers .few) in
-    omega (arith, k)
+    omega (arith, sent-few s (a .store .now) (z .pre))
 
 element-copy-out-accept-sending : tie.Need-element-copy-out-accept-sending
 element-copy-out-accept-sending c =
     let z = c .before .before .before .before .before .before .before .before .before .before .before .before .before in
     let a = z .args in
     let s = stateOf (a .p) (a .capacity) (a .d) (a .due) (a .count) (a .lengths .now) (a .templates .now) (a .receivers .now) (a .start) (a .next) in
-    let f = sound-facts s (z .pre .isSound) in
-    let k : a .d .sent < 64 = omega (arith, z .pre .more, f .numbers .few) in
-    k
+    sent-few s (a .store .now) (z .pre)
 
 accept-sending-requires : tie.Need-accept-sending-requires
 accept-sending-requires c κs =
     let z = c .before .before .before .before .before .before .before .before .before .before .before .before .before .before in
     let a = z .args in
     let s = stateOf (a .p) (a .capacity) (a .d) (a .due) (a .count) (a .lengths .now) (a .templates .now) (a .receivers .now) (a .start) (a .next) in
-    let f = sound-facts s (z .pre .isSound) in
-    let k : a .d .sent < 64 = omega (arith, z .pre .more, f .numbers .few) in
-    (k, active-below s (z .pre .isSound))
+    (sent-few s (a .store .now) (z .pre), active-below s (z .pre .isSound))
 
 enum-known-written-2 : tie.Need-enum-known-written-2
 enum-known-written-2 c = search needs
@@ -117,10 +104,11 @@ returns c =
     let z = c .before .before .before .before .before .before .before .before .before .before .before .before .before .before .before in
     let a = z .args in
     let s = stateOf (a .p) (a .capacity) (a .d) (a .due) (a .count) (a .lengths .now) (a .templates .now) (a .receivers .now) (a .start) (a .next) in
-    let f = sound-facts s (z .pre .isSound) in
-    let k : a .d .sent < 64 = omega (arith, z .pre .more, f .numbers .few) in
-    let o = next-octets s (a .store .now) _ _ _ (c .before .before .before .before .before .before .before .before .before .next-head .ensures ∙ head-parts (a .p) (a .capacity) (a .d) (a .due) (a .count) (a .lengths .now) (a .templates .now) (a .receivers .now) (a .start) (a .next)) (z .pre .stored) (c .before .before .before .before .before .before .before .before .before .before .before .before .place-of .ensures) (f .numbers .inside) in
-    sending-done s (a .store .now) (a .out .now) _ _ _ _ _ (z .pre) o (c .before .before .before .written .given .1) (rw (c .before .before .before .before .before .before .before .before .before .before .octets-in .ensures) at (c .before .before .before .before .before .before .before .write-record .ensures)) (c .accept-sending .ensures)
+    let h = c .before .before .before .before .before .before .before .before .before .next-head in
+    let at = c .before .before .before .before .before .before .before .before .before .before .before .before .record-start in
+    let w = c .before .before .before .before .before .before .before .write-record in
+    let o = next-octets s (a .store .now) (h .result) (length (a .store .now)) (at .result) (h .ensures) (z .pre .stored) (at .ensures) (sound-facts s (z .pre .isSound) .numbers .inside) in
+    sending-done s (a .store .now) (a .out .now) _ _ (w .result) _ (c .accept-sending .result) (z .pre) o (c .before .before .before .written .given .1) (rw (c .before .before .before .before .before .before .before .before .before .before .wide .ensures) at (w .ensures)) (c .accept-sending .ensures)
 
 same-length-2 : tie.Need-same-length-2
 same-length-2 c = search needs
@@ -130,19 +118,20 @@ returns-2 c =
     let z = c .before .before .before .before .before .before .before .before .before .before .before .before .before .before .before in
     let a = z .args in
     let s = stateOf (a .p) (a .capacity) (a .d) (a .due) (a .count) (a .lengths .now) (a .templates .now) (a .receivers .now) (a .start) (a .next) in
-    let f = sound-facts s (z .pre .isSound) in
-    let k : a .d .sent < 64 = omega (arith, z .pre .more, f .numbers .few) in
-    let o = next-octets s (a .store .now) _ _ _ (c .before .before .before .before .before .before .before .before .before .next-head .ensures ∙ head-parts (a .p) (a .capacity) (a .d) (a .due) (a .count) (a .lengths .now) (a .templates .now) (a .receivers .now) (a .start) (a .next)) (z .pre .stored) (c .before .before .before .before .before .before .before .before .before .before .before .before .place-of .ensures) (f .numbers .inside) in
-    sending-refused s (a .store .now) (a .out .now) _ _ _ _ _ (z .pre) o (c .before .before .before .written2 .given .1) (rw (c .before .before .before .before .before .before .before .before .before .before .octets-in .ensures) at (c .before .before .before .before .before .before .before .write-record .ensures)) (c .refuse-sending .ensures)
+    let h = c .before .before .before .before .before .before .before .before .before .next-head in
+    let at = c .before .before .before .before .before .before .before .before .before .before .before .before .record-start in
+    let w = c .before .before .before .before .before .before .before .write-record in
+    let o = next-octets s (a .store .now) (h .result) (length (a .store .now)) (at .result) (h .ensures) (z .pre .stored) (at .ensures) (sound-facts s (z .pre .isSound) .numbers .inside) in
+    sending-refused s (a .store .now) (a .out .now) _ _ (w .result) _ (c .refuse-sending .result) (z .pre) o (c .before .before .before .written2 .given .1) (rw (c .before .before .before .before .before .before .before .before .before .before .wide .ensures) at (w .ensures)) (c .refuse-sending .ensures)
 
 pub send-spec : {M : Type 1} → statement M
 send-spec =
     tie.close
     (tie.spec
-    place-of-requires
-    mul-octets-in
-    element-copy-out-octets-in
-    octets-in-requires
+    record-start-requires
+    mul-wide
+    element-copy-out-wide
+    wide-requires
     next-head-requires
     write-record-requires
     enum-known-written

@@ -1,4 +1,5 @@
--- `send_answer` meets its contract: each return follows from the tests on the way to it. Assumes nothing.
+-- `send_answer` meets its contract. The code makes the tests in the definition's order, 1 by two of them, so each return follows from the
+-- tests on the way to it.
 use mathlib.Core.Path.{sym, _∙_}
 use borrow.Author.Tests.{eq-eqb, ne-eqb, le-leb, lt-leb, not-true, not-false}
 use borrow.Author.Needs.{needs}

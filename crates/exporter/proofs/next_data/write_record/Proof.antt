@@ -1,4 +1,5 @@
--- `write_record` meets its contract: the record is written behind its head, where the whole message fits. Assumes nothing.
+-- `write_record` meets its contract. The head is written where the whole message fits, and the record's octets behind it, so that both
+-- together are the layout. Where it does not fit nothing was written.
 use mathlib.Core.Path.{_≡_, refl, sym, ap, _∙_}
 use native.Mathlib.Omega.{arith}
 use Prim.Native.Nat.{ℕ, _+_}

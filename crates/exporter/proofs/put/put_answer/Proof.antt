@@ -1,10 +1,10 @@
--- `put_answer` meets its contract: each return follows from the tests on the way to it, and the room is judged behind the record.
--- Assumes nothing.
-use mathlib.Core.Path.{sym, _∙_}
-use borrow.Author.Tests.{eq-eqb, ne-eqb, not-true, not-false}
-use Rattle.octets.proofs.Judging.{judged-first, judged-next}
-use Rattle.exporter.specs.Steps.{recordChecks, roomChecks}
-use Rattle.exporter.proofs.SoundFacts.{sound-facts}
+-- `put_answer` meets its contract. The state is judged first, then the record, then the room. A refusal of the record is that of the whole
+-- list, and where there is none the room decides (laws `refused-first` and `passed-first`).
+use mathlib.Core.List.{[]}
+use borrow.Author.Tests.{eq-eqb, ne-eqb}
+use Rattle.exporter.specs.Changes.{stateOf}
+use Rattle.exporter.proofs.SoundFacts.{sound-facts, passed-sound, failed-sound}
+use Rattle.exporter.proofs.Puts.{refused-first, passed-first}
 use borrow.Author.Needs.{needs}
 use Rattle.exporter.proofs.put.put_answer.Statement.{statement}
 use Rattle.exporter.proofs.put.put_answer.Tie as tie
@@ -13,10 +13,16 @@ parts-sound-requires : tie.Need-parts-sound-requires
 parts-sound-requires c κs = search needs
 
 returns : tie.Need-returns
-returns c = rw (sym (c .before .parts-sound .ensures) ∙ not-true _ (c .if1 .taken))
+returns c =
+    let a = c .before .before .before .before .args in
+    let s = stateOf (a .p) (a .capacity) (a .d) (a .due) (a .count) (a .lengths .now) [] (a .receivers .now) (a .start) 0 in
+    rw (failed-sound s (c .before .parts-sound .result) (c .before .parts-sound .ensures) (c .if1 .taken))
 
 returns-2 : tie.Need-returns-2
-returns-2 c = rw (sym (c .before .before .parts-sound .ensures) ∙ not-false _ (c .before .if1 .left), ne-eqb _ _ (c .if2 .taken))
+returns-2 c =
+    let a = c .before .before .before .before .before .args in
+    let s = stateOf (a .p) (a .capacity) (a .d) (a .due) (a .count) (a .lengths .now) [] (a .receivers .now) (a .start) 0 in
+    rw (passed-sound s (c .before .before .parts-sound .result) (c .before .before .parts-sound .ensures) (c .before .if1 .left), ne-eqb (a .stored) (a .capacity) (c .if2 .taken))
 
 record-answer-requires : tie.Need-record-answer-requires
 record-answer-requires c κs = search needs
@@ -24,18 +30,23 @@ record-answer-requires c κs = search needs
 returns-3 : tie.Need-returns-3
 returns-3 c =
     let a = c .before .before .before .before .before .before .before .args in
-    let e = c .before .record-answer .ensures in
-    rw (sym (c .before .before .before .before .parts-sound .ensures) ∙ not-false _ (c .before .before .before .if1 .left), eq-eqb _ _ (c .before .before .if2 .left))
-    (e ∙ sym (judged-first (recordChecks (a .p) (a .table .now) (a .id) (a .r .now)) (roomChecks (a .capacity) (a .count) (a .lengths .now) (a .r .now)) (λ z. c .if3 .taken (e ∙ z))))
+    let s = stateOf (a .p) (a .capacity) (a .d) (a .due) (a .count) (a .lengths .now) [] (a .receivers .now) (a .start) 0 in
+    rw (passed-sound s (c .before .before .before .before .parts-sound .result) (c .before .before .before .before .parts-sound .ensures) (c .before .before .before .if1 .left), eq-eqb (a .stored) (a .capacity) (c .before .before .if2 .left))
+    (refused-first (a .p) (a .capacity) (a .count) (a .lengths .now) (a .table .now) (a .id) (a .r .now) (c .before .record-answer .result) (c .before .record-answer .ensures) (c .if3 .taken))
 
 room-answer-requires : tie.Need-room-answer-requires
-room-answer-requires c κs = sound-facts _ (sym (c .before .before .before .before .parts-sound .ensures) ∙ not-false _ (c .before .before .before .if1 .left)) .numbers .few
+room-answer-requires c κs =
+    let a = c .before .before .before .before .before .before .before .args in
+    let s = stateOf (a .p) (a .capacity) (a .d) (a .due) (a .count) (a .lengths .now) [] (a .receivers .now) (a .start) 0 in
+    sound-facts s (passed-sound s (c .before .before .before .before .parts-sound .result) (c .before .before .before .before .parts-sound .ensures) (c .before .before .before .if1 .left)) .numbers .few
 
 returns-4 : tie.Need-returns-4
 returns-4 c =
     let a = c .before .before .before .before .before .before .before .before .args in
-    rw (sym (c .before .before .before .before .before .parts-sound .ensures) ∙ not-false _ (c .before .before .before .before .if1 .left), eq-eqb _ _ (c .before .before .before .if2 .left))
-    (c .room-answer .ensures ∙ sym (judged-next (recordChecks (a .p) (a .table .now) (a .id) (a .r .now)) (roomChecks (a .capacity) (a .count) (a .lengths .now) (a .r .now)) tt (sym (c .before .before .record-answer .ensures) ∙ c .before .if3 .left)))
+    let s = stateOf (a .p) (a .capacity) (a .d) (a .due) (a .count) (a .lengths .now) [] (a .receivers .now) (a .start) 0 in
+    rw (passed-sound s (c .before .before .before .before .before .parts-sound .result) (c .before .before .before .before .before .parts-sound .ensures) (c .before .before .before .before .if1 .left), eq-eqb (a .stored) (a .capacity) (c .before .before .before .if2 .left))
+    (passed-first (a .p) (a .capacity) (a .count) (a .lengths .now) (a .table .now) (a .id) (a .r .now)
+    (c .before .before .record-answer .result) (c .before .before .record-answer .ensures) (c .before .if3 .left) (c .room-answer .result) (c .room-answer .ensures))
 
 pub put-answer-spec : {M : Type 1} → statement M
 put-answer-spec =

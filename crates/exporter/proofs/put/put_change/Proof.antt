@@ -1,13 +1,9 @@
--- `put_change` meets its contract: a refusal changes nothing, and a record that can be put fills the first unused entries, with its octets
--- after the held ones in the store. Assumes nothing.
-use mathlib.Core.Path.{sym, ap, _∙_}
-use Prim.Native.Nat.{ℕ, _+_}
+-- `put_change` meets its contract. A refusal changes nothing. A record that can be put finds fewer than 64 held and has at most 1,024
+-- octets, so every sum fits; it fills the first unused entries, and its octets follow the held ones.
 use native.Mathlib.Omega.{arith}
-use Rattle.exporter.specs.Queue.{ringWrite}
-use Rattle.exporter.specs.Steps.{storeAfter}
 use Rattle.exporter.specs.Changes.{stateOf}
 use Rattle.exporter.proofs.SoundFacts.{sound-facts}
-use Rattle.exporter.proofs.Puts.{put-judged, put-facts, putting-kept, putting-done}
+use Rattle.exporter.proofs.Puts.{put-known, putting-kept, putting-done}
 use borrow.Author.Needs.{needs}
 use Rattle.exporter.proofs.put.put_change.Statement.{statement}
 use Rattle.exporter.proofs.put.put_change.Tie as tie
@@ -31,15 +27,14 @@ returns : tie.Need-returns
 returns c =
     let a = c .before .before .before .before .before .before .before .before .before .args in
     let s = stateOf (a .p) (a .capacity) (a .d) (a .due) (a .count) (a .lengths .now) (a .templates .now) (a .receivers .now) (a .start) (a .next) in
-    let j = c .before .before .before .before .before .put-answer .ensures ∙ put-judged s (a .store .now) (a .table .now) (a .id) (a .r .now) in
-    putting-kept s (a .store .now) (a .table .now) (a .id) (a .r .now) _ _ (c .before .before .before .before .if1 .taken) (sym j) (c .refuse-put .ensures)
+    let j = c .before .before .before .before .before .put-answer in
+    putting-kept s (a .store .now) (a .table .now) (a .id) (a .r .now) (j .result) (c .refuse-put .result) (c .before .before .before .before .if1 .taken) (j .ensures) (c .refuse-put .ensures)
 
 octets-to-requires : tie.Need-octets-to-requires
 octets-to-requires c κs =
     let a = c .before .before .before .before .before .args in
     let s = stateOf (a .p) (a .capacity) (a .d) (a .due) (a .count) (a .lengths .now) (a .templates .now) (a .receivers .now) (a .start) (a .next) in
-    let e = sym (put-judged s (a .store .now) (a .table .now) (a .id) (a .r .now)) ∙ sym (c .before .put-answer .ensures) ∙ c .if1 .left in
-    let f = put-facts s (a .store .now) (a .table .now) (a .id) (a .r .now) e in
+    let f = put-known s (a .store .now) (a .table .now) (a .id) (a .r .now) (c .before .put-answer .result) (c .before .put-answer .ensures) (c .if1 .left) in
     omega (arith, f .few)
 
 cast-at : tie.Need-cast-at
@@ -49,8 +44,7 @@ add-at : tie.Need-add-at
 add-at c =
     let a = c .before .before .before .before .before .before .args in
     let s = stateOf (a .p) (a .capacity) (a .d) (a .due) (a .count) (a .lengths .now) (a .templates .now) (a .receivers .now) (a .start) (a .next) in
-    let e = sym (put-judged s (a .store .now) (a .table .now) (a .id) (a .r .now)) ∙ sym (c .before .before .put-answer .ensures) ∙ c .before .if1 .left in
-    let f = put-facts s (a .store .now) (a .table .now) (a .id) (a .r .now) e in
+    let f = put-known s (a .store .now) (a .table .now) (a .id) (a .r .now) (c .before .before .put-answer .result) (c .before .before .put-answer .ensures) (c .before .if1 .left) in
     let g = sound-facts s (f .isSound) in
     omega (arith, g .fits, g .numbers .inside, g .numbers .settings .smallRoom)
 
@@ -58,8 +52,7 @@ ring-write-requires : tie.Need-ring-write-requires
 ring-write-requires c κs =
     let a = c .before .before .before .before .before .before .before .args in
     let s = stateOf (a .p) (a .capacity) (a .d) (a .due) (a .count) (a .lengths .now) (a .templates .now) (a .receivers .now) (a .start) (a .next) in
-    let e = sym (put-judged s (a .store .now) (a .table .now) (a .id) (a .r .now)) ∙ sym (c .before .before .before .put-answer .ensures) ∙ c .before .before .if1 .left in
-    let f = put-facts s (a .store .now) (a .table .now) (a .id) (a .r .now) e in
+    let f = put-known s (a .store .now) (a .table .now) (a .id) (a .r .now) (c .before .before .before .put-answer .result) (c .before .before .before .put-answer .ensures) (c .before .before .if1 .left) in
     let g = sound-facts s (f .isSound) in
     (omega (arith, f .stored, g .numbers .inside), omega (arith, f .short, g .fits, g .numbers .inside, g .numbers .settings .smallRoom))
 
@@ -67,16 +60,14 @@ cast-t33 : tie.Need-cast-t33
 cast-t33 c =
     let a = c .before .before .before .before .before .before .before .before .before .before .args in
     let s = stateOf (a .p) (a .capacity) (a .d) (a .due) (a .count) (a .lengths .now) (a .templates .now) (a .receivers .now) (a .start) (a .next) in
-    let e = sym (put-judged s (a .store .now) (a .table .now) (a .id) (a .r .now)) ∙ sym (c .before .before .before .before .before .before .put-answer .ensures) ∙ c .before .before .before .before .before .if1 .left in
-    let f = put-facts s (a .store .now) (a .table .now) (a .id) (a .r .now) e in
+    let f = put-known s (a .store .now) (a .table .now) (a .id) (a .r .now) (c .before .before .before .before .before .before .put-answer .result) (c .before .before .before .before .before .before .put-answer .ensures) (c .before .before .before .before .before .if1 .left) in
     omega (arith, f .short)
 
 add-t34 : tie.Need-add-t34
 add-t34 c =
     let a = c .before .before .before .before .before .before .before .before .before .before .args in
     let s = stateOf (a .p) (a .capacity) (a .d) (a .due) (a .count) (a .lengths .now) (a .templates .now) (a .receivers .now) (a .start) (a .next) in
-    let e = sym (put-judged s (a .store .now) (a .table .now) (a .id) (a .r .now)) ∙ sym (c .before .before .before .before .before .before .put-answer .ensures) ∙ c .before .before .before .before .before .if1 .left in
-    let f = put-facts s (a .store .now) (a .table .now) (a .id) (a .r .now) e in
+    let f = put-known s (a .store .now) (a .table .now) (a .id) (a .r .now) (c .before .before .before .before .before .before .put-answer .result) (c .before .before .before .before .before .before .put-answer .ensures) (c .before .before .before .before .before .if1 .left) in
     omega (arith, f .few)
 
 wrapping-add-u32-requires : tie.Need-wrapping-add-u32-requires
@@ -86,16 +77,13 @@ same-length : tie.Need-same-length
 same-length c = search needs
 
 returns-2 : tie.Need-returns-2
-unfolding storeAfter
 returns-2 c =
     let a = c .before .before .before .before .before .before .before .before .before .before .before .args in
     let s = stateOf (a .p) (a .capacity) (a .d) (a .due) (a .count) (a .lengths .now) (a .templates .now) (a .receivers .now) (a .start) (a .next) in
-    let e = sym (put-judged s (a .store .now) (a .table .now) (a .id) (a .r .now)) ∙ sym (c .before .before .before .before .before .before .before .put-answer .ensures) ∙ c .before .before .before .before .before .before .if1 .left in
-    let f = put-facts s (a .store .now) (a .table .now) (a .id) (a .r .now) e in
-    putting-done s (a .store .now) (a .table .now) (a .id) (a .r .now) _ _ e (rw (c .before .before .before .before .before .before .if1 .left, c .wrapping-add-u32 .ensures))
-    (c .before .before .before .ring-write .ensures
-    ∙ ap (λ (n : ℕ). ringWrite n (a .store .now) (a .start + c .before .before .before .before .before .octets-to .result) (a .r .now)) (f .stored)
-    ∙ ap (λ (n : ℕ). ringWrite (a .capacity) (a .store .now) (a .start + n) (a .r .now)) (c .before .before .before .before .before .octets-to .ensures))
+    let j = c .before .before .before .before .before .before .before .put-answer in
+    let n = c .before .before .before .before .before .octets-to in
+    putting-done s (a .store .now) (a .table .now) (a .id) (a .r .now) (j .result) _ (n .result) _ (j .ensures) (c .before .before .before .before .before .before .if1 .left)
+    (rw (c .wrapping-add-u32 .ensures)) (n .ensures) (c .before .before .before .ring-write .ensures)
 
 pub put-change-spec : {M : Type 1} → statement M
 put-change-spec =

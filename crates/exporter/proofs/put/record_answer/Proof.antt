@@ -1,4 +1,5 @@
--- `record_answer` meets its contract: each return follows from the tests on the way to it, by the law of what wire judges. Assumes nothing.
+-- `record_answer` meets its contract. wire judges table, template and record together (21, 15, 16); the session's Configuration ID and the
+-- limit of octets are judged between them, and the law `record-cases` says that the outcome is the list's.
 use mathlib.Core.Path.{refl, sym, _∙_}
 use mathlib.Core.Bool.{true, false}
 use lib.Dec.{eqb, ltb}

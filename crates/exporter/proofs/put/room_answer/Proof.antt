@@ -1,4 +1,5 @@
--- `room_answer` meets its contract: each return follows from the tests on the way to it. Assumes nothing.
+-- `room_answer` meets its contract. The code makes both tests in the definition's order, and the sum that it compares is that of the held
+-- lengths.
 use native.Mathlib.Omega.{arith}
 use Prim.Native.Nat.{_+_, _<_, _≤_}
 use lib.ListN.{length, take}

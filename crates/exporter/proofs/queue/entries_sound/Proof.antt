@@ -1,11 +1,10 @@
--- `entries_sound` meets its contract. The loop's invariant: ok says whether the entries passed are in their limits. Assumes nothing.
+-- `entries_sound` meets its contract. The loop's invariant: ok says whether the entries passed are in their limits. A turn adds the next
+-- entry's test, and the bound is the power of 2 that the definition compares with.
 use mathlib.Core.Path.{_≡_, refl}
 use native.Mathlib.Omega.{arith}
-use Prim.Native.Nat.{_-_, _^_, _≤_}
-use mathlib.Core.Bool.{_&&_}
-use lib.Dec.{leb, ltb}
-use lib.ListN.{getD}
+use Prim.Native.Nat.{_-_, _≤_}
 use Rattle.wire.specs.Each.{every}
+use Rattle.exporter.specs.Sound.{entrySound}
 use Rattle.wire.proofs.Each.{every-more}
 use Rattle.exporter.proofs.Arrays.{one-shifted}
 use borrow.Author.Needs.{needs}
@@ -13,10 +12,13 @@ use Rattle.exporter.proofs.queue.entries_sound.Statement.{statement}
 use Rattle.exporter.proofs.queue.entries_sound.Tie as tie
 
 abbrev Inv-loop : tie.InvT-loop
-Inv-loop lengths receivers n servers bound ok₀ i₀ ok i = (i ≤ n) × (ok ≡ every i (λ j. leb (getD lengths j 0) 1024 && ltb (getD receivers j 0) (2 ^ servers)))
+Inv-loop lengths receivers n servers most bound ok₀ i₀ ok i = (i ≤ n) × (ok ≡ every i (entrySound servers lengths receivers))
 
 abbrev μ-loop : tie.MeasureT-loop
-μ-loop lengths receivers n servers bound ok₀ i₀ ok i = n - i
+μ-loop lengths receivers n servers most bound ok₀ i₀ ok i = n - i
+
+cast-most : tie.Need-cast-most Inv-loop μ-loop
+cast-most c = search needs
 
 shl-bound : tie.Need-shl-bound Inv-loop μ-loop
 shl-bound c = search needs
@@ -56,6 +58,7 @@ entries-sound-spec =
     (tie.spec
     Inv-loop
     μ-loop
+    cast-most
     shl-bound
     loop-holds
     mul-ok

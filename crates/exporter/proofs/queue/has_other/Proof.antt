@@ -1,4 +1,5 @@
--- `has_other` meets its contract. The loop's invariant: found says whether another of the servers passed is in the set. Assumes nothing.
+-- `has_other` meets its contract. The loop's invariant: found says whether another of the servers passed is in the set. A turn adds the
+-- next server's test, as one more step of the definition does.
 use mathlib.Core.Path.{_≡_}
 use native.Mathlib.Omega.{arith}
 use Prim.Native.Nat.{_-_, _≤_}

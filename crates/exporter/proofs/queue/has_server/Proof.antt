@@ -1,4 +1,5 @@
--- `has_server` meets its contract: the shift is a division by a power of 2, and past the last bit there is none. Assumes nothing.
+-- `has_server` meets its contract. The shift is a division by a power of 2, whose last bit is tested. A set of 16 bits has no server from
+-- 16 on.
 use mathlib.Core.Path.{refl}
 use native.Mathlib.Omega.{arith}
 use Rattle.exporter.specs.Queue.{has}

@@ -1,4 +1,5 @@
--- `octets_to` meets its contract. The loop's invariant: sum is that of the entries passed. Assumes nothing.
+-- `octets_to` meets its contract. The loop's invariant: sum is that of the entries passed, each below 65,536, so that 64 of them fit. A
+-- turn adds the next entry.
 use mathlib.Core.Path.{_≡_}
 use Prim.Native.Nat.{_*_, _-_, _≤_, _<_}
 use native.Mathlib.Omega.{arith}

@@ -1,4 +1,5 @@
--- `shift` meets its contract. The loop's invariant: the first i entries are moved, and the others are 0. Assumes nothing.
+-- `shift` meets its contract. The loop's invariant: the first i entries are moved, and the others are 0. When all that can be moved are,
+-- the last n are the zeros that the array began with.
 use mathlib.Core.Path.{_≡_, _∙_}
 use Prim.Native.Nat.{_-_, _≤_}
 use native.Mathlib.Omega.{arith}

@@ -1,4 +1,5 @@
--- `with_server` meets its contract: the shift is the power of 2 that is the server's bit. Assumes nothing.
+-- `with_server` meets its contract. The shift of 1 is the power of 2 that is the server's bit, and it does not leave the 16 bits, since the
+-- server is below 8.
 use native.Mathlib.Omega.{arith}
 use Rattle.exporter.proofs.Arrays.{one-shifted}
 use borrow.Author.Needs.{needs}

@@ -1,4 +1,5 @@
--- `receive` meets its contract, by what the message asks for. Assumes nothing.
+-- `receive` meets its contract. The octets are decoded to a DATA ACK or a transition, which is the call that the definition makes of them.
+-- Each arm's call has this function's contract for that call; a DATA ACK leaves the output as it was.
 use mathlib.Core.Path.{sym, ap, _∙_}
 use Rattle.exporter.specs.Moves.{callOfRequest}
 use Rattle.exporter.proofs.Acks.{ack-wrote}

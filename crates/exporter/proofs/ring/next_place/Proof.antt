@@ -1,4 +1,5 @@
--- `next_place` meets its contract: the place behind the last is the first, and any other is its own remainder. Assumes nothing.
+-- `next_place` meets its contract. Behind the last place comes the first, which is the remainder there; any other place is below the length
+-- and so its own remainder.
 use mathlib.Core.Path.{sym, _∙_, ap}
 use native.Mathlib.Nat.{mod-self, mod-eq-of-lt}
 use native.Mathlib.Omega.{arith}

@@ -1,4 +1,5 @@
--- `ring_read` meets its contract: octets that do not reach past the end of the store are one part of it, others two. Assumes nothing.
+-- `ring_read` meets its contract. Octets that do not reach past the end of the store are one part of it; others are two, up to the end and
+-- from the beginning on (laws `read-near` and `read-far`).
 use mathlib.Core.Path.{_≡_, refl, sym, ap, _∙_}
 use mathlib.Core.List.{List}
 use Prim.Native.Nat.{ℕ, _+_, _-_}

@@ -1,4 +1,5 @@
--- `beats_best` meets its contract: it compares the two priorities. Assumes nothing.
+-- `beats_best` meets its contract. While there is no choice so far every server is preferred; else the two priorities are compared as the
+-- definition does.
 use borrow.Author.Needs.{needs}
 use Rattle.exporter.proofs.servers.beats_best.Statement.{statement}
 use Rattle.exporter.proofs.servers.beats_best.Tie as tie

@@ -1,4 +1,4 @@
--- `better` meets its contract: the test is that of the definition. Assumes nothing.
+-- `better` meets its contract. Its one test is that of `preferred`, so either return is one of its two cases.
 use borrow.Author.Needs.{needs}
 use Rattle.exporter.proofs.servers.better.Statement.{statement}
 use Rattle.exporter.proofs.servers.better.Tie as tie

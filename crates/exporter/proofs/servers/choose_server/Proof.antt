@@ -1,4 +1,5 @@
--- `choose_server` meets its contract. The loop's invariant: best is the choice among the servers passed. Assumes nothing.
+-- `choose_server` meets its contract. The loop's invariant: best is the choice among the servers passed. A turn is one more step of
+-- `choose`.
 use mathlib.Core.Path.{_≡_}
 use native.Mathlib.Omega.{arith}
 use Rattle.exporter.specs.Servers.{choose}

@@ -1,4 +1,4 @@
--- `restart_server` meets its contract, phase by phase. Assumes nothing.
+-- `restart_server` meets its contract. Each arm of the match is the row of `restarted` for that phase.
 use borrow.Author.Needs.{needs}
 use Rattle.exporter.proofs.servers.restart_server.Statement.{statement}
 use Rattle.exporter.proofs.servers.restart_server.Tie as tie

@@ -1,5 +1,5 @@
--- `restart_servers` meets its contract. The loop's invariant: the first i servers are restarted, and the others are as they were.
--- Assumes nothing.
+-- `restart_servers` meets its contract. The loop's invariant: the first i servers are restarted, and the others are as they were. After the
+-- last one the array is the definition's `map`.
 use mathlib.Core.Path.{_≡_, refl, _∙_}
 use mathlib.Core.List.{_++_, map}
 use Prim.Native.Nat.{_≤_, _-_}
@@ -13,10 +13,13 @@ use Rattle.exporter.proofs.servers.restart_servers.Statement.{statement
 use Rattle.exporter.proofs.servers.restart_servers.Tie as tie
 
 abbrev Inv-loop : tie.InvT-loop
-Inv-loop servers changed₀ i₀ changed i = (i ≤ 8) × (changed ≡ map restart (take i servers) ++ drop i servers)
+Inv-loop servers changed₀ end i₀ changed i = (i ≤ end) × (changed ≡ map restart (take i servers) ++ drop i servers)
 
 abbrev μ-loop : tie.MeasureT-loop
-μ-loop servers changed₀ i₀ changed i = 8 - i
+μ-loop servers changed₀ end i₀ changed i = end - i
+
+cast-end : tie.Need-cast-end Inv-loop μ-loop
+cast-end c = search needs
 
 loop-holds : tie.Need-loop-holds Inv-loop μ-loop
 loop-holds c = (omega arith, refl)
@@ -54,6 +57,7 @@ restart-servers-spec =
     (tie.spec
     Inv-loop
     μ-loop
+    cast-end
     loop-holds
     array-copy-out-restart-server
     restart-server-requires

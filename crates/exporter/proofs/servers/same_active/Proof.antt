@@ -1,4 +1,5 @@
--- `same_active` meets its contract, case by case. Assumes nothing.
+-- `same_active` meets its contract. Each of the four arms is the row of `sameActive` for those two choices; two servers are compared by
+-- number.
 use borrow.Author.Needs.{needs}
 use Rattle.exporter.proofs.servers.same_active.Statement.{statement}
 use Rattle.exporter.proofs.servers.same_active.Tie as tie

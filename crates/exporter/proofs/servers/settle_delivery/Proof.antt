@@ -1,4 +1,5 @@
--- `settle_delivery` meets its contract, by whether the choice is the active server. Assumes nothing.
+-- `settle_delivery` meets its contract, by whether the choice is the active server. If it is, the delivery stays; else it is that of a new
+-- activation, field by field.
 use borrow.Author.Needs.{needs}
 use Rattle.exporter.proofs.servers.settle_delivery.Statement.{statement}
 use Rattle.exporter.proofs.servers.settle_delivery.Tie as tie

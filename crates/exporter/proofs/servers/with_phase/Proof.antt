@@ -1,4 +1,5 @@
--- `with_phase` meets its contract: a store past the end changes nothing. Assumes nothing.
+-- `with_phase` meets its contract. A number below 8 stores its entry; past the end the definition's `set` changes nothing, and neither does
+-- the code.
 use mathlib.Core.Path.{sym}
 use native.Mathlib.Omega.{arith}
 use lib.Seq.{set-out}

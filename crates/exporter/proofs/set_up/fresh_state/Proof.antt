@@ -1,4 +1,4 @@
--- `fresh_state` meets its contract: it is the definition, written out. Assumes nothing.
+-- `fresh_state` meets its contract. It builds the definition field by field, so the two are the same by computing.
 use mathlib.Core.Path.{refl}
 use Rattle.exporter.specs.Steps.{fresh}
 use Rattle.exporter.proofs.set_up.fresh_state.Statement.{statement}

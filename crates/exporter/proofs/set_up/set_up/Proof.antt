@@ -1,4 +1,5 @@
--- `set_up` meets its contract: the settings are judged first. Assumes nothing.
+-- `set_up` meets its contract. The settings are judged once. Where they are in their limits the fresh state is handed back, else the one
+-- that every call refuses.
 use mathlib.Core.Path.{sym, _∙_}
 use Rattle.exporter.specs.Steps.{setUp}
 use borrow.Author.Needs.{needs}

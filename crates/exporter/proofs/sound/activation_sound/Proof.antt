@@ -1,6 +1,8 @@
--- `activation_sound` meets its contract, by whether somebody is active. Assumes nothing.
+-- `activation_sound` meets its contract, by whether somebody is active. With nobody active the three counters are tested; else each record
+-- reached was sent to the active server, whose number is below 8.
 use mathlib.Core.Path.{subst}
 use native.Mathlib.Omega.{arith}
+use Rattle.exporter.specs.Limits.{maxServers}
 use Rattle.exporter.specs.Changes.{Below}
 use borrow.Author.Needs.{needs}
 use Rattle.exporter.proofs.sound.activation_sound.Statement.{statement}
@@ -15,7 +17,7 @@ enum-known-active c = search needs
 all-received-requires : tie.Need-all-received-requires
 all-received-requires c κs =
     let z = c .before .before .before in
-    (z .pre .0, omega (arith, subst (Below 8) (c .before .active .given .1) (z .pre .1)))
+    (z .pre .0, omega (arith, subst (Below maxServers) (c .before .active .given .1) (z .pre .1)))
 
 returns : tie.Need-returns
 returns c = rw (c .before .before .before .enum-told .given .1)

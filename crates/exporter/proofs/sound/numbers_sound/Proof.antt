@@ -1,4 +1,4 @@
--- `numbers_sound` meets its contract: its tests are those of the definition. Assumes nothing.
+-- `numbers_sound` meets its contract. Its tests are those of `numbersSound`, joined in the same order.
 use Rattle.exporter.specs.Sound.{numbersSound}
 use borrow.Author.Needs.{needs}
 use Rattle.exporter.proofs.sound.numbers_sound.Statement.{statement}

@@ -1,9 +1,10 @@
--- `parts_sound` meets its contract: each return follows from the tests on the way to it, and what the later calls require from the
--- numbers' facts. Assumes nothing.
+-- `parts_sound` meets its contract. It tests the clauses of `sound` in their order, and one clause that fails makes the state unsound. What
+-- the later calls require follows from the numbers, which are tested first.
 use mathlib.Core.Path.{sym, _∙_}
 use native.Mathlib.Omega.{arith}
 use borrow.Author.Tests.{not-true, not-false, le-leb, lt-leb}
 use Rattle.wire.proofs.Each.{clause-last}
+use Rattle.exporter.specs.Limits.{maxServers}
 use Rattle.exporter.specs.Sound.{sound}
 use Rattle.exporter.proofs.SoundFacts.{numbers-facts, unsound, same-active}
 use Rattle.exporter.proofs.Choice.{choice-below}
@@ -18,13 +19,19 @@ returns : tie.Need-returns
 returns c = unsound _ 0 (sym (c .before .numbers-sound .ensures) ∙ not-true _ (c .if1 .taken))
 
 entries-sound-requires : tie.Need-entries-sound-requires
-entries-sound-requires c κs = let f = numbers-facts _ _ _ _ _ _ (sym (c .before .numbers-sound .ensures) ∙ not-false _ (c .if1 .left)) in omega arith
+entries-sound-requires c κs =
+    let a = c .before .before .args in
+    let f = numbers-facts (a .p) (a .room) (a .d) (a .due) (a .count) (a .start) (rw (← c .before .numbers-sound .ensures) (not-false _ (c .if1 .left))) in
+    (f .few, f .settings .fewServers)
 
 returns-2 : tie.Need-returns-2
 returns-2 c = unsound _ 1 (sym (c .before .entries-sound .ensures) ∙ not-true _ (c .if2 .taken))
 
 octets-to-requires : tie.Need-octets-to-requires
-octets-to-requires c κs = let f = numbers-facts _ _ _ _ _ _ (sym (c .before .before .before .numbers-sound .ensures) ∙ not-false _ (c .before .before .if1 .left)) in omega arith
+octets-to-requires c κs =
+    let a = c .before .before .before .before .args in
+    let f = numbers-facts (a .p) (a .room) (a .d) (a .due) (a .count) (a .start) (rw (← c .before .before .before .numbers-sound .ensures) (not-false _ (c .before .before .if1 .left))) in
+    f .few
 
 cast-if3 : tie.Need-cast-if3
 cast-if3 c = search needs
@@ -43,11 +50,10 @@ returns-4 c = unsound _ 3 (rw (← c .before .before .choose-server .ensures) (s
 
 activation-sound-requires : tie.Need-activation-sound-requires
 activation-sound-requires c κs =
-    let z = c .before .before .before .before .before .before .before .before .before .before .before in
-    let f = numbers-facts _ _ _ _ _ _ (sym (c .before .before .before .before .before .before .before .before .before .before .numbers-sound .ensures) ∙ not-false _ (c .before .before .before .before .before .before .before .before .before .if1 .left)) in
-    let a = z .args in
+    let a = c .before .before .before .before .before .before .before .before .before .before .before .args in
+    let f = numbers-facts (a .p) (a .room) (a .d) (a .due) (a .count) (a .start) (rw (← c .before .before .before .before .before .before .before .before .before .before .numbers-sound .ensures) (not-false _ (c .before .before .before .before .before .before .before .before .before .if1 .left))) in
     let e = same-active (a .d .active) _ (sym (c .before .same-active .ensures) ∙ not-false _ (c .if4 .left)) in
-    (omega arith, choice-below (a .p) (a .d) (e ∙ c .before .before .choose-server .ensures) (f .settings .fewServers))
+    (omega (arith, f .few, f .reachedHeld), choice-below (a .p) (a .d) maxServers (e ∙ c .before .before .choose-server .ensures) (f .settings .fewServers))
 
 returns-5 : tie.Need-returns-5
 unfolding sound
@@ -55,8 +61,10 @@ returns-5 c =
     let w = c .before .before .before .before .before .before in
     let room = w .before .before .before .before .before .before .args .room in
     rw (
-      sym (w .before .before .before .before .before .numbers-sound .ensures) ∙ not-false _ (w .before .before .before .before .if1 .left),
-      sym (w .before .before .before .entries-sound .ensures) ∙ not-false _ (w .before .before .if2 .left),
+      ← w .before .before .before .before .before .numbers-sound .ensures,
+      not-false (w .before .before .before .before .before .numbers-sound .result) (w .before .before .before .before .if1 .left),
+      ← w .before .before .before .entries-sound .ensures,
+      not-false (w .before .before .before .entries-sound .result) (w .before .before .if2 .left),
       ← w .before .octets-to .ensures,
       le-leb (w .before .octets-to .result) room (w .if3 .left),
       ← c .before .before .before .choose-server .ensures,

@@ -1,4 +1,4 @@
--- `settings_sound` meets its contract: its tests are those of the definition. Assumes nothing.
+-- `settings_sound` meets its contract. Its tests are those of `settingsSound`, joined in the same order.
 use mathlib.Core.Path.{refl}
 use Rattle.exporter.specs.Sound.{settingsSound}
 use Rattle.exporter.proofs.sound.settings_sound.Statement.{statement}

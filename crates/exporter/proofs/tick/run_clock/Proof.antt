@@ -1,5 +1,5 @@
--- `run_clock` meets its contract: its tests are those of the definition, in their order. The timer is below the duration, so that one more
--- tick fits. Assumes nothing.
+-- `run_clock` meets its contract. Its tests are those of the definition, in their order. The timer is below the duration, so that one more
+-- tick fits.
 use borrow.Author.Tests.{eq-eqb, ne-eqb, le-ltb, lt-ltb}
 use borrow.Author.Needs.{needs}
 use Rattle.exporter.proofs.tick.run_clock.Statement.{statement}

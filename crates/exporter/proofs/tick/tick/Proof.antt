@@ -1,5 +1,5 @@
--- `tick` meets its contract: the clock and the choice give what a tick changes, and that is applied to the state. Whether the state is sound
--- is judged once. Assumes nothing.
+-- `tick` meets its contract. Soundness is judged once; the clock and the choice then give what a tick changes, which is applied to the
+-- state. The law `tick-turned` says that this is the step of the definition, also for an unsound state.
 use mathlib.Core.Path.{sym, _∙_}
 use Rattle.exporter.proofs.SoundFacts.{sound-facts, parts-of}
 use Rattle.exporter.proofs.Ticks.{tick-turned}

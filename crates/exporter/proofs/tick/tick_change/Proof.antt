@@ -1,4 +1,5 @@
--- `tick_change` meets its contract: each part of the change is computed as the definition has it, in one line without a branch. Assumes nothing.
+-- `tick_change` meets its contract. Each part of the change is one call, whose contract is that part of the definition; there is no branch,
+-- so one rewriting by all of them closes it.
 use Rattle.exporter.specs.Servers.{server}
 use borrow.Author.Needs.{needs}
 use Rattle.exporter.proofs.tick.tick_change.Statement.{statement}

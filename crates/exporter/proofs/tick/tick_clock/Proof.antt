@@ -1,5 +1,5 @@
 -- `tick_clock` meets its contract, by whether the state is sound and whether somebody is active. In a sound state the timer is below the
--- duration. Assumes nothing.
+-- duration, which is what `run_clock` requires.
 use mathlib.Core.Path.{sym, _∙_}
 use borrow.Author.Tests.{not-true, not-false}
 use Rattle.exporter.proofs.Ticks.{clock-idle, clock-running}

@@ -1,4 +1,5 @@
--- `agree_answer` meets its contract by its two tests. Assumes nothing.
+-- `agree_answer` meets its contract. It makes the two tests of the definition in their order, so each return follows from the tests on the
+-- way to it.
 use borrow.Author.Tests.{not-false, eq-eqb, ne-eqb}
 use mathlib.Core.Path.{sym, _∙_}
 use borrow.Author.Needs.{needs}

@@ -1,4 +1,4 @@
--- `is_sessions` meets its contract by its two calls. Assumes nothing.
+-- `is_sessions` meets its contract by its two calls: whether the table is sound, and whether its Configuration ID is the session's.
 use borrow.Author.Needs.{needs}
 use Rattle.exporter.proofs.transition.is_sessions.Statement.{statement}
 use Rattle.exporter.proofs.transition.is_sessions.Tie as tie

@@ -1,9 +1,15 @@
--- `move_change` meets its contract, refusal by refusal; where a reply is written, what is left follows from it. Assumes nothing.
-use mathlib.Core.Path.{sym, _∙_}
+-- `move_change` meets its contract, refusal by refusal: 1, 2, the transition's own, and 12 where its message does not fit. What is refused
+-- changes nothing. Else the message that was written is the definition's, and the choice is made anew.
+use mathlib.Core.List.{[]}
+use mathlib.Core.Path.{_∙_}
 use mathlib.Core.Bool.{true, false}
 use native.Mathlib.Omega.{arith}
-use borrow.Author.Tests.{not-true, not-false, le-leb, lt-leb}
+use borrow.Author.Tests.{le-leb, lt-leb}
+use lib.ListN.{length}
+use Rattle.exporter.specs.Changes.{stateOf}
+use Rattle.exporter.specs.Steps.{move}
 use Rattle.exporter.specs.Moves.{transitionOf}
+use Rattle.exporter.proofs.SoundFacts.{passed-sound, failed-sound}
 use Rattle.exporter.proofs.Changes.{move-unsound, move-unknown, refused-change, moved-change}
 use Rattle.exporter.proofs.Moves.{table-fits, move-refused, move-roomed, fitted, unfitted}
 use borrow.Author.Needs.{needs}
@@ -18,16 +24,23 @@ refuse-change-requires c κs = search needs
 
 returns : tie.Need-returns
 returns c =
-    let e = sym (c .before .before .parts-sound .ensures) ∙ not-true _ (c .before .if1 .taken) in
-    refused-change _ _ _ _ _ _ 1 _ (λ z. omega arith) (move-unsound _ _ _ _ _ _ e) (c .refuse-change .ensures)
+    let a = c .before .before .before .before .before .args in
+    let s = stateOf (a .p) (a .capacity) (a .d) (a .due) (a .count) (a .lengths .now) [] (a .receivers .now) (a .start) 0 in
+    let t = transitionOf (a .m) in
+    let e = failed-sound s (c .before .before .parts-sound .result) (c .before .before .parts-sound .ensures) (c .before .if1 .taken) in
+    refused-change 32 (a .table .now) (length (a .out .now)) (move (a .v) t) s (a .out .now) 1 (c .refuse-change .result) (λ z. omega arith) (move-unsound 32 (a .table .now) (length (a .out .now)) (a .v) t s e) (c .refuse-change .ensures)
 
 refuse-change-requires-2 : tie.Need-refuse-change-requires-2
 refuse-change-requires-2 c κs = search needs
 
 returns-2 : tie.Need-returns-2
 returns-2 c =
-    let e = sym (c .before .before .before .before .parts-sound .ensures) ∙ not-false _ (c .before .before .before .if1 .left) in
-    refused-change _ _ _ _ _ _ 2 _ (λ z. omega arith) (move-unknown _ _ _ _ _ _ e (le-leb _ _ (c .before .if2 .taken))) (c .refuse-change2 .ensures)
+    let a = c .before .before .before .before .before .before .before .args in
+    let s = stateOf (a .p) (a .capacity) (a .d) (a .due) (a .count) (a .lengths .now) [] (a .receivers .now) (a .start) 0 in
+    let t = transitionOf (a .m) in
+    let e = passed-sound s (c .before .before .before .before .parts-sound .result) (c .before .before .before .before .parts-sound .ensures) (c .before .before .before .if1 .left) in
+    refused-change 32 (a .table .now) (length (a .out .now)) (move (a .v) t) s (a .out .now) 2 (c .refuse-change2 .result) (λ z. omega arith)
+    (move-unknown 32 (a .table .now) (length (a .out .now)) (a .v) t s e (le-leb (a .p .servers) (a .v) (c .before .if2 .taken))) (c .refuse-change2 .ensures)
 
 phase-at-requires : tie.Need-phase-at-requires
 phase-at-requires c κs = search needs
@@ -40,16 +53,19 @@ refuse-change-requires-3 c κs = search needs
 
 returns-3 : tie.Need-returns-3
 returns-3 c =
-    let e = sym (c .before .before .before .before .before .before .before .before .parts-sound .ensures) ∙ not-false _ (c .before .before .before .before .before .before .before .if1 .left) in
+    let a = c .before .before .before .before .before .before .before .before .before .before .before .args in
+    let s = stateOf (a .p) (a .capacity) (a .d) (a .due) (a .count) (a .lengths .now) [] (a .receivers .now) (a .start) 0 in
+    let t = transitionOf (a .m) in
+    let e = passed-sound s (c .before .before .before .before .before .before .before .before .parts-sound .result) (c .before .before .before .before .before .before .before .before .parts-sound .ensures) (c .before .before .before .before .before .before .before .if1 .left) in
     let q = rw (c .before .before .before .phase-at .ensures) at (c .before .before .turn-answer .ensures) in
-    refused-change _ _ _ _ _ _ _ _ (c .before .if3 .taken)
-    (move-refused _ _ _ _ _ _ _ e (lt-leb _ _ (c .before .before .before .before .before .if2 .left)) q (c .before .if3 .taken))
+    refused-change 32 (a .table .now) (length (a .out .now)) (move (a .v) t) s (a .out .now) (c .before .before .turn-answer .result) (c .refuse-change3 .result) (c .before .if3 .taken)
+    (move-refused 32 (a .table .now) (length (a .out .now)) (a .v) t s (c .before .before .turn-answer .result) e (lt-leb (a .p .servers) (a .v) (c .before .before .before .before .before .if2 .left)) q (c .before .if3 .taken))
     (c .refuse-change3 .ensures)
 
 write-reply-requires : tie.Need-write-reply-requires
 write-reply-requires c κs =
     let a = c .before .before .before .before .before .before .before .before .before .before .before .args in
-    table-fits (a .p) (a .table .now) (c .before .before .before .phase-at .result) (transitionOf (a .m)) (sym (c .before .before .turn-answer .ensures) ∙ c .before .if3 .left)
+    table-fits (a .p) (a .table .now) (c .before .before .before .phase-at .result) (transitionOf (a .m)) (c .before .before .turn-answer .result) (c .before .before .turn-answer .ensures) (c .before .if3 .left)
 
 enum-known-reply : tie.Need-enum-known-reply
 enum-known-reply c = search needs
@@ -71,11 +87,14 @@ same-length c = search needs
 
 returns-4 : tie.Need-returns-4
 returns-4 c =
+    let a = c .before .before .before .before .before .before .before .before .before .before .before .before .before .before .before .before .before .before .before .args in
+    let s = stateOf (a .p) (a .capacity) (a .d) (a .due) (a .count) (a .lengths .now) [] (a .receivers .now) (a .start) 0 in
+    let t = transitionOf (a .m) in
     let f = fitted _ _ _ _ (rw (c .before .before .before .reply .given .1) at (c .before .before .before .before .before .before .before .write-reply .ensures)) in
-    let e = sym (c .before .before .before .before .before .before .before .before .before .before .before .before .before .before .before .before .parts-sound .ensures) ∙ not-false _ (c .before .before .before .before .before .before .before .before .before .before .before .before .before .before .before .if1 .left) in
+    let e = passed-sound s (c .before .before .before .before .before .before .before .before .before .before .before .before .before .before .before .before .parts-sound .result) (c .before .before .before .before .before .before .before .before .before .before .before .before .before .before .before .before .parts-sound .ensures) (c .before .before .before .before .before .before .before .before .before .before .before .before .before .before .before .if1 .left) in
     let q = rw (c .before .before .before .before .before .before .before .before .before .before .before .phase-at .ensures) at (c .before .before .before .before .before .before .before .before .before .before .turn-answer .ensures) in
-    moved-change _ _ _ _ _ _ _ _ _ _
-    (move-roomed _ _ _ _ _ _ _ e (lt-leb _ _ (c .before .before .before .before .before .before .before .before .before .before .before .before .before .if2 .left)) q (c .before .before .before .before .before .before .before .before .before .if3 .left) false (f .fits))
+    moved-change 32 (a .table .now) (length (a .out .now)) (a .v) t s (a .out .now) _ _ (c .settle-change .result)
+    (move-roomed 32 (a .table .now) (length (a .out .now)) (a .v) t s (c .before .before .before .before .before .before .before .before .before .before .turn-answer .result) e (lt-leb (a .p .servers) (a .v) (c .before .before .before .before .before .before .before .before .before .before .before .before .before .if2 .left)) q (c .before .before .before .before .before .before .before .before .before .if3 .left) false (f .fits))
     (f .many) (f .left) (rw (c .before .move-delivery .ensures) at (c .settle-change .ensures))
 
 same-length-2 : tie.Need-same-length-2
@@ -83,11 +102,15 @@ same-length-2 c = search needs
 
 returns-5 : tie.Need-returns-5
 returns-5 c =
+    let a = c .before .before .before .before .before .before .before .before .before .before .before .before .before .before .before .before .before .before .args in
+    let s = stateOf (a .p) (a .capacity) (a .d) (a .due) (a .count) (a .lengths .now) [] (a .receivers .now) (a .start) 0 in
+    let t = transitionOf (a .m) in
     let f = unfitted _ _ _ _ (rw (c .before .before .reply2 .given .1) at (c .before .before .before .before .before .before .write-reply .ensures)) in
-    let e = sym (c .before .before .before .before .before .before .before .before .before .before .before .before .before .before .before .parts-sound .ensures) ∙ not-false _ (c .before .before .before .before .before .before .before .before .before .before .before .before .before .before .if1 .left) in
+    let e = passed-sound s (c .before .before .before .before .before .before .before .before .before .before .before .before .before .before .before .parts-sound .result) (c .before .before .before .before .before .before .before .before .before .before .before .before .before .before .before .parts-sound .ensures) (c .before .before .before .before .before .before .before .before .before .before .before .before .before .before .if1 .left) in
     let q = rw (c .before .before .before .before .before .before .before .before .before .before .phase-at .ensures) at (c .before .before .before .before .before .before .before .before .before .turn-answer .ensures) in
-    let r = refused-change _ _ _ _ _ _ 12 _ (λ z. omega arith)
-    (move-roomed _ _ _ _ _ _ _ e (lt-leb _ _ (c .before .before .before .before .before .before .before .before .before .before .before .before .if2 .left)) q (c .before .before .before .before .before .before .before .before .if3 .left) true (f .short))
+    let r =
+    refused-change 32 (a .table .now) (length (a .out .now)) (move (a .v) t) s (a .out .now) 12 (c .refuse-change4 .result) (λ z. omega arith)
+    (move-roomed 32 (a .table .now) (length (a .out .now)) (a .v) t s (c .before .before .before .before .before .before .before .before .before .turn-answer .result) e (lt-leb (a .p .servers) (a .v) (c .before .before .before .before .before .before .before .before .before .before .before .before .if2 .left)) q (c .before .before .before .before .before .before .before .before .if3 .left) true (f .short))
     (rw (f .number) at (c .refuse-change4 .ensures)) in
     (r .0, f .left ∙ r .1)
 

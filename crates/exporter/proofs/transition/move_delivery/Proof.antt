@@ -1,4 +1,4 @@
--- `move_delivery` meets its contract: only the servers change. Assumes nothing.
+-- `move_delivery` meets its contract. Only the servers change, by the transition; every other field is copied.
 use borrow.Author.Needs.{needs}
 use Rattle.exporter.proofs.transition.move_delivery.Statement.{statement}
 use Rattle.exporter.proofs.transition.move_delivery.Tie as tie

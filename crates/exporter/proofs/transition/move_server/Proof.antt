@@ -1,6 +1,8 @@
--- `move_server` meets its contract: what the transition changes by parts is applied to the state. Assumes nothing.
-use mathlib.Core.Path.{_∙_}
-use Rattle.exporter.proofs.Changes.{move-parts, move-output}
+-- `move_server` meets its contract. What the transition changes was computed of the parts that soundness looks at; by the law `moved-
+-- applied` it is what the transition of the whole state changes.
+use lib.ListN.{length}
+use Rattle.exporter.specs.Moves.{transitionOf}
+use Rattle.exporter.proofs.Changes.{moved-applied}
 use borrow.Author.Needs.{needs}
 use Rattle.exporter.proofs.transition.move_server.Statement.{statement}
 use Rattle.exporter.proofs.transition.move_server.Tie as tie
@@ -16,8 +18,9 @@ same-length c = search needs
 
 returns : tie.Need-returns
 returns c =
-    let e = c .before .before .before .move-change .ensures in
-    (rw (c .apply .ensures, e .0) (move-parts 32 _ _ _ _ _), e .1 ∙ move-output 32 _ _ _ _ _ _)
+    let a = c .before .before .before .before .before .before .before .before .before .before .before .before .args in
+    let x = c .before .before .before .move-change in
+    moved-applied 32 (a .table .now) (length (a .out .now)) (a .v) (transitionOf (a .m)) (a .t1) (a .out .now) _ (x .result) (c .apply .result) (x .ensures) (c .apply .ensures)
 
 pub move-server-spec : {M : Type 1} → statement M
 move-server-spec = tie.close (tie.spec move-change-requires apply-requires same-length returns)

@@ -1,4 +1,4 @@
--- `move_servers` meets its contract, transition by transition. Assumes nothing.
+-- `move_servers` meets its contract. Each arm of the match is the row of `transition` for that move, by the contract of its one call.
 use Rattle.exporter.specs.Servers.{transition}
 use borrow.Author.Needs.{needs}
 use Rattle.exporter.proofs.transition.move_servers.Statement.{statement}

@@ -1,4 +1,5 @@
--- `turn_answer` meets its contract, transition by transition. Assumes nothing.
+-- `turn_answer` meets its contract. Each arm of the match is the row of `turnChecks` for that move: no refusal, one, or the contract of the
+-- call that judges it.
 use borrow.Author.Needs.{needs}
 use Rattle.exporter.proofs.transition.turn_answer.Statement.{statement}
 use Rattle.exporter.proofs.transition.turn_answer.Tie as tie

@@ -1,4 +1,5 @@
--- `write_reply` meets its contract: each arm writes its message, which only the room refuses, or nothing. Assumes nothing.
+-- `write_reply` meets its contract. Each arm that writes makes one message, which only the output's length can refuse, since an offered
+-- table is sound; the other arms write nothing, which fits any output.
 use mathlib.Core.Path.{refl, ap}
 use mathlib.Core.Bool.{not}
 use Rattle.wire.specs.Messages.{layoutOf}

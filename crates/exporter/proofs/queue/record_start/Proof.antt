@@ -1,11 +1,12 @@
--- `place_of` meets its contract: the sum is the place, or one length of the store past it. Assumes nothing.
+-- `record_start` meets its contract. Start and sum are each at most the store's length, so their sum is the place or one length of the
+-- store past it. Taking that away once is the remainder.
 use mathlib.Core.Path.{sym}
 use native.Mathlib.Omega.{arith}
 use native.Mathlib.Nat.{mod-eq-of-lt}
 use Rattle.exporter.proofs.Sends.{place-back}
 use borrow.Author.Needs.{needs}
-use Rattle.exporter.proofs.next_data.place_of.Statement.{statement}
-use Rattle.exporter.proofs.next_data.place_of.Tie as tie
+use Rattle.exporter.proofs.queue.record_start.Statement.{statement}
+use Rattle.exporter.proofs.queue.record_start.Tie as tie
 
 octets-to-requires : tie.Need-octets-to-requires
 octets-to-requires c κs = search needs
@@ -26,5 +27,5 @@ returns-2 c =
     let z = c .before .before in
     rw (c .before .octets-to .ensures) (place-back _ (z .args .capacity) (omega (arith, c .if1 .left, c .before .octets-to .ensures)) (omega (arith, z .pre .0, z .pre .1 .1 .1)))
 
-pub place-of-spec : {M : Type 1} → statement M
-place-of-spec = tie.close (tie.spec octets-to-requires cast-at add-at returns returns-2)
+pub record-start-spec : {M : Type 1} → statement M
+record-start-spec = tie.close (tie.spec octets-to-requires cast-at add-at returns returns-2)
