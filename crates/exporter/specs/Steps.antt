@@ -6,15 +6,19 @@ use mathlib.Core.List.{List, [], _∷_, _++_}
 use lib.Dec.{eqb, leb, ltb}
 use lib.ListN.{length, getD, take, replicate}
 use lib.Seq.{sets}
-use Rattle.octets.specs.Answers.{Check, _when_, judge, done, unsoundState, noSuchServer, otherSession, messageNotAccepted, bodyLengthWrong, outOfTurn, otherConfiguration, dsnNotAcknowledgeable, outputTooShort, noActiveServer, nothingToSend, templateNotFound, recordInvalid, recordTooLong, queueFull, storeFull, settingsOutsideLimits, unsoundTable}
+use Rattle.octets.specs.Answers.{Check, _when_, judge, done, unsoundState, noSuchServer, otherSession, messageNotAccepted}
+use Rattle.octets.specs.Answers.{bodyLengthWrong, outOfTurn, otherConfiguration, dsnNotAcknowledgeable, outputTooShort, noActiveServer, nothingToSend}
+use Rattle.octets.specs.Answers.{templateNotFound, recordInvalid, recordTooLong, queueFull, storeFull, settingsOutsideLimits, unsoundTable}
 use Rattle.wire.specs.Table.{configurationId, tableSound, isMissing, templateOf}
 use Rattle.wire.specs.Record.{recordValid}
 use Rattle.wire.specs.Messages.{maxRecordOctets, headerChecks, sessionOf, messageNumber, headerOctets, bodyFits, meaningOf, layoutOf}
 use Rattle.wire.specs.Messages as wire
 use Rattle.wire.specs.declared.message.Message.{Message}
-use Rattle.wire.specs.declared.message.Message.the-variants.{Start, StartAck, Stop, StopAck, TmplData, FinalTmplDataAck, StartNegotiate, StartNegotiateAck, Data, DataAck}
+use Rattle.wire.specs.declared.message.Message.the-variants.{Start, StartAck, Stop, StopAck, TmplData, FinalTmplDataAck}
+use Rattle.wire.specs.declared.message.Message.the-variants.{StartNegotiate, StartNegotiateAck, Data, DataAck}
 use Rattle.wire.specs.declared.message.DataHead.{DataHead}
-use Rattle.exporter.specs.Servers.{phaseAt, isClosed, isOffered, canOffer, sameActive, isNobody, changed, settle, freshDelivery, withServers, Transition, start, stop, negotiate, offer, down, agree, malformed, transition, sentOne, acknowledged, ticked}
+use Rattle.exporter.specs.Servers.{phaseAt, isClosed, isOffered, canOffer, sameActive, isNobody, changed, settle, freshDelivery}
+use Rattle.exporter.specs.Servers.{withServers, Transition, start, stop, negotiate, offer, down, agree, malformed, transition, sentOne, acknowledged, ticked}
 use Rattle.exporter.specs.Queue.{sumOf, heldOctets, ringPlace, recordAt, ringWrite, markedSet, hasOther, pushed, dropFront, marked}
 use Rattle.exporter.specs.Limits.{maxServers, maxHeld}
 use Rattle.exporter.specs.Sound.{settingsSound, sound}

@@ -87,7 +87,8 @@ fn accept_ack(
     start: usize,
     n: usize,
 ) -> AckChange
-    requires { ⌜ (n ≤ d .reached) × ((d .reached ≤ maxHeld) × ((start < capacity) × ((capacity ≤ maxStoreOctets) × (sumOf (take n (now lengths)) ≤ capacity)))) ⌝ }
+    requires { ⌜ (n ≤ d .reached) × ((d .reached ≤ maxHeld)
+        × ((start < capacity) × ((capacity ≤ maxStoreOctets) × (sumOf (take n (now lengths)) ≤ capacity)))) ⌝ }
     ensures { λ r. ⌜ r ≡ record {
       answer = done;
       released = n;
@@ -146,7 +147,12 @@ fn release_queue<'a>(
     n: usize,
 ) -> Queue
     requires { ⌜ (n ≤ count) × (n ≤ maxHeld) ⌝ }
-    ensures { λ r. ⌜ r ≡ dropFront (record { count = count; lengths = now (lengths .entry); templates = now (templates .entry); receivers = now (receivers .entry) }) n ⌝ }
+    ensures { λ r. ⌜ r ≡ dropFront (record {
+      count = count;
+      lengths = now (lengths .entry);
+      templates = now (templates .entry);
+      receivers = now (receivers .entry);
+    }) n ⌝ }
 {
     let moved_lengths = crate::queue::shift(lengths, n);
     let moved_templates = crate::queue::shift(templates, n);

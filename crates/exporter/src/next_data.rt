@@ -55,9 +55,9 @@ fn send_answer<'a>(
     start: usize,
     stored: usize,
 ) -> u8
-    ensures { λ a. ⌜ a ≡ judge
-        ((unsoundState when not (sound (stateOf p capacity d due count (now (lengths .entry)) [] (now (receivers .entry)) start 0) && eqb stored capacity))
-        ∷ sendChecks d count) ⌝ }
+    ensures { λ a. ⌜
+        (let s = stateOf p capacity d due count (now (lengths .entry)) [] (now (receivers .entry)) start 0 in
+        a ≡ judge ((unsoundState when not (sound s && eqb stored capacity)) ∷ sendChecks d count)) ⌝ }
 {
     if !crate::sound::parts_sound(p, capacity, d, due, count, lengths, receivers, start) {
         return Answer::UNSOUND_STATE;
@@ -122,7 +122,9 @@ fn next_head<'a>(
 // Writes a DATA whose record lies in the store from a place on.
 fn write_record(head: DataHead, store: &[u8], at: usize, len: usize, out: &mut [u8]) -> Written
     requires { ⌜ (at < length (now store)) × ((len ≤ length (now store)) × (len ≤ maxRecordOctets)) ⌝ }
-    ensures { λ r. ⌜ Placed (layoutOf (Data head) (ringRead (length (now (store .entry))) (now (store .entry)) at len)) (now (out .entry)) r (now (out .exit)) ⌝ }
+    ensures { λ r. ⌜
+        (let octets = ringRead (length (now (store .entry))) (now (store .entry)) at len in
+        Placed (layoutOf (Data head) octets) (now (out .entry)) r (now (out .exit))) ⌝ }
 {
     let written = wire::message::write_data_head(head, len, out);
     match written {
@@ -173,7 +175,15 @@ fn refuse_sending(answer: u8, d: Delivery, due: bool, set: u16) -> Sending
 // What a sending of n octets changes: one more record was sent, and its set has the active server.
 fn accept_sending(d: Delivery, set: u16, n: usize) -> Sending
     requires { ⌜ (d .sent < maxHeld) × Below maxServers (d .active) ⌝ }
-    ensures { λ r. ⌜ r ≡ record { answer = done; written = n; place = d .sent; set = markedSet (d .active) set; sent = d .sent + 1; reached = max (d .reached) (d .sent + 1); due = false } ⌝ }
+    ensures { λ r. ⌜ r ≡ record {
+      answer = done;
+      written = n;
+      place = d .sent;
+      set = markedSet (d .active) set;
+      sent = d .sent + 1;
+      reached = max (d .reached) (d .sent + 1);
+      due = false;
+    } ⌝ }
 {
     let active = d.active;
     let i = d.sent;

@@ -88,8 +88,11 @@ fn put_answer<'a, 'b, 'c>(
     id: u16,
     r: &'c [u8],
 ) -> u8
-    ensures { λ a. ⌜ a ≡ judge ((unsoundState when not (sound (stateOf p capacity d due count (now (lengths .entry)) [] (now (receivers .entry)) start 0) && eqb stored capacity))
-        ∷ (recordChecks p (now (table .entry)) id (now (r .entry)) ++ roomChecks capacity count (now (lengths .entry)) (now (r .entry)))) ⌝ }
+    ensures { λ a. ⌜
+        (let s = stateOf p capacity d due count (now (lengths .entry)) [] (now (receivers .entry)) start 0 in
+        let form = recordChecks p (now (table .entry)) id (now (r .entry)) in
+        let room = roomChecks capacity count (now (lengths .entry)) (now (r .entry)) in
+        a ≡ judge ((unsoundState when not (sound s && eqb stored capacity)) ∷ (form ++ room))) ⌝ }
 {
     if !crate::sound::parts_sound(p, capacity, d, due, count, lengths, receivers, start) {
         return Answer::UNSOUND_STATE;
