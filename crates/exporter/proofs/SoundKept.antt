@@ -18,9 +18,9 @@ use borrow.Author.Tests.{leb-false, ltb-false, eqb-true, eqb-false, eq-eqb}
 use Rattle.octets.specs.Answers.{_when_, judge, done, unsoundState, settingsOutsideLimits}
 use Rattle.octets.proofs.Judging.{passed}
 use Rattle.exporter.specs.Servers.{isNobody, chosen, changed, settle, withServers, withCounts, transition, sentOne, acknowledged, lateServers, anotherAgreed, expired, tickedFor, ticked}
-use Rattle.exporter.specs.Queue.{sumOf, octetsTo, heldOctets, has, with, pushed, dropFront, marked}
+use Rattle.exporter.specs.Queue.{sumOf, octetsTo, heldOctets, has, with, markedSet, pushed, dropFront, marked}
 use Rattle.exporter.specs.Sound.{maxHeld, maxRecordOctets, settingsSound, sound}
-use Rattle.exporter.specs.Steps.{Call, put, nextData, tick, ack, move, ackCount, checks, soundFor, answer, withDelivery, markedFor, after, settled, step, fresh, refusedState, setUp}
+use Rattle.exporter.specs.Steps.{Call, put, nextData, tick, ack, move, ackCount, checks, soundFor, answer, withDelivery, after, settled, step, fresh, refusedState, setUp}
 use Rattle.exporter.specs.declared.state.Server as serverOf
 use Rattle.exporter.specs.declared.state.Active.{Active}
 use Rattle.exporter.specs.declared.state.Active.the-variants.{Nobody, Server}
@@ -371,17 +371,13 @@ module _ (s : State) (z : Sized (s .queue)) (f : SoundFacts s) where
         templates = length-set (q .templates) (q .count) id ∙ z .templates;
         receivers = length-set (q .receivers) (q .count) 0 ∙ z .receivers;
       }
-  after-sized w table room nextData store e = go (s .delivery .active)
-    where
-      go : (a : Active) → Sized (markedFor a (s .queue) (s .delivery .sent))
-      go Nobody = z
-      go (Server v) =
-          let at : ℕ = s .delivery .sent in
-          record {
-            lengths = z .lengths;
-            templates = z .templates;
-            receivers = length-set (s .queue .receivers) at (with (getD (s .queue .receivers) at 0) v) ∙ z .receivers;
-          }
+  after-sized w table room nextData store e =
+      let at : ℕ = s .delivery .sent in
+      record {
+        lengths = z .lengths;
+        templates = z .templates;
+        receivers = length-set (s .queue .receivers) at (markedSet (s .delivery .active) (getD (s .queue .receivers) at 0)) ∙ z .receivers;
+      }
   after-sized w table room tick store e = z
   after-sized w table room (ack v dsn config) store e =
       let q = s .queue in
