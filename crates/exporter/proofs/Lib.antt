@@ -1,3 +1,5 @@
+-- The laws behind the proofs of the functions, and the claim about every list of calls. A function's own proof stands in the folder of its
+-- name.
 pub mod Arrays
 pub mod Rings
 pub mod SoundFacts

@@ -1,3 +1,5 @@
+-- The definitions, in reading order: limits, servers, the queue, sound states, the calls and their steps, the history and the claim; then what
+-- private functions compute.
 pub mod Limits
 pub mod Servers
 pub mod Queue
