@@ -90,7 +90,8 @@ impl Coverage {
         report + &self.warnings()
     }
 
-    fn warnings(&self) -> String {
+    /// A line for each call of which an allowed answer was not seen.
+    pub fn warnings(&self) -> String {
         let mut warnings = String::new();
         if self.tapes() > 0 {
             for (kind, answers) in ALLOWED.iter().enumerate() {

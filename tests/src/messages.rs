@@ -2,7 +2,8 @@
 
 /// The message numbers are the model's.
 pub use crate::model::message::{
-    DATA, DATA_ACK, FINAL_TMPL_DATA_ACK, START, START_ACK, START_NEGOTIATE, START_NEGOTIATE_ACK, STOP, STOP_ACK, TMPL_DATA,
+    DATA, DATA_ACK, FINAL_TMPL_DATA_ACK, START, START_ACK, START_NEGOTIATE, START_NEGOTIATE_ACK, STOP, STOP_ACK,
+    TMPL_DATA,
 };
 
 /// All message numbers that reading knows.
