@@ -208,10 +208,8 @@ fn body_octets(message: &Message, part: &[u8]) -> Vec<u8> {
 }
 
 /// Reads a message alone and, where it is read, writes what it says, with its part, to the output:
-/// 0, or the reading's refusal, or else the writing's.
-pub fn read_again(m: &[u8], out: &mut [u8]) -> u8 {
-    match read(m).and_then(|(message, part)| write(&message, part, out)) {
-        Ok(_) => answer::DONE,
-        Err(refusal) => refusal,
-    }
+/// its length, or the reading's refusal, or else the writing's.
+pub fn read_again(m: &[u8], out: &mut [u8]) -> Result<usize, u8> {
+    let (message, part) = read(m)?;
+    write(&message, part, out)
 }

@@ -16,10 +16,12 @@ pub struct Key {
     pub disabled: bool,
 }
 
-/// One template: its ID and all its keys in order, disabled ones among them.
+/// One template: its ID, the octet of the table where its key blocks begin, and all its keys in
+/// order, disabled ones among them.
 #[derive(Clone, Debug, PartialEq, Eq)]
 pub struct Template {
     pub id: u16,
+    pub keys_at: usize,
     pub keys: Vec<Key>,
 }
 
@@ -62,7 +64,7 @@ pub fn parse(t: &[u8]) -> Option<Table> {
     }
     let mut templates: Vec<Template> = Vec::new();
     for _ in 0..count {
-        let template = parse_block(&mut reader)?;
+        let template = parse_block(&mut reader, t.len())?;
         if templates.iter().any(|other| other.id == template.id) {
             return None;
         }
@@ -76,8 +78,8 @@ pub fn parse(t: &[u8]) -> Option<Table> {
 
 /// Block: template ID, key count 1 to 32, flags 0, description length, block length, the
 /// description zero-padded to a multiple of 4, then key blocks with differing key IDs. The block
-/// length is 12, the padded description and 12 for each key.
-fn parse_block(reader: &mut Reader) -> Option<Template> {
+/// length is 12, the padded description and 12 for each key. The table has `length` octets.
+fn parse_block(reader: &mut Reader, length: usize) -> Option<Template> {
     let id = reader.u16()?;
     let key_count = usize::from(reader.u16()?);
     let flags = reader.u16()?;
@@ -95,6 +97,7 @@ fn parse_block(reader: &mut Reader) -> Option<Template> {
     if padding.iter().any(|octet| *octet != 0) {
         return None;
     }
+    let keys_at = length - reader.rest.len();
     let mut keys: Vec<Key> = Vec::new();
     for _ in 0..key_count {
         let key = parse_key(reader)?;
@@ -103,7 +106,7 @@ fn parse_block(reader: &mut Reader) -> Option<Template> {
         }
         keys.push(key);
     }
-    Some(Template { id, keys })
+    Some(Template { id, keys_at, keys })
 }
 
 /// Key block, 12 octets: key ID, a listed type, reserved 0, attributes 0 or 1 (disabled).
