@@ -11,8 +11,12 @@ extern "C" {
         record: *const u8,
         record_len: usize,
     ) -> u8;
-    fn crane_read_again(message: *const u8, message_len: usize, out: *mut u8, out_len: usize)
-        -> u8;
+    fn crane_read_again(
+        message: *const u8,
+        message_len: usize,
+        out: *mut u8,
+        out_len: usize,
+    ) -> u64;
     #[allow(clippy::too_many_arguments)]
     fn crane_session(
         servers: u8,
@@ -41,7 +45,7 @@ pub fn record_answer(t: &[u8], id: u16, record: &[u8]) -> u8 {
     unsafe { crane_record_answer(t.as_ptr(), t.len(), id, record.as_ptr(), record.len()) }
 }
 
-pub fn read_again(m: &[u8], out: &mut [u8]) -> u8 {
+pub fn read_again(m: &[u8], out: &mut [u8]) -> u64 {
     unsafe { crane_read_again(m.as_ptr(), m.len(), out.as_mut_ptr(), out.len()) }
 }
 

@@ -199,13 +199,11 @@ pub fn write(m: &Message, out: &mut [u8]) -> Result<usize, u8> {
     }
 }
 
-/// Reads a message and writes what it says: 0, or the reading's or else the writing's refusal.
-pub fn read_again(m: &[u8], out: &mut [u8]) -> u8 {
-    match read(m) {
-        Err(a) => a,
-        Ok(message) => match write(&message, out) {
-            Ok(_) => DONE,
-            Err(a) => a,
-        },
+/// Reads a message and writes what it says: its length plus 256, or the reading's or else the
+/// writing's refusal.
+pub fn read_again(m: &[u8], out: &mut [u8]) -> u64 {
+    match read(m).and_then(|message| write(&message, out)) {
+        Ok(len) => len as u64 + 256,
+        Err(a) => a as u64,
     }
 }

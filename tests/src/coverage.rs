@@ -1,26 +1,40 @@
 //! Counts of what a comparison has seen, by the model's answers.
 
 use crate::generate::PROFILES;
-use crate::inputs::{END, FUNCTIONS};
+use crate::inputs::FUNCTIONS;
+use crate::library::END;
+use crate::model::answer::*;
 use crate::model::replay;
 use crate::tape::{self, Event, KIND_NAMES};
 use std::collections::BTreeMap;
 
 /// The answers that each kind of event can get on a tape, kind by kind. Answers 1 and 12 cannot come: the program's state
 /// is sound and its output buffer holds the longest message; after event 1 the table is sound too.
-const ALLOWED: [&[u64]; 8] = [
-    &[0, 20],
-    &[0, 21],
-    &[0, 15, 16, 17, 18, 19],
-    &[0, 2, 3, 4, 5, 6, 7, 8, 9, 10, 11],
-    &[0, 2],
-    &[0],
-    &[0, 13, 14],
-    &[0, 2, 9],
+const ALLOWED: [&[u8]; 8] = [
+    &[DONE, SETTINGS_OUTSIDE_LIMITS],
+    &[DONE, UNSOUND_TABLE],
+    &[DONE, TEMPLATE_NOT_FOUND, RECORD_INVALID, RECORD_TOO_LONG, QUEUE_FULL, STORE_FULL],
+    &[
+        DONE,
+        NO_SUCH_SERVER,
+        SHORT_MESSAGE,
+        OTHER_VERSION,
+        LENGTH_DIFFERS,
+        OTHER_SESSION,
+        MESSAGE_NOT_ACCEPTED,
+        BODY_LENGTH_WRONG,
+        OUT_OF_TURN,
+        OTHER_CONFIGURATION,
+        DSN_NOT_ACKNOWLEDGEABLE,
+    ],
+    &[DONE, NO_SUCH_SERVER],
+    &[DONE],
+    &[DONE, NO_ACTIVE_SERVER, NOTHING_TO_SEND],
+    &[DONE, NO_SUCH_SERVER, OUT_OF_TURN],
 ];
 
 /// The answers that are no refusals.
-const ACCEPTED: [u64; 2] = [0, END];
+const ACCEPTED: [u8; 2] = [DONE, END];
 
 /// The counts so far.
 #[derive(Default)]
@@ -29,9 +43,9 @@ pub struct Coverage {
     refused_tapes: u64,
     events: u64,
     /// How often each kind of event got each answer.
-    calls: BTreeMap<(usize, u64), u64>,
+    calls: BTreeMap<(usize, u8), u64>,
     /// How often each function got each answer.
-    inputs: BTreeMap<(usize, u64), u64>,
+    inputs: BTreeMap<(usize, u8), u64>,
 }
 
 impl Coverage {
@@ -56,7 +70,7 @@ impl Coverage {
         }
     }
 
-    pub fn add_input(&mut self, function: usize, answer: u64) {
+    pub fn add_input(&mut self, function: usize, answer: u8) {
         *self.inputs.entry((function, answer)).or_default() += 1;
     }
 
@@ -90,14 +104,15 @@ impl Coverage {
         report + &self.warnings()
     }
 
-    fn warnings(&self) -> String {
+    /// A line for each call of which an allowed answer was not seen.
+    pub fn warnings(&self) -> String {
         let mut warnings = String::new();
         if self.tapes() > 0 {
             for (kind, answers) in ALLOWED.iter().enumerate() {
                 warnings += &unseen(KIND_NAMES[kind], kind, answers, &self.calls);
             }
             if self.refused_tapes == 0 {
-                warnings += "warning: not seen of tape: 22\n";
+                warnings += &format!("warning: not seen of tape: {UNSOUND_TAPE}\n");
             }
         }
         if self.inputs() > 0 {
@@ -110,7 +125,7 @@ impl Coverage {
 }
 
 /// One line of counts: how many calls, how many of them refused, and how often each answer.
-fn counts_line(name: &str, number: usize, counts: &BTreeMap<(usize, u64), u64>) -> String {
+fn counts_line(name: &str, number: usize, counts: &BTreeMap<(usize, u8), u64>) -> String {
     let own = || counts.iter().filter(|((other, _), _)| *other == number).map(|((_, answer), count)| (*answer, *count));
     let all: u64 = own().map(|(_, count)| count).sum();
     let accepted: u64 = own().filter(|(answer, _)| ACCEPTED.contains(answer)).map(|(_, count)| count).sum();
@@ -118,9 +133,9 @@ fn counts_line(name: &str, number: usize, counts: &BTreeMap<(usize, u64), u64>) 
     format!("  {name:<9} {accepted} accepted, {} refused ({})\n", all - accepted, shown.join(", "))
 }
 
-fn unseen(name: &str, number: usize, allowed: &[u64], counts: &BTreeMap<(usize, u64), u64>) -> String {
+fn unseen(name: &str, number: usize, allowed: &[u8], counts: &BTreeMap<(usize, u8), u64>) -> String {
     let missing: Vec<String> =
-        allowed.iter().filter(|answer| !counts.contains_key(&(number, **answer))).map(u64::to_string).collect();
+        allowed.iter().filter(|answer| !counts.contains_key(&(number, **answer))).map(u8::to_string).collect();
     if missing.is_empty() {
         return String::new();
     }

@@ -3,6 +3,17 @@
 //! It is linked if it was there when this package was built (see `build.rs`); `is_linked` tells. Without it the
 //! functions here must not be called.
 
+/// The answer of a step at the end of a record.
+pub const END: u8 = 255;
+
+/// What is added to a number that an accepted answer carries.
+pub const ACCEPTED: u64 = 256;
+
+/// The sorts of a value: octets, a number, a number below 0.
+pub const OCTETS: u8 = 0;
+pub const NUMBER: u8 = 1;
+pub const NEGATIVE: u8 = 2;
+
 /// The functions as the library declares them.
 #[cfg(library)]
 mod linked {
@@ -15,7 +26,16 @@ mod linked {
             record: *const u8,
             record_length: usize,
         ) -> u8;
-        pub fn crane_read_again(message: *const u8, message_length: usize, out: *mut u8, out_length: usize) -> u8;
+        pub fn crane_find_part(table: *const u8, table_length: usize, id: u16, part: u8) -> u64;
+        pub fn crane_read_part(message: *const u8, message_length: usize, part: u8) -> u64;
+        pub fn crane_read_again(message: *const u8, message_length: usize, out: *mut u8, out_length: usize) -> u64;
+        pub fn crane_open_answer(
+            table: *const u8,
+            table_length: usize,
+            id: u16,
+            record: *const u8,
+            record_length: usize,
+        ) -> u8;
         pub fn crane_step_part(
             table: *const u8,
             table_length: usize,
@@ -52,7 +72,19 @@ mod linked {
         panic!("{ABSENT}")
     }
 
-    pub unsafe fn crane_read_again(_: *const u8, _: usize, _: *mut u8, _: usize) -> u8 {
+    pub unsafe fn crane_find_part(_: *const u8, _: usize, _: u16, _: u8) -> u64 {
+        panic!("{ABSENT}")
+    }
+
+    pub unsafe fn crane_read_part(_: *const u8, _: usize, _: u8) -> u64 {
+        panic!("{ABSENT}")
+    }
+
+    pub unsafe fn crane_read_again(_: *const u8, _: usize, _: *mut u8, _: usize) -> u64 {
+        panic!("{ABSENT}")
+    }
+
+    pub unsafe fn crane_open_answer(_: *const u8, _: usize, _: u16, _: *const u8, _: usize) -> u8 {
         panic!("{ABSENT}")
     }
 
@@ -92,8 +124,23 @@ pub fn record_answer(table: &[u8], id: u16, record: &[u8]) -> u8 {
     unsafe { linked::crane_record_answer(table.as_ptr(), table.len(), id, record.as_ptr(), record.len()) }
 }
 
-/// Reads a message alone and writes what it says to the output; 0, or the refusal.
-pub fn read_again(message: &[u8], out: &mut [u8]) -> u8 {
+/// One part of what finding a template answers.
+pub fn find_part(table: &[u8], id: u16, part: u8) -> u64 {
+    unsafe { linked::crane_find_part(table.as_ptr(), table.len(), id, part) }
+}
+
+/// One part of what reading a message alone answers.
+pub fn read_part(message: &[u8], part: u8) -> u64 {
+    unsafe { linked::crane_read_part(message.as_ptr(), message.len(), part) }
+}
+
+/// 0 where a field walk over a record can begin, else 21, 15 or 16.
+pub fn open_answer(table: &[u8], id: u16, record: &[u8]) -> u8 {
+    unsafe { linked::crane_open_answer(table.as_ptr(), table.len(), id, record.as_ptr(), record.len()) }
+}
+
+/// Reads a message alone and writes what it says to the output; its length plus 256, or the refusal.
+pub fn read_again(message: &[u8], out: &mut [u8]) -> u64 {
     unsafe { linked::crane_read_again(message.as_ptr(), message.len(), out.as_mut_ptr(), out.len()) }
 }
 

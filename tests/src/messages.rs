@@ -1,8 +1,9 @@
 //! Messages as structures, sound or not: each part of a message can be damaged on its own.
 
-/// The message numbers are the model's.
+/// The message numbers and the header's length are the model's.
 pub use crate::model::message::{
-    DATA, DATA_ACK, FINAL_TMPL_DATA_ACK, START, START_ACK, START_NEGOTIATE, START_NEGOTIATE_ACK, STOP, STOP_ACK, TMPL_DATA,
+    DATA, DATA_ACK, FINAL_TMPL_DATA_ACK, HEADER_OCTETS, START, START_ACK, START_NEGOTIATE, START_NEGOTIATE_ACK, STOP,
+    STOP_ACK, TMPL_DATA,
 };
 
 /// All message numbers that reading knows.
@@ -18,8 +19,6 @@ pub const KNOWN: [u8; 10] = [
     DATA,
     DATA_ACK,
 ];
-
-pub const HEADER_OCTETS: usize = 8;
 
 /// The parts of a message.
 #[derive(Clone, Debug)]

@@ -54,10 +54,9 @@ pub fn field_type(number: u16) -> Option<&'static FieldType> {
     FIELD_TYPES.iter().find(|kind| kind.number == number)
 }
 
-/// The limits of a sound table.
-pub const MAX_TABLE_OCTETS: usize = 16_384;
-pub const MAX_TEMPLATES: usize = 8;
-pub const MAX_KEYS: usize = 32;
+/// The limits of a sound table are the model's.
+pub use crate::model::table::{MAX_KEYS, MAX_TABLE_OCTETS, MAX_TEMPLATES};
+
 /// Where things stand: octets before the first block, in a block before its description, and in a key block.
 pub const TABLE_HEAD_OCTETS: usize = 4;
 pub const BLOCK_HEAD_OCTETS: usize = 12;

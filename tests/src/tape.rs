@@ -3,30 +3,18 @@
 //! A tape is a count of events (16 bits), then for each event its kind, its server and the length of its body (16
 //! bits), then the bodies.
 
-/// The longest tape that the replay program takes.
-pub const MAX_TAPE_OCTETS: usize = 32_768;
-/// The fewest and the most events of a sound tape.
-pub const MIN_EVENTS: usize = 2;
-pub const MAX_EVENTS: usize = 512;
+/// An event, the kinds of events and the limits are the model's.
+pub use crate::model::replay::{
+    Event, DOWN, MAX_EVENTS, MAX_TAPE_OCTETS, MESSAGE, MIN_EVENTS, NEXT_DATA as NEXT, OFFER, PUT, SETTINGS,
+    SETTINGS_OCTETS, TABLE, TICK,
+};
+
 /// Octets of the event count, and of one entry of the contents.
 pub const COUNT_OCTETS: usize = 2;
 pub const ENTRY_OCTETS: usize = 4;
-/// The length of a settings body.
-pub const SETTINGS_OCTETS: usize = 24;
-
-/// The kinds of events are the model's.
-pub use crate::model::replay::{DOWN, MESSAGE, NEXT_DATA as NEXT, OFFER, PUT, SETTINGS, TABLE, TICK};
 
 /// What each kind is called, in reports and in the text form.
 pub const KIND_NAMES: [&str; 8] = ["settings", "table", "put", "message", "down", "tick", "next", "offer"];
-
-/// One event of a tape.
-#[derive(Clone, Debug, PartialEq, Eq)]
-pub struct Event {
-    pub kind: u8,
-    pub server: u8,
-    pub body: Vec<u8>,
-}
 
 impl Event {
     pub fn settings(settings: &Settings) -> Event {

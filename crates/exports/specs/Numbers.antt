@@ -6,9 +6,17 @@ use lib.Dec.{eqb}
 use lib.ListN.{getD}
 use Rattle.octets.specs.Answers.{done, unsoundTable}
 use Rattle.wire.specs.Table.{tableSound}
-use Rattle.wire.specs.Messages.{writeOf, writeOut, writtenAnswer}
+use Rattle.wire.specs.Messages.{start, startAck, stop, stopAck, tmplData, finalTmplDataAck, startNegotiate, startNegotiateAck, dataNumber, dataAck, writeOf, writeOut}
+use Rattle.wire.specs.declared.table.Template.{Template}
+use Rattle.wire.specs.declared.table.Found.{Found}
+use Rattle.wire.specs.declared.table.Found.the-variants as found
+use Rattle.wire.specs.declared.message.DataHead.{DataHead}
+use Rattle.wire.specs.declared.message.Message.{Message}
+use Rattle.wire.specs.declared.message.Message.the-variants.{Start, StartAck, Stop, StopAck, TmplData, FinalTmplDataAck, StartNegotiate, StartNegotiateAck, Data, DataAck}
 use Rattle.wire.specs.declared.message.Reading.{Reading}
 use Rattle.wire.specs.declared.message.Reading.the-variants as reading
+use Rattle.wire.specs.declared.message.Written.{Written}
+use Rattle.wire.specs.declared.message.Written.the-variants as written
 use Rattle.wire.specs.declared.walk.Value.{Value}
 use Rattle.wire.specs.declared.walk.Value.the-variants as value
 use Rattle.wire.specs.declared.walk.Field.{Field}
@@ -18,18 +26,73 @@ use Rattle.wire.specs.declared.walk.Step.the-variants as step
 use Rattle.wire.specs.declared.append.Appended.{Appended}
 use Rattle.wire.specs.declared.append.Appended.the-variants as appended
 
+-- A number that an accepted answer carries has 256 added to it, modulo 2 to the 64, so that it is no refusal's number.
+abbrev pub acceptedNumber : ℕ → ℕ
+acceptedNumber n = (n + 256) % 2 ^ 64
+
 -- ---- tables
 
--- 0 for a sound table, else 21.
-unfoldable pub tableAnswer : List ℕ → ℕ
-tableAnswer t = cond (tableSound t) done unsoundTable
+-- 0 for a table of sound form, else 21.
+unfoldable pub tableFormAnswer : List ℕ → ℕ
+tableFormAnswer t = cond (tableSound t) done unsoundTable
+
+-- The answer 0; the place of the first key block and the count of key blocks.
+abbrev pub templateParts : Template → List ℕ
+templateParts m = done ∷ m .keys ∷ m .count ∷ []
+
+-- The parts of what finding a template answers; a refusal is alone.
+abbrev pub foundParts : Found → List ℕ
+foundParts (found.At m) = templateParts m
+foundParts (found.Refused a) = a ∷ []
+
+-- One of them by its number, 0 where there is none.
+abbrev pub foundPart : ℕ → Found → ℕ
+foundPart part f = getD (foundParts f) part 0
 
 -- ---- messages
 
--- What is read is written with its part: the answer number of writing, or the reading's refusal.
-abbrev pub againAnswer : Reading → List ℕ → List ℕ → ℕ
-againAnswer (reading.Message m) part out = writtenAnswer (writeOf m part out)
-againAnswer (reading.Refused a) part out = a
+-- The answer 0; the place and the length of the part that is carried; message number, session, Configuration ID, boot time or DSN; no
+-- template ID and no flags.
+abbrev pub saying : ℕ → ℕ → ℕ → ℕ → ℕ → ℕ → List ℕ
+saying at len number session config long = done ∷ at ∷ len ∷ number ∷ session ∷ config ∷ long ∷ 0 ∷ 0 ∷ 0 ∷ []
+
+-- Those of a DATA, with its template ID and its flags S and D.
+abbrev pub dataParts : ℕ → ℕ → DataHead → List ℕ
+dataParts at len h =
+    done ∷ at ∷ len ∷ dataNumber ∷ h .session ∷ h .config ∷ h .dsn ∷ h .template
+    ∷ cond (h .first) 1 0 ∷ cond (h .duplicate) 1 0 ∷ []
+
+-- The parts of a message that carries `len` octets from place `at` on; 0 for what it does not say.
+abbrev pub messageParts : ℕ → ℕ → Message → List ℕ
+messageParts at len (Start s) = saying at len start s 0 0
+messageParts at len (StartAck s boot) = saying at len startAck s 0 boot
+messageParts at len (Stop s) = saying at len stop s 0 0
+messageParts at len (StopAck s) = saying at len stopAck s 0 0
+messageParts at len (TmplData s) = saying at len tmplData s 0 0
+messageParts at len (FinalTmplDataAck s config) = saying at len finalTmplDataAck s config 0
+messageParts at len (StartNegotiate s) = saying at len startNegotiate s 0 0
+messageParts at len (StartNegotiateAck s) = saying at len startNegotiateAck s 0 0
+messageParts at len (Data h) = dataParts at len h
+messageParts at len (DataAck s dsn config) = saying at len dataAck s config dsn
+
+-- The parts of what reading alone answers; a refusal is alone.
+abbrev pub readParts : ℕ → ℕ → Reading → List ℕ
+readParts at len (reading.Message m) = messageParts at len m
+readParts at len (reading.Refused a) = a ∷ []
+
+-- One of them by its number, 0 where there is none.
+abbrev pub readPart : ℕ → ℕ → ℕ → Reading → ℕ
+readPart part at len r = getD (readParts at len r) part 0
+
+-- How many octets were written plus 256, or the refusal.
+abbrev pub writtenNumber : Written → ℕ
+writtenNumber (written.Octets n) = acceptedNumber n
+writtenNumber (written.Refused a) = a
+
+-- What is read is written with its part: the number of what writing answers, or the reading's refusal.
+abbrev pub againNumber : Reading → List ℕ → List ℕ → ℕ
+againNumber (reading.Message m) part out = writtenNumber (writeOf m part out)
+againNumber (reading.Refused a) part out = a
 
 -- The output afterwards; where nothing is read, as it was.
 abbrev pub againOut : Reading → List ℕ → List ℕ → List ℕ
@@ -38,11 +101,23 @@ againOut (reading.Refused a) part out = out
 
 -- ---- the field walk
 
--- 0 for octets, 1 for a number, 2 for a number below 0.
+-- The sort of a value that is octets.
+abbrev pub octetsSort : ℕ
+octetsSort = 0
+
+-- The sort of a number.
+abbrev pub numberSort : ℕ
+numberSort = 1
+
+-- The sort of a number below 0.
+abbrev pub negativeSort : ℕ
+negativeSort = 2
+
+-- The sort of a value.
 abbrev pub valueSort : Value → ℕ
-valueSort value.Octets = 0
-valueSort (value.Number n) = 1
-valueSort (value.Negative n) = 2
+valueSort value.Octets = octetsSort
+valueSort (value.Number n) = numberSort
+valueSort (value.Negative n) = negativeSort
 
 -- The size of a number, 0 for octets.
 abbrev pub valueSize : Value → ℕ
@@ -53,12 +128,16 @@ valueSize (value.Negative n) = n
 -- The answer 0; the field's type, place and length; its value's sort and size; the next cursor's index and place.
 abbrev pub fieldParts : Field → Cursor → List ℕ
 fieldParts f c =
-    0 ∷ f .kind ∷ f .at ∷ f .len ∷ valueSort (f .value) ∷ valueSize (f .value) ∷ c .index ∷ c .at ∷ []
+    done ∷ f .kind ∷ f .at ∷ f .len ∷ valueSort (f .value) ∷ valueSize (f .value) ∷ c .index ∷ c .at ∷ []
 
--- The parts of what a step answers; 255 is the end, and any other number but 0 a refusal.
+-- The number that stands for the end of a walk; no refusal has it.
+abbrev pub walkEnd : ℕ
+walkEnd = 255
+
+-- The parts of what a step answers; the end and a refusal are alone.
 abbrev pub stepParts : Step → List ℕ
 stepParts (step.Next f c) = fieldParts f c
-stepParts step.End = 255 ∷ []
+stepParts step.End = walkEnd ∷ []
 stepParts (step.Refused a) = a ∷ []
 
 -- One of them by its number, 0 where there is none.
@@ -67,12 +146,12 @@ stepPart part s = getD (stepParts s) part 0
 
 -- ---- appending
 
--- 1 stands for the number, 2 for minus the number, any other sort for octets.
+-- The value of a sort: the number, minus the number, or octets for any other sort.
 unfoldable pub valueOf : ℕ → ℕ → Value
 valueOf sort number =
-    cond (eqb sort 1) (value.Number number) (cond (eqb sort 2) (value.Negative number) value.Octets)
+    cond (eqb sort numberSort) (value.Number number) (cond (eqb sort negativeSort) (value.Negative number) value.Octets)
 
 -- The place after the field plus 256, or the refusal.
 abbrev pub appendedNumber : Appended → ℕ
-appendedNumber (appended.Next place) = (place + 256) % 2 ^ 64
+appendedNumber (appended.Next place) = acceptedNumber place
 appendedNumber (appended.Refused a) = a

@@ -1,27 +1,49 @@
 // The field walk and appending a field.
 ghost use mathlib.Core.Path.{_≡_};
-ghost use mathlib.Core.List.{[], _∷_};
 ghost use lib.ListN.{getD};
-ghost use Rattle.wire.specs.Walk.{stepOf};
+ghost use Rattle.wire.specs.Walk.{openOf, openAnswer, stepOf};
 ghost use Rattle.wire.specs.Append.{appendOf, appendOut};
 ghost use Rattle.exports.specs.Numbers.{valueSort, valueSize, fieldParts, stepPart, valueOf, appendedNumber};
+use crate::numbers::accepted;
+use crate::numbers::sole_part;
+use octets::Answer;
 use wire::append::Appended;
 use wire::walk::Cursor;
 use wire::walk::Field;
+use wire::walk::Opened;
 use wire::walk::Step;
 use wire::walk::Value;
 
 // The answer that stands for the end of a walk.
 pub const END: u64 = 255;
 
-// 0 for a value that is octets, 1 for a number, 2 for a number below 0.
-fn value_sort(value: Value) -> u64
+// The sorts of a value: octets, a number, a number below 0.
+pub const OCTETS: u8 = 0;
+
+pub const NUMBER: u8 = 1;
+
+pub const NEGATIVE: u8 = 2;
+
+// 0 where a walk over a record can begin, else 21, 15 or 16.
+#[no_mangle]
+pub extern "C" fn crane_open_answer(table: &[u8], id: u16, r: &[u8]) -> u8
+    ensures { λ a. ⌜ a ≡ openAnswer (openOf (now (table .entry)) id (now (r .entry))) ⌝ }
+{
+    let opened = wire::walk::open_walk(table, id, r);
+    match opened {
+        Opened::At(_) => Answer::DONE,
+        Opened::Refused(a) => a,
+    }
+}
+
+// The sort of a value.
+fn value_sort(value: Value) -> u8
     ensures { λ n. ⌜ n ≡ valueSort value ⌝ }
 {
     match value {
-        Value::Octets => 0,
-        Value::Number(_) => 1,
-        Value::Negative(_) => 2,
+        Value::Octets => OCTETS,
+        Value::Number(_) => NUMBER,
+        Value::Negative(_) => NEGATIVE,
     }
 }
 
@@ -42,24 +64,17 @@ fn field_part(part: u8, f: Field, c: Cursor) -> u64
 {
     let value = f.value;
     let parts = [
-        0,
+        Answer::DONE as u64,
         f.kind as u64,
         f.at as u64,
         f.len as u64,
-        value_sort(value),
+        value_sort(value) as u64,
         value_size(value),
         c.index as u64,
         c.at as u64,
     ];
     let i = part as usize;
     if i < 8 { parts[i] } else { 0 }
-}
-
-// The only part of an answer that has no field.
-fn sole_part(part: u8, answer: u64) -> u64
-    ensures { λ n. ⌜ n ≡ getD (answer ∷ []) part 0 ⌝ }
-{
-    if part == 0 { answer } else { 0 }
 }
 
 // A part of what a step of the field walk answers, by its number: 0 the answer, and of a field 1 its type, 2 its place, 3 its length, 4 and
@@ -83,14 +98,14 @@ pub extern "C" fn crane_step_part(
     }
 }
 
-// The value that a sort and a number stand for: 1 the number, 2 minus the number, any other octets.
+// The value that a sort and a number stand for: octets for any other sort.
 fn value_of(sort: u8, number: u64) -> Value
     ensures { λ v. ⌜ v ≡ valueOf sort number ⌝ }
 {
-    if sort == 1 {
+    if sort == NUMBER {
         return Value::Number(number);
     }
-    if sort == 2 {
+    if sort == NEGATIVE {
         return Value::Negative(number);
     }
     Value::Octets
@@ -101,7 +116,7 @@ fn appended_number(appended: Appended) -> u64
     ensures { λ n. ⌜ n ≡ appendedNumber appended ⌝ }
 {
     match appended {
-        Appended::Next(place) => std::num::wrapping_add_u64(place as u64, 256),
+        Appended::Next(place) => accepted(place),
         Appended::Refused(a) => a as u64,
     }
 }

@@ -2,4 +2,5 @@
 // boundary to C. Each gives back as a number what the crate answers.
 pub mod fields;
 pub mod messages;
+pub mod numbers;
 pub mod tables;

@@ -30,13 +30,17 @@ settingsOf servers threshold duration initial =
 abbrev pub eventOctets : ℕ
 eventOctets = 19
 
+-- How many lengths a message of an event can have, 0 to 16.
+abbrev pub messageLengths : ℕ
+messageLengths = 17
+
 -- How many events there are; octets behind the last whole one do not count.
 abbrev pub eventCount : List ℕ → ℕ
 eventCount events = length events / eventOctets
 
 -- The message of the event at a place.
 unfoldable pub messageAt : List ℕ → ℕ → List ℕ
-messageAt events at = take (getD events (at + 2) 0 % 17) (drop (at + 3) events)
+messageAt events at = take (getD events (at + 2) 0 % messageLengths) (drop (at + 3) events)
 
 -- What every call of a session is lent besides store and output: the table, the template ID and the octets of the record that is put, and
 -- the events.

@@ -4,12 +4,15 @@
 ghost use mathlib.Core.Path.{_≡_};
 ghost use Prim.Native.Nat.{_+_, _≤_};
 ghost use lib.ListN.{length};
-ghost use Rattle.sessions.specs.Sessions.{settingsOf, messageAt, added, eventCount, progress, played, sessionEnd, PlayedTo};
+ghost use Rattle.sessions.specs.Sessions.{settingsOf, eventOctets, messageAt, added, eventCount, progress, played, sessionEnd, PlayedTo};
 use exporter::state::Made;
 use exporter::state::Settings;
 
 // The octets of an event: its call, its server, the length of its message modulo 17, and 16 octets, the first of which are the message.
 const EVENT_OCTETS: usize = 19;
+
+// How many lengths a message of an event can have, 0 to 16.
+const MESSAGE_LENGTHS: u8 = 17;
 
 // The calls of events; any other number is a message that is received.
 const PUT: u8 = 0;
@@ -39,11 +42,11 @@ fn settings(servers: u8, threshold: u8, duration: u16, initial: u32) -> Settings
 
 // The message of the event at a place.
 fn message_at(events: &[u8], at: usize) -> &[u8]
-    requires { ⌜ at + 19 ≤ length (now events) ⌝ }
+    requires { ⌜ at + eventOctets ≤ length (now events) ⌝ }
     ensures { λ m. ⌜ now m ≡ messageAt (now (events .entry)) at ⌝ }
 {
     let start = at + 3;
-    let end = start + ((events[at + 2] % 17) as usize);
+    let end = start + ((events[at + 2] % MESSAGE_LENGTHS) as usize);
     &events[start..end]
 }
 

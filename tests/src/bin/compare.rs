@@ -27,6 +27,10 @@ const USAGE: &str = "usage: compare --program PATH [options]
   --input FUNCTION SEED run one input only; print it and both outcomes
 profiles:";
 
+/// How many tapes and inputs a run has if it is not told.
+const DEFAULT_TAPES: u64 = 2_000;
+const DEFAULT_INPUTS: u64 = 100_000;
+
 const WORKERS: usize = 2;
 const MOST_MISMATCHES: u64 = 10;
 /// Seeds that are run together: seed S of the arguments stands for the seeds from S times this on.
@@ -43,6 +47,14 @@ struct Options {
     save: Option<PathBuf>,
     one: Option<(usize, u64)>,
     input: Option<(usize, u64)>,
+}
+
+impl Options {
+    /// The run has the tapes of every profile and at least as many tapes and inputs as a default run, so that every
+    /// answer is due.
+    fn is_whole(&self) -> bool {
+        self.profile.is_none() && self.tapes * self.many >= DEFAULT_TAPES && self.inputs * self.many >= DEFAULT_INPUTS
+    }
 }
 
 fn main() -> ExitCode {
@@ -72,8 +84,8 @@ fn usage() -> String {
 fn options(arguments: &[String]) -> Result<Options, String> {
     let mut options = Options {
         program: None,
-        tapes: 2_000,
-        inputs: 100_000,
+        tapes: DEFAULT_TAPES,
+        inputs: DEFAULT_INPUTS,
         many: 1,
         seed: 1,
         profile: None,
@@ -114,7 +126,7 @@ fn function(name: &String) -> Result<usize, String> {
     inputs::function_number(name).ok_or_else(|| format!("no function {name}\n{}", usage()))
 }
 
-/// Everything that was asked for; true if no difference was found.
+/// Everything that was asked for; true if nothing was found wanting.
 fn run(options: &Options) -> Result<bool, String> {
     if let Some((function, seed)) = options.input {
         return one_input(function, seed);
@@ -147,7 +159,7 @@ fn run(options: &Options) -> Result<bool, String> {
         let (function, round) = (index as usize % FUNCTIONS.len(), index / FUNCTIONS.len() as u64);
         comparison.input(function, first_seed.wrapping_add(round));
     });
-    Ok(comparison.finish())
+    Ok(comparison.finish(options.is_whole()))
 }
 
 /// Where the program is; it may be left out if nothing is to be run by it.
@@ -304,12 +316,15 @@ impl Comparison {
         Ok(run.fault().is_none() && run.output == expected)
     }
 
-    /// Prints the counts and the last line; true if no difference was found.
-    fn finish(&self) -> bool {
+    /// Prints the counts and the last line; true if no difference was found and, in a whole run, every answer was seen.
+    fn finish(&self, whole: bool) -> bool {
         let coverage = self.coverage();
         print!("{}", coverage.report());
-        println!("outside: {} tapes, {} inputs, {} mismatches", coverage.tapes(), coverage.inputs(), self.count());
-        self.count() == 0
+        let unseen = whole && !coverage.warnings().is_empty();
+        let ending = if unseen { ", not every answer seen" } else { "" };
+        let (tapes, inputs, mismatches) = (coverage.tapes(), coverage.inputs(), self.count());
+        println!("outside: {tapes} tapes, {inputs} inputs, {mismatches} mismatches{ending}");
+        mismatches == 0 && !unseen
     }
 }
 

@@ -20,7 +20,7 @@ const fn near(name: &'static str, make: fn(&mut Random, Vec<Event>) -> Vec<u8>) 
     Breakage { name, refused: false, make }
 }
 
-const BREAKAGES: [Breakage; 47] = [
+const BREAKAGES: [Breakage; 49] = [
     refused("no octets", |_, _| Vec::new()),
     refused("one octet", |random, _| random.octets(1)),
     refused("a count alone", |_, events| tape::build(&events)[..COUNT_OCTETS].to_vec()),
@@ -73,7 +73,10 @@ const BREAKAGES: [Breakage; 47] = [
     refused("settings of 23 octets", |_, events| changed(events, 0, |event| event.body.truncate(23))),
     refused("settings of 25 octets", |_, events| changed(events, 0, |event| event.body.push(0))),
     refused("settings of no octets", |_, events| changed(events, 0, |event| event.body.clear())),
-    refused("a put of 0 or 1 octets", |random, events| {
+    refused("a put of no octets", |random, events| {
+        with_event(random, events, Event { kind: tape::PUT, server: 0, body: Vec::new() })
+    }),
+    refused("a put of 1 octet", |random, events| {
         with_event(random, events, Event { kind: tape::PUT, server: 0, body: vec![3] })
     }),
     near("a put of 2 octets", |random, events| {
@@ -82,6 +85,9 @@ const BREAKAGES: [Breakage; 47] = [
     refused("a body where none belongs", with_body),
     near("32,768 octets", |random, events| padded_to(random, events, MAX_TAPE_OCTETS)),
     refused("32,769 octets", |random, events| padded_to(random, events, MAX_TAPE_OCTETS + 1)),
+    refused("32,768 octets and one more", |random, events| {
+        [padded_to(random, events, MAX_TAPE_OCTETS), vec![0]].concat()
+    }),
     refused("60,000 octets", |random, events| padded_to(random, events, 60_000)),
     refused("more octets than a pipe holds", |_, events| [tape::build(&events), vec![0; 200_000]].concat()),
 ];

@@ -8,9 +8,9 @@ use super::walk::Value;
 /// Order 16, 12; no octet outside the field changes, and a refusal changes none. The octets are
 /// looked at for `Value::Octets` only.
 pub fn append(kind: u16, value: Value, octets: &[u8], out: &mut [u8], at: usize) -> Result<usize, u8> {
-    let field = field_octets(kind, value, octets).ok_or(answer::INVALID_RECORD)?;
-    let end = at.checked_add(field.len()).ok_or(answer::SHORT_OUTPUT)?;
-    let room = out.get_mut(at..end).ok_or(answer::SHORT_OUTPUT)?;
+    let field = field_octets(kind, value, octets).ok_or(answer::RECORD_INVALID)?;
+    let end = at.checked_add(field.len()).ok_or(answer::OUTPUT_TOO_SHORT)?;
+    let room = out.get_mut(at..end).ok_or(answer::OUTPUT_TOO_SHORT)?;
     room.copy_from_slice(&field);
     Ok(end)
 }

@@ -105,7 +105,7 @@ impl Exporter {
     /// servers are closed, the counters are 0, and S is to be set. The store is not written.
     pub fn set_up(settings: Settings, store: &[u8]) -> Result<Exporter, u8> {
         let store_fits = (SMALLEST_STORE..=LARGEST_STORE).contains(&store.len());
-        require(store_fits && settings.in_limits(), answer::SETTINGS_OUT_OF_LIMITS)?;
+        require(store_fits && settings.in_limits(), answer::SETTINGS_OUTSIDE_LIMITS)?;
         Ok(Exporter {
             next_dsn: settings.first_dsn,
             settings,
@@ -139,8 +139,8 @@ impl Exporter {
         require(self.is_sound() && store.len() == self.store_length, answer::UNSOUND_STATE)?;
         require(self.accepts_table(t), answer::UNSOUND_TABLE)?;
         record::find_template(t, template_id)?;
-        require(r.len() <= message::LONGEST_RECORD, answer::LONG_RECORD)?;
-        require(record::judge(t, template_id, r) == answer::DONE, answer::INVALID_RECORD)?;
+        require(r.len() <= message::MAX_RECORD_OCTETS, answer::RECORD_TOO_LONG)?;
+        require(record::judge(t, template_id, r) == answer::DONE, answer::RECORD_INVALID)?;
         require(self.queue.len() < MOST_RECORDS, answer::QUEUE_FULL)?;
         require(self.held_octets() + r.len() <= self.store_length, answer::STORE_FULL)
     }
@@ -208,7 +208,7 @@ impl Exporter {
         require(header.session == self.settings.session, answer::OTHER_SESSION)?;
         let accepted =
             [message::START, message::STOP, message::FINAL_TMPL_DATA_ACK, message::START_NEGOTIATE, message::DATA_ACK];
-        require(accepted.contains(&header.number), answer::NUMBER_NOT_ACCEPTED)?;
+        require(accepted.contains(&header.number), answer::MESSAGE_NOT_ACCEPTED)?;
         message::read(m).map(|(request, _)| request)
     }
 
@@ -449,7 +449,7 @@ impl Exporter {
     /// The queue is within its limits.
     fn queue_sound(&self) -> bool {
         self.queue.len() <= MOST_RECORDS
-            && self.queue.iter().all(|held| held.length <= message::LONGEST_RECORD)
+            && self.queue.iter().all(|held| held.length <= message::MAX_RECORD_OCTETS)
             && self.held_octets() <= self.store_length
             && self.ring_start < self.store_length
     }

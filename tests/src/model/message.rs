@@ -16,8 +16,8 @@ pub const DATA: u8 = 0x20;
 pub const DATA_ACK: u8 = 0x21;
 
 pub const VERSION: u8 = 1;
-pub const HEADER_LENGTH: usize = 8;
-pub const LONGEST_RECORD: usize = 1_024;
+pub const HEADER_OCTETS: usize = 8;
+pub const MAX_RECORD_OCTETS: usize = 1_024;
 pub const FLAG_S: u8 = 1;
 pub const FLAG_D: u8 = 2;
 
@@ -70,7 +70,7 @@ pub fn read_header(m: &[u8]) -> Result<Header, u8> {
         return Err(answer::OTHER_VERSION);
     }
     if u64::from(length) != m.len() as u64 {
-        return Err(answer::WRONG_LENGTH);
+        return Err(answer::LENGTH_DIFFERS);
     }
     Ok(header)
 }
@@ -90,17 +90,17 @@ fn split_header(m: &[u8]) -> Option<(u8, Header, u32)> {
 /// table of a TMPL DATA; all others have no part, and get the empty one at the front of `m`.
 pub fn read(m: &[u8]) -> Result<(Message, &[u8]), u8> {
     let header = read_header(m)?;
-    let body = m.get(HEADER_LENGTH..).ok_or(answer::SHORT_MESSAGE)?;
+    let body = m.get(HEADER_OCTETS..).ok_or(answer::SHORT_MESSAGE)?;
     if !is_known(header.number) {
-        return Err(answer::NUMBER_NOT_ACCEPTED);
+        return Err(answer::MESSAGE_NOT_ACCEPTED);
     }
     let mut reader = Reader::new(body);
-    let message = read_body(header, &mut reader).ok_or(answer::WRONG_BODY_LENGTH)?;
+    let message = read_body(header, &mut reader).ok_or(answer::BODY_LENGTH_WRONG)?;
     let part = match message {
         Message::Data { .. } => reader.rest,
         Message::TmplData { .. } if !table::is_sound(reader.rest) => return Err(answer::UNSOUND_TABLE),
         Message::TmplData { .. } => reader.rest,
-        _ if !reader.rest.is_empty() => return Err(answer::WRONG_BODY_LENGTH),
+        _ if !reader.rest.is_empty() => return Err(answer::BODY_LENGTH_WRONG),
         _ => m.get(..0).unwrap_or(&[]),
     };
     Ok((message, part))
@@ -163,11 +163,11 @@ fn read_body(header: Header, reader: &mut Reader) -> Option<Message> {
 pub fn write(message: &Message, part: &[u8], out: &mut [u8]) -> Result<usize, u8> {
     match message {
         Message::TmplData { .. } if !table::is_sound(part) => return Err(answer::UNSOUND_TABLE),
-        Message::Data { .. } if part.len() > LONGEST_RECORD => return Err(answer::LONG_RECORD),
+        Message::Data { .. } if part.len() > MAX_RECORD_OCTETS => return Err(answer::RECORD_TOO_LONG),
         _ => {}
     }
     let octets = message_octets(message, part);
-    let room = out.get_mut(..octets.len()).ok_or(answer::SHORT_OUTPUT)?;
+    let room = out.get_mut(..octets.len()).ok_or(answer::OUTPUT_TOO_SHORT)?;
     room.copy_from_slice(&octets);
     Ok(octets.len())
 }
@@ -176,7 +176,7 @@ pub fn write(message: &Message, part: &[u8], out: &mut [u8]) -> Result<usize, u8
 fn message_octets(message: &Message, part: &[u8]) -> Vec<u8> {
     let header = message.header();
     let body = body_octets(message, part);
-    let length = (HEADER_LENGTH + body.len()) as u32;
+    let length = (HEADER_OCTETS + body.len()) as u32;
     let mut octets = vec![VERSION, header.number, header.session, 0];
     octets.extend(length.to_be_bytes());
     octets.extend(body);
@@ -208,10 +208,8 @@ fn body_octets(message: &Message, part: &[u8]) -> Vec<u8> {
 }
 
 /// Reads a message alone and, where it is read, writes what it says, with its part, to the output:
-/// 0, or the reading's refusal, or else the writing's.
-pub fn read_again(m: &[u8], out: &mut [u8]) -> u8 {
-    match read(m).and_then(|(message, part)| write(&message, part, out)) {
-        Ok(_) => answer::DONE,
-        Err(refusal) => refusal,
-    }
+/// its length, or the reading's refusal, or else the writing's.
+pub fn read_again(m: &[u8], out: &mut [u8]) -> Result<usize, u8> {
+    let (message, part) = read(m)?;
+    write(&message, part, out)
 }

@@ -1,5 +1,6 @@
-//! An independent model of the exporter that rests on 01 alone: tables, records, messages, the
-//! exporter's calls and the replay of a tape. It is plain rather than fast.
+//! An independent model of the exporter: tables, records, messages, the exporter's calls and the
+//! replay of a tape. It is plain rather than fast. It rests on 01 and on docs/DECISIONS.md, and
+//! shares no code with the crates; values and cursors have the library's form.
 
 pub mod answer;
 pub mod append;

@@ -54,14 +54,14 @@ pub fn judge(t: &[u8], id: u16, r: &[u8]) -> u8 {
     match find_template(t, id) {
         Err(refusal) => refusal,
         Ok(template) if is_valid(&template, r) => answer::DONE,
-        Ok(_) => answer::INVALID_RECORD,
+        Ok(_) => answer::RECORD_INVALID,
     }
 }
 
 /// The template of that ID in the table, or 21, or 15.
 pub fn find_template(t: &[u8], id: u16) -> Result<Template, u8> {
     let table = parse(t).ok_or(answer::UNSOUND_TABLE)?;
-    table.template(id).cloned().ok_or(answer::NO_SUCH_TEMPLATE)
+    table.template(id).cloned().ok_or(answer::TEMPLATE_NOT_FOUND)
 }
 
 /// Whether the enabled keys' fields follow each other through the record without rest; with none

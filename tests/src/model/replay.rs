@@ -4,8 +4,15 @@ use super::answer;
 use super::exporter::{Exporter, Reply, Settings};
 use super::octets::Reader;
 
-pub const LONGEST_TAPE: usize = 32_768;
-pub const OUTPUT_LENGTH: usize = 16_392;
+/// The most octets of a tape.
+pub const MAX_TAPE_OCTETS: usize = 32_768;
+/// The fewest and the most events of a tape.
+pub const MIN_EVENTS: usize = 2;
+pub const MAX_EVENTS: usize = 512;
+/// The octets of the settings' body.
+pub const SETTINGS_OCTETS: usize = 24;
+/// The octets of the program's output buffer.
+pub const OUTPUT_OCTETS: usize = 16_392;
 pub const TAPE_REFUSED: &str = "tape refused\n";
 
 pub const SETTINGS: u8 = 0;
@@ -16,8 +23,6 @@ pub const DOWN: u8 = 4;
 pub const TICK: u8 = 5;
 pub const NEXT_DATA: u8 = 6;
 pub const OFFER: u8 = 7;
-
-pub const SETTINGS_LENGTH: usize = 24;
 
 /// One event of a tape.
 #[derive(Clone, Debug, PartialEq, Eq)]
@@ -43,12 +48,12 @@ impl Outcome {
 
 /// The events of a sound tape; `None` (22) for a tape that is not.
 pub fn read_tape(tape: &[u8]) -> Option<Vec<Event>> {
-    if tape.len() > LONGEST_TAPE {
+    if tape.len() > MAX_TAPE_OCTETS {
         return None;
     }
     let mut reader = Reader::new(tape);
-    let count = reader.u16()?;
-    if !(2..=512).contains(&count) {
+    let count = usize::from(reader.u16()?);
+    if !(MIN_EVENTS..=MAX_EVENTS).contains(&count) {
         return None;
     }
     let mut contents = Vec::new();
@@ -76,7 +81,7 @@ fn is_sound_event(place: usize, event: &Event) -> bool {
     };
     let names_server = [MESSAGE, DOWN, OFFER].contains(&event.kind);
     let body_fits = match event.kind {
-        SETTINGS => event.body.len() == SETTINGS_LENGTH,
+        SETTINGS => event.body.len() == SETTINGS_OCTETS,
         PUT => event.body.len() >= 2,
         DOWN..=OFFER => event.body.is_empty(),
         _ => true,
@@ -118,7 +123,7 @@ impl Replay {
         let (settings, store_length) = read_settings(body).ok_or(answer::UNSOUND_TAPE)?;
         let store = vec![0; store_length];
         let exporter = Exporter::set_up(settings, &store)?;
-        Ok(Replay { exporter, store, table: Vec::new(), output: vec![0; OUTPUT_LENGTH] })
+        Ok(Replay { exporter, store, table: Vec::new(), output: vec![0; OUTPUT_OCTETS] })
     }
 
     /// Event 1: 21 as put would answer it, or 0; the table is lent to the later events.

@@ -3,7 +3,10 @@
 use super::octets::Reader;
 use super::record::field_type;
 
-pub const LONGEST_TABLE: usize = 16_384;
+/// The most octets and templates of a table, and the most keys of a template.
+pub const MAX_TABLE_OCTETS: usize = 16_384;
+pub const MAX_TEMPLATES: usize = 8;
+pub const MAX_KEYS: usize = 32;
 
 /// One key of a template, as its key block states it.
 #[derive(Clone, Debug, PartialEq, Eq)]
@@ -13,10 +16,12 @@ pub struct Key {
     pub disabled: bool,
 }
 
-/// One template: its ID and all its keys in order, disabled ones among them.
+/// One template: its ID, the octet of the table where its key blocks begin, and all its keys in
+/// order, disabled ones among them.
 #[derive(Clone, Debug, PartialEq, Eq)]
 pub struct Template {
     pub id: u16,
+    pub keys_at: usize,
     pub keys: Vec<Key>,
 }
 
@@ -47,19 +52,19 @@ pub fn configuration_id(t: &[u8]) -> u8 {
 /// At most 16,384 octets: Configuration ID, flags 1, a count of 1 to 8, that many blocks with
 /// differing template IDs, and nothing after the last block.
 pub fn parse(t: &[u8]) -> Option<Table> {
-    if t.len() > LONGEST_TABLE {
+    if t.len() > MAX_TABLE_OCTETS {
         return None;
     }
     let mut reader = Reader::new(t);
     let configuration_id = reader.u8()?;
     let flags = reader.u8()?;
-    let count = reader.u16()?;
-    if flags != 1 || !(1..=8).contains(&count) {
+    let count = usize::from(reader.u16()?);
+    if flags != 1 || !(1..=MAX_TEMPLATES).contains(&count) {
         return None;
     }
     let mut templates: Vec<Template> = Vec::new();
     for _ in 0..count {
-        let template = parse_block(&mut reader)?;
+        let template = parse_block(&mut reader, t.len())?;
         if templates.iter().any(|other| other.id == template.id) {
             return None;
         }
@@ -73,18 +78,18 @@ pub fn parse(t: &[u8]) -> Option<Table> {
 
 /// Block: template ID, key count 1 to 32, flags 0, description length, block length, the
 /// description zero-padded to a multiple of 4, then key blocks with differing key IDs. The block
-/// length is 12, the padded description and 12 for each key.
-fn parse_block(reader: &mut Reader) -> Option<Template> {
+/// length is 12, the padded description and 12 for each key. The table has `length` octets.
+fn parse_block(reader: &mut Reader, length: usize) -> Option<Template> {
     let id = reader.u16()?;
-    let key_count = reader.u16()?;
+    let key_count = usize::from(reader.u16()?);
     let flags = reader.u16()?;
     let description_length = usize::from(reader.u16()?);
     let block_length = u64::from(reader.u32()?);
-    if !(1..=32).contains(&key_count) || flags != 0 {
+    if !(1..=MAX_KEYS).contains(&key_count) || flags != 0 {
         return None;
     }
     let padded_length = description_length.div_ceil(4) * 4;
-    if block_length != 12 + padded_length as u64 + 12 * u64::from(key_count) {
+    if block_length != (12 + padded_length + 12 * key_count) as u64 {
         return None;
     }
     reader.take(description_length)?;
@@ -92,6 +97,7 @@ fn parse_block(reader: &mut Reader) -> Option<Template> {
     if padding.iter().any(|octet| *octet != 0) {
         return None;
     }
+    let keys_at = length - reader.rest.len();
     let mut keys: Vec<Key> = Vec::new();
     for _ in 0..key_count {
         let key = parse_key(reader)?;
@@ -100,7 +106,7 @@ fn parse_block(reader: &mut Reader) -> Option<Template> {
         }
         keys.push(key);
     }
-    Some(Template { id, keys })
+    Some(Template { id, keys_at, keys })
 }
 
 /// Key block, 12 octets: key ID, a listed type, reserved 0, attributes 0 or 1 (disabled).

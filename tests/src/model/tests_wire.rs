@@ -368,7 +368,7 @@ fn flags_and_reserved_octets_are_ignored() {
     let octets = hex("012007ff 00000010 000301fe 00000000");
     assert_eq!(read(&octets), Ok((data, [].as_slice())));
     let mut out = [0xee; 17];
-    assert_eq!(read_again(&octets, &mut out), 0);
+    assert_eq!(read_again(&octets, &mut out), Ok(octets.len()));
     assert_eq!(out.to_vec(), hex("01200700 00000010 00030102 00000000 ee"));
     let data = Message::Data { session: 7, template_id: 3, configuration_id: 1, s: true, d: false, dsn: 0 };
     assert_eq!(read(&hex("01200780 00000010 000301fd 00000000")), Ok((data, [].as_slice())));
@@ -431,7 +431,7 @@ fn table_messages_are_judged_by_the_table_rules() {
     let table = table_with(&block_of(3, &vec![b'x'; 16_384 - 28], &[(4, 0)]));
     let octets = [hex("01100700 00004008"), table].concat();
     let mut out = vec![0; 16_392];
-    assert_eq!(read_again(&octets, &mut out), 0);
+    assert_eq!(read_again(&octets, &mut out), Ok(octets.len()));
     assert_eq!(out, octets);
 }
 
@@ -443,8 +443,8 @@ fn long_records_are_read_but_not_written() {
     assert_eq!(written(&message, part, 0), Err(17));
     assert_eq!(written(&message, &part[1..], 1_039), Err(12));
     assert_eq!(written(&message, &part[1..], 1_040).map(|octets| octets.len()), Ok(1_040));
-    assert_eq!(read_again(&octets, &mut []), 17);
-    assert_eq!(read_again(&octets[1..], &mut []), 4);
+    assert_eq!(read_again(&octets, &mut []), Err(17));
+    assert_eq!(read_again(&octets[1..], &mut []), Err(4));
 }
 
 #[test]

@@ -54,7 +54,7 @@ pub fn step(t: &[u8], id: u16, r: &[u8], c: Cursor) -> Step {
         return Step::End;
     };
     let Some(field) = field_at(key.kind, r, c.at) else {
-        return Step::Refused(answer::INVALID_RECORD);
+        return Step::Refused(answer::RECORD_INVALID);
     };
     Step::Next(field, Cursor { index: index + 1, at: field.at + field.len })
 }

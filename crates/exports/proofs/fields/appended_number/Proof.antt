@@ -6,8 +6,8 @@ use Rattle.exports.proofs.fields.appended_number.Tie as tie
 enum-known-appended : tie.Need-enum-known-appended
 enum-known-appended c = search needs
 
-wrapping-add-u64-requires : tie.Need-wrapping-add-u64-requires
-wrapping-add-u64-requires c κs = search needs
+accepted-requires : tie.Need-accepted-requires
+accepted-requires c κs = search needs
 
 enum-known-appended-2 : tie.Need-enum-known-appended-2
 enum-known-appended-2 c = search needs
@@ -16,7 +16,7 @@ cast-result : tie.Need-cast-result
 cast-result c = search needs
 
 returns : tie.Need-returns
-returns c = rw (c .before .before .appended .given .1) (c .wrapping-add-u64 .ensures)
+returns c = rw (c .before .before .appended .given .1) (c .accepted .ensures)
 
 returns-2 : tie.Need-returns-2
 returns-2 c = search needs
@@ -26,7 +26,7 @@ appended-number-spec =
     tie.close
     (tie.spec
     enum-known-appended
-    wrapping-add-u64-requires
+    accepted-requires
     enum-known-appended-2
     cast-result
     returns

@@ -17,20 +17,29 @@ message-part-requires c κs = search needs
 write-message-requires : tie.Need-write-message-requires
 write-message-requires c κs = search needs
 
-written-answer-requires : tie.Need-written-answer-requires
-written-answer-requires c κs = search needs
+written-number-requires : tie.Need-written-number-requires
+written-number-requires c κs = search needs
 
 enum-known-reading-2 : tie.Need-enum-known-reading-2
 enum-known-reading-2 c = search needs
+
+cast-result : tie.Need-cast-result
+cast-result c = search needs
 
 same-length : tie.Need-same-length
 same-length c = search needs
 
 returns : tie.Need-returns
-returns c = (rw (sym (c .before .before .before .before .before .before .before .before .before .read-message .ensures) ∙ c .before .before .before .before .before .before .before .reading .given .1, c .written-answer .ensures, c .before .before .before .write-message .ensures .0, c .before .before .before .before .before .message-part .ensures .0), rw (sym (c .before .before .before .before .before .before .before .before .before .read-message .ensures) ∙ c .before .before .before .before .before .before .before .reading .given .1, c .before .before .before .write-message .ensures .1, c .before .before .before .before .before .message-part .ensures .0))
+returns c =
+    let read = sym (c .before .before .before .before .before .before .before .before .before .read-message .ensures) ∙ c .before .before .before .before .before .before .before .reading .given .1 in
+    let part = c .before .before .before .before .before .message-part .ensures .0 in
+    let wrote = c .before .before .before .write-message .ensures in
+    (rw (read, c .written-number .ensures, wrote .0, part), rw (read, wrote .1, part))
 
 returns-2 : tie.Need-returns-2
-returns-2 c = (rw (sym (c .before .before .before .read-message .ensures) ∙ c .before .reading2 .given .1), rw (sym (c .before .before .before .read-message .ensures) ∙ c .before .reading2 .given .1))
+returns-2 c =
+    let read = sym (c .before .before .before .read-message .ensures) ∙ c .before .reading2 .given .1 in
+    (rw read, rw read)
 
 pub crane-read-again-spec : {M : Type 1} → statement M
 crane-read-again-spec =
@@ -40,8 +49,9 @@ crane-read-again-spec =
     enum-known-reading
     message-part-requires
     write-message-requires
-    written-answer-requires
+    written-number-requires
     enum-known-reading-2
+    cast-result
     same-length
     returns
     returns-2)

@@ -1,6 +1,6 @@
 -- `crane_table_answer` meets its contract: soundness is what `table_sound` answered. Assumes nothing.
 use mathlib.Core.Path.{sym, _∙_}
-use Rattle.exports.specs.Numbers.{tableAnswer}
+use Rattle.exports.specs.Numbers.{tableFormAnswer}
 use borrow.Author.Needs.{needs}
 use Rattle.exports.proofs.tables.crane_table_answer.Statement.{statement}
 use Rattle.exports.proofs.tables.crane_table_answer.Tie as tie
@@ -9,11 +9,11 @@ table-sound-requires : tie.Need-table-sound-requires
 table-sound-requires c κs = search needs
 
 returns : tie.Need-returns
-unfolding tableAnswer
+unfolding tableFormAnswer
 returns c = rw (sym (c .before .table-sound .ensures) ∙ c .if1 .taken)
 
 returns-2 : tie.Need-returns-2
-unfolding tableAnswer
+unfolding tableFormAnswer
 returns-2 c = rw (sym (c .before .table-sound .ensures) ∙ c .if1 .left)
 
 pub crane-table-answer-spec : {M : Type 1} → statement M
