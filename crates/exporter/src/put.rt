@@ -41,7 +41,7 @@ pub(crate) struct Putting {
 fn record_answer(p: Settings, table: &[u8], id: u16, r: &[u8]) -> u8
     ensures { λ a. ⌜ a ≡ judge (recordChecks p (now (table .entry)) id (now (r .entry))) ⌝ }
 {
-    let answer = wire::record::record_valid(table, id, r);
+    let answer = wire::record::record_answer(table, id, r);
     if answer == Answer::UNSOUND_TABLE {
         return Answer::UNSOUND_TABLE;
     }

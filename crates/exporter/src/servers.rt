@@ -235,7 +235,7 @@ pub(crate) fn acknowledge_delivery(d: Delivery, n: usize) -> Delivery
         next.sent = 0;
         return next;
     }
-    next.sent = octets::room(d.sent, n);
+    next.sent = octets::saturating_sub(d.sent, n);
     next.reached = d.reached - n;
     next.timer = 0;
     next

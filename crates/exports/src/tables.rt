@@ -24,7 +24,7 @@ pub extern "C" fn crane_table_answer(table: &[u8]) -> u8
 pub extern "C" fn crane_record_answer(table: &[u8], id: u16, r: &[u8]) -> u8
     ensures { λ a. ⌜ a ≡ recordAnswer (now (table .entry)) id (now (r .entry)) ⌝ }
 {
-    wire::record::record_valid(table, id, r)
+    wire::record::record_answer(table, id, r)
 }
 
 // A part of a template that was found, by its number.

@@ -116,11 +116,11 @@ impl Answer {
     }
 }
 
-// How many of len octets lie from place `at` on.
-pub fn room(len: usize, at: usize) -> usize
-    ensures { λ r. ⌜ r ≡ len - at ⌝ }
+// The first number minus the second, 0 where the second is the larger: of len octets, how many lie from a place on.
+pub fn saturating_sub(a: usize, b: usize) -> usize
+    ensures { λ r. ⌜ r ≡ a - b ⌝ }
 {
-    if at <= len { len - at } else { 0 }
+    if b <= a { a - b } else { 0 }
 }
 
 // The number in two octets, the most significant first.
@@ -178,7 +178,7 @@ pub fn get_u64(s: &[u8], at: usize) -> u64
 fn octet(s: &[u8], at: usize, i: usize) -> u8
     ensures { λ r. ⌜ r ≡ getD (now (s .entry)) (at + i) 0 ⌝ }
 {
-    if room(s.len(), at) <= i {
+    if saturating_sub(s.len(), at) <= i {
         return 0;
     }
     s[at + i]
@@ -210,7 +210,7 @@ pub fn put_u8(out: &mut [u8], at: usize, v: u8)
 pub fn put_u16(out: &mut [u8], at: usize, v: u16)
     ensures { λ _. ⌜ now (out .exit) ≡ putAt (now (out .entry)) at (octetsOf 2 v) ⌝ }
 {
-    if room(out.len(), at) < 2 {
+    if saturating_sub(out.len(), at) < 2 {
         return;
     }
     put_u8(out, at, (v / 256) as u8);
@@ -221,7 +221,7 @@ pub fn put_u16(out: &mut [u8], at: usize, v: u16)
 pub fn put_u32(out: &mut [u8], at: usize, v: u32)
     ensures { λ _. ⌜ now (out .exit) ≡ putAt (now (out .entry)) at (octetsOf 4 v) ⌝ }
 {
-    if room(out.len(), at) < 4 {
+    if saturating_sub(out.len(), at) < 4 {
         return;
     }
     put_u16(out, at, (v / 65536) as u16);
@@ -232,7 +232,7 @@ pub fn put_u32(out: &mut [u8], at: usize, v: u32)
 pub fn put_u64(out: &mut [u8], at: usize, v: u64)
     ensures { λ _. ⌜ now (out .exit) ≡ putAt (now (out .entry)) at (octetsOf 8 v) ⌝ }
 {
-    if room(out.len(), at) < 8 {
+    if saturating_sub(out.len(), at) < 8 {
         return;
     }
     put_u32(out, at, (v / 4294967296) as u32);
@@ -246,7 +246,7 @@ pub fn put_uint(out: &mut [u8], at: usize, w: usize, v: u64)
     if out.len() < at {
         return;
     }
-    if room(out.len(), at) < w {
+    if saturating_sub(out.len(), at) < w {
         return;
     }
     let mut n = v;
@@ -265,7 +265,7 @@ pub fn copy(out: &mut [u8], at: usize, octets: &[u8])
     if out.len() < at {
         return;
     }
-    if room(out.len(), at) < octets.len() {
+    if saturating_sub(out.len(), at) < octets.len() {
         return;
     }
     let mut i: usize = 0;

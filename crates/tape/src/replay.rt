@@ -49,7 +49,7 @@ pub fn open_tape(tape: &[u8], store: &[u8], text: &mut [u8; LINE_OCTETS]) -> Tur
     let len = crate::line::write_line(0, made.answer, &tape[..0], part);
     let mut left: usize = 0;
     if made.answer == Answer::DONE {
-        left = octets::room(crate::contents::event_count(tape) as usize, 1);
+        left = octets::saturating_sub(crate::contents::event_count(tape) as usize, 1);
     }
     Turn {
         len,
@@ -124,7 +124,7 @@ pub fn take_event(
             progress: r,
         };
     }
-    let i = octets::room(crate::contents::event_count(tape) as usize, r.left);
+    let i = octets::saturating_sub(crate::contents::event_count(tape) as usize, r.left);
     let b = crate::contents::part(tape, r.at, crate::contents::body_length(tape, i) as usize);
     let at = r.at + b.len();
     let line = &mut text[..];

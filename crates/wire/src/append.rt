@@ -92,7 +92,7 @@ fn store_number(w: usize, n: u64, out: &mut [u8], at: usize) -> Appended
     if out.len() < at {
         return Appended::Refused(Answer::OUTPUT_TOO_SHORT);
     }
-    if octets::room(out.len(), at) < w {
+    if octets::saturating_sub(out.len(), at) < w {
         return Appended::Refused(Answer::OUTPUT_TOO_SHORT);
     }
     octets::put_uint(out, at, w, n);
@@ -106,7 +106,7 @@ fn store_plain(octets: &[u8], out: &mut [u8], at: usize) -> Appended
     if out.len() < at {
         return Appended::Refused(Answer::OUTPUT_TOO_SHORT);
     }
-    if octets::room(out.len(), at) < octets.len() {
+    if octets::saturating_sub(out.len(), at) < octets.len() {
         return Appended::Refused(Answer::OUTPUT_TOO_SHORT);
     }
     octets::copy(out, at, octets);
@@ -117,7 +117,7 @@ fn store_plain(octets: &[u8], out: &mut [u8], at: usize) -> Appended
 fn store_terminated(octets: &[u8], out: &mut [u8], at: usize) -> Appended
     ensures { λ r. ⌜ Stored (now (octets .entry) ++ (0 ∷ [])) (now (out .entry)) at r (now (out .exit)) ⌝ }
 {
-    if octets::room(out.len(), at) <= octets.len() {
+    if octets::saturating_sub(out.len(), at) <= octets.len() {
         return Appended::Refused(Answer::OUTPUT_TOO_SHORT);
     }
     let end = at + octets.len();
@@ -131,11 +131,11 @@ fn store_counted(octets: &[u8], out: &mut [u8], at: usize) -> Appended
     requires { ⌜ length (now octets) < lengthLimit ⌝ }
     ensures { λ r. ⌜ Stored (octetsOf lengthOctets (length (now (octets .entry))) ++ now (octets .entry)) (now (out .entry)) at r (now (out .exit)) ⌝ }
 {
-    if octets::room(out.len(), at) < LENGTH_OCTETS {
+    if octets::saturating_sub(out.len(), at) < LENGTH_OCTETS {
         return Appended::Refused(Answer::OUTPUT_TOO_SHORT);
     }
     let start = at + LENGTH_OCTETS;
-    if octets::room(out.len(), start) < octets.len() {
+    if octets::saturating_sub(out.len(), start) < octets.len() {
         return Appended::Refused(Answer::OUTPUT_TOO_SHORT);
     }
     octets::put_u32(out, at, octets.len() as u32);

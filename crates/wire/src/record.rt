@@ -27,7 +27,7 @@ fn fixed_length(kind: u16, width: usize, r: &[u8], at: usize) -> usize
     requires { ⌜ (width ≡ widthOf kind) × (0 < width) ⌝ }
     ensures { λ n. ⌜ n ≡ fieldLength kind (now (r .entry)) at ⌝ }
 {
-    if octets::room(r.len(), at) < width {
+    if octets::saturating_sub(r.len(), at) < width {
         return 0;
     }
     if kind != FieldType::BOOLEAN {
@@ -43,11 +43,11 @@ fn fixed_length(kind: u16, width: usize, r: &[u8], at: usize) -> usize
 fn blob_length(r: &[u8], at: usize) -> usize
     ensures { λ n. ⌜ n ≡ blobLength (now (r .entry)) at ⌝ }
 {
-    if octets::room(r.len(), at) < LENGTH_OCTETS {
+    if octets::saturating_sub(r.len(), at) < LENGTH_OCTETS {
         return 0;
     }
     let n = crate::within::u32_at(r, at) as usize;
-    if octets::room(r.len(), at + LENGTH_OCTETS) < n {
+    if octets::saturating_sub(r.len(), at + LENGTH_OCTETS) < n {
         return 0;
     }
     LENGTH_OCTETS + n
@@ -180,7 +180,7 @@ fn fields_valid(t: &[u8], m: Template, r: &[u8]) -> bool
 
 // 0 for a valid record under the template with an ID, 21 for an unsound table, 15 for an ID that it does not have, 16 for a record that is
 // not valid under it.
-pub fn record_valid(t: &[u8], id: u16, r: &[u8]) -> u8
+pub fn record_answer(t: &[u8], id: u16, r: &[u8]) -> u8
     ensures { λ n. ⌜ n ≡ recordAnswer (now (t .entry)) id (now (r .entry)) ⌝ }
 {
     // `&t[..]` lends the table anew: to pass the parameter on would copy it first.

@@ -146,7 +146,7 @@ pub fn open_walk(t: &[u8], id: u16, r: &[u8]) -> Opened
     ensures { λ o. ⌜ o ≡ openOf (now (t .entry)) id (now (r .entry)) ⌝ }
 {
     // Both are lent anew, since to pass parameters on would copy them first.
-    let answer = crate::record::record_valid(&t[..], id, &r[..]);
+    let answer = crate::record::record_answer(&t[..], id, &r[..]);
     if answer == Answer::DONE {
         return Opened::At(Cursor { index: 0, at: 0 });
     }

@@ -21,8 +21,8 @@ abbrev μ-loop : tie.MeasureT-loop
 returns : tie.Need-returns Inv-loop μ-loop
 returns c = sym (put-short _ _ _ (omega arith))
 
-room-requires : tie.Need-room-requires Inv-loop μ-loop
-room-requires c κs = search needs
+saturating-sub-requires : tie.Need-saturating-sub-requires Inv-loop μ-loop
+saturating-sub-requires c κs = search needs
 
 returns-2 : tie.Need-returns-2 Inv-loop μ-loop
 returns-2 c = sym (put-short _ _ _ (omega arith))
@@ -69,7 +69,7 @@ copy-spec =
     Inv-loop
     μ-loop
     returns
-    room-requires
+    saturating-sub-requires
     returns-2
     loop-holds
     shared-slice-read-out

@@ -7,8 +7,8 @@ use borrow.Author.Needs.{needs}
 use Rattle.octets.proofs.octet.Statement.{statement}
 use Rattle.octets.proofs.octet.Tie as tie
 
-room-requires : tie.Need-room-requires
-room-requires c κs = search needs
+saturating-sub-requires : tie.Need-saturating-sub-requires
+saturating-sub-requires c κs = search needs
 
 returns : tie.Need-returns
 returns c =
@@ -26,4 +26,4 @@ returns-2 c = search needs
 
 pub octet-spec : {M : Type 1} → statement M
 octet-spec =
-    tie.close (tie.spec room-requires returns add-result shared-slice-read-result returns-2)
+    tie.close (tie.spec saturating-sub-requires returns add-result shared-slice-read-result returns-2)

@@ -7,8 +7,8 @@ use borrow.Author.Needs.{needs}
 use Rattle.octets.proofs.put_u16.Statement.{statement}
 use Rattle.octets.proofs.put_u16.Tie as tie
 
-room-requires : tie.Need-room-requires
-room-requires c κs = search needs
+saturating-sub-requires : tie.Need-saturating-sub-requires
+saturating-sub-requires c κs = search needs
 
 returns : tie.Need-returns
 returns c = sym (put-short _ _ _ (omega (arith, octets-length 2 (c .before .before .before .args .v))))
@@ -41,7 +41,7 @@ pub put-u16-spec : {M : Type 1} → statement M
 put-u16-spec =
     tie.close
     (tie.spec
-    room-requires
+    saturating-sub-requires
     returns
     cast-put-u8
     put-u8-requires

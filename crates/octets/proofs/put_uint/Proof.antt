@@ -22,8 +22,8 @@ abbrev μ-loop : tie.MeasureT-loop
 returns : tie.Need-returns Inv-loop μ-loop
 returns c = sym (put-short _ _ _ (omega (arith, octets-length (c .before .before .args .w) (c .before .before .args .v))))
 
-room-requires : tie.Need-room-requires Inv-loop μ-loop
-room-requires c κs = search needs
+saturating-sub-requires : tie.Need-saturating-sub-requires Inv-loop μ-loop
+saturating-sub-requires c κs = search needs
 
 returns-2 : tie.Need-returns-2 Inv-loop μ-loop
 returns-2 c = let a = c .before .before .before .before .args in sym (put-short _ _ _ (omega (arith, octets-length (a .w) (a .v))))
@@ -72,7 +72,7 @@ put-uint-spec =
     Inv-loop
     μ-loop
     returns
-    room-requires
+    saturating-sub-requires
     returns-2
     loop-holds
     sub-i

@@ -10,15 +10,15 @@ returns : tie.Need-returns
 unfolding acknowledged
 returns c = rw (eq-eqb (c .before .args .n) 0 (c .if1 .taken))
 
-room-requires : tie.Need-room-requires
-room-requires c κs = search needs
+saturating-sub-requires : tie.Need-saturating-sub-requires
+saturating-sub-requires c κs = search needs
 
 sub-next : tie.Need-sub-next
 sub-next c = search needs
 
 returns-2 : tie.Need-returns-2
 unfolding acknowledged
-returns-2 c = rw (ne-eqb (c .before .before .before .args .n) 0 (c .before .before .if1 .left), c .before .room .ensures)
+returns-2 c = rw (ne-eqb (c .before .before .before .args .n) 0 (c .before .before .if1 .left), c .before .saturating-sub .ensures)
 
 pub acknowledge-delivery-spec : {M : Type 1} → statement M
-acknowledge-delivery-spec = tie.close (tie.spec returns room-requires sub-next returns-2)
+acknowledge-delivery-spec = tie.close (tie.spec returns saturating-sub-requires sub-next returns-2)

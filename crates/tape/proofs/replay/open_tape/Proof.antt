@@ -44,18 +44,18 @@ write-line-requires c κs = search needs
 event-count-requires : tie.Need-event-count-requires
 event-count-requires c κs = search needs
 
-cast-room : tie.Need-cast-room
-cast-room c = search needs
+cast-saturating-sub : tie.Need-cast-saturating-sub
+cast-saturating-sub c = search needs
 
-room-requires : tie.Need-room-requires
-room-requires c κs = search needs
+saturating-sub-requires : tie.Need-saturating-sub-requires
+saturating-sub-requires c κs = search needs
 
 returns-2 : tie.Need-returns-2
 returns-2 c =
     let a = c .before .before .before .before .before .before .before .before .before .before .before .before .before .before .before .before .args in
     let m = c .before .before .before .before .before .before .before .before .before .before .before .set-up .result in
     let u = done-sound (a .tape .now) _ (c .before .before .before .before .before .before .before .tape-answer .ensures) (c .before .before .before .before .before .before .if1 .left) in
-    open-turn (a .tape .now) (a .store .now) m _ _ (lineOf 0 (m .answer) []) _ _ _ (c .before .before .before .before .before .before .before .before .before .before .before .set-up .ensures ∙ rw (c .before .before .before .before .before .before .before .before .before .before .before .before .settings-of .ensures, c .before .before .before .before .before .before .before .before .before .before .before .before .before .body .ensures) refl) (c .before .before .before .before .before .before .before .before .before .body-at .ensures) (rw u refl) (rw (u, eq-eqb _ _ (c .before .before .if2 .taken)) (c .room .ensures ∙ rw (c .before .event-count .ensures) refl)) (c .before .before .before .before .write-line .ensures .0) (c .before .before .before .before .write-line .ensures .1)
+    open-turn (a .tape .now) (a .store .now) m _ _ (lineOf 0 (m .answer) []) _ _ _ (c .before .before .before .before .before .before .before .before .before .before .before .set-up .ensures ∙ rw (c .before .before .before .before .before .before .before .before .before .before .before .before .settings-of .ensures, c .before .before .before .before .before .before .before .before .before .before .before .before .before .body .ensures) refl) (c .before .before .before .before .before .before .before .before .before .body-at .ensures) (rw u refl) (rw (u, eq-eqb _ _ (c .before .before .if2 .taken)) (c .saturating-sub .ensures ∙ rw (c .before .event-count .ensures) refl)) (c .before .before .before .before .write-line .ensures .0) (c .before .before .before .before .write-line .ensures .1)
 
 returns-3 : tie.Need-returns-3
 returns-3 c =
@@ -78,7 +78,7 @@ open-tape-spec =
     slice-aggregate-write-line
     write-line-requires
     event-count-requires
-    cast-room
-    room-requires
+    cast-saturating-sub
+    saturating-sub-requires
     returns-2
     returns-3)

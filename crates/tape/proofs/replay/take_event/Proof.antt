@@ -18,11 +18,11 @@ returns c = played-none _ _ _ _ _ (c .if1 .taken)
 event-count-requires : tie.Need-event-count-requires
 event-count-requires c κs = search needs
 
-cast-room : tie.Need-cast-room
-cast-room c = search needs
+cast-saturating-sub : tie.Need-cast-saturating-sub
+cast-saturating-sub c = search needs
 
-room-requires : tie.Need-room-requires
-room-requires c κs = search needs
+saturating-sub-requires : tie.Need-saturating-sub-requires
+saturating-sub-requires c κs = search needs
 
 body-length-requires : tie.Need-body-length-requires
 body-length-requires c κs = search needs
@@ -43,17 +43,17 @@ add-at c =
 take-table-requires : tie.Need-take-table-requires
 take-table-requires c κs =
     let a = c .before .before .before .before .before .before .before .before .before .before .before .args in
-    let e : c .before .before .before .part .result .now ≡ nextBody (a .tape .now) (a .r) = c .before .before .before .part .ensures ∙ rw (c .before .before .before .before .body-length .ensures, c .before .before .before .before .before .room .ensures, c .before .before .before .before .before .before .event-count .ensures) refl in
+    let e : c .before .before .before .part .result .now ≡ nextBody (a .tape .now) (a .r) = c .before .before .before .part .ensures ∙ rw (c .before .before .before .before .body-length .ensures, c .before .before .before .before .before .saturating-sub .ensures, c .before .before .before .before .before .before .event-count .ensures) refl in
     (omega arith, (ap (λ (l : List ℕ). a .r .at + length l) e, omega arith))
 
 returns-2 : tie.Need-returns-2
 returns-2 c =
     let z = c .before .before .before .before .before .before .before .before .before .before .before .before in
     let a = z .args in
-    played-table (a .tape .now) (a .r) (a .store .now) (a .out .now) (a .text .now) _ _ _ (c .before .before .before .before .before .before .before .before .if1 .left) (c .before .before .before .before .before .before .room .ensures ∙ rw (c .before .before .before .before .before .before .before .event-count .ensures) refl) (c .before .if2 .taken) (c .take-table .ensures .0) (c .take-table .ensures .1)
+    played-table (a .tape .now) (a .r) (a .store .now) (a .out .now) (a .text .now) _ _ _ (c .before .before .before .before .before .before .before .before .if1 .left) (c .before .before .before .before .before .before .saturating-sub .ensures ∙ rw (c .before .before .before .before .before .before .before .event-count .ensures) refl) (c .before .if2 .taken) (c .take-table .ensures .0) (c .take-table .ensures .1)
 
 take-call-requires : tie.Need-take-call-requires
-take-call-requires c κs = (omega arith, (omega arith, ((c .before .before .before .before .before .before .before .room .ensures ∙ rw (c .before .before .before .before .before .before .before .before .event-count .ensures) refl), ((c .before .before .before .before .before .part .ensures ∙ rw (c .before .before .before .before .before .before .body-length .ensures, c .before .before .before .before .before .before .before .room .ensures, c .before .before .before .before .before .before .before .before .event-count .ensures) refl), (refl, (omega arith, omega arith))))))
+take-call-requires c κs = (omega arith, (omega arith, ((c .before .before .before .before .before .before .before .saturating-sub .ensures ∙ rw (c .before .before .before .before .before .before .before .before .event-count .ensures) refl), ((c .before .before .before .before .before .part .ensures ∙ rw (c .before .before .before .before .before .before .body-length .ensures, c .before .before .before .before .before .before .before .saturating-sub .ensures, c .before .before .before .before .before .before .before .before .event-count .ensures) refl), (refl, (omega arith, omega arith))))))
 
 same-length : tie.Need-same-length
 same-length c = search needs
@@ -62,7 +62,7 @@ returns-3 : tie.Need-returns-3
 returns-3 c =
     let z = c .before .before .before .before .before .before .before .before .before .before .before .before .before .before .before .before in
     let a = z .args in
-    played-call (a .tape .now) (a .r) (a .store .now) (a .out .now) (a .text .now) _ _ _ _ _ (c .before .before .before .before .before .before .before .before .before .before .before .before .if1 .left) (c .before .before .before .before .before .before .before .before .before .before .room .ensures ∙ rw (c .before .before .before .before .before .before .before .before .before .before .before .event-count .ensures) refl) (c .before .before .before .before .before .if2 .left) (c .before .before .take-call .ensures)
+    played-call (a .tape .now) (a .r) (a .store .now) (a .out .now) (a .text .now) _ _ _ _ _ (c .before .before .before .before .before .before .before .before .before .before .before .before .if1 .left) (c .before .before .before .before .before .before .before .before .before .before .saturating-sub .ensures ∙ rw (c .before .before .before .before .before .before .before .before .before .before .before .event-count .ensures) refl) (c .before .before .before .before .before .if2 .left) (c .before .before .take-call .ensures)
 
 pub take-event-spec : {M : Type 1} → statement M
 take-event-spec =
@@ -70,8 +70,8 @@ take-event-spec =
     (tie.spec
     returns
     event-count-requires
-    cast-room
-    room-requires
+    cast-saturating-sub
+    saturating-sub-requires
     body-length-requires
     cast-part
     part-requires

@@ -12,8 +12,8 @@ use borrow.Author.Needs.{needs}
 use Rattle.wire.proofs.append.store_counted.Statement.{statement}
 use Rattle.wire.proofs.append.store_counted.Tie as tie
 
-room-requires : tie.Need-room-requires
-room-requires c κs = search needs
+saturating-sub-requires : tie.Need-saturating-sub-requires
+saturating-sub-requires c κs = search needs
 
 returns : tie.Need-returns
 returns c =
@@ -23,8 +23,8 @@ returns c =
 add-start : tie.Need-add-start
 add-start c = search needs
 
-room-requires-2 : tie.Need-room-requires-2
-room-requires-2 c κs = search needs
+saturating-sub-requires-2 : tie.Need-saturating-sub-requires-2
+saturating-sub-requires-2 c κs = search needs
 
 returns-2 : tie.Need-returns-2
 returns-2 c =
@@ -58,10 +58,10 @@ pub store-counted-spec : {M : Type 1} → statement M
 store-counted-spec =
     tie.close
     (tie.spec
-    room-requires
+    saturating-sub-requires
     returns
     add-start
-    room-requires-2
+    saturating-sub-requires-2
     returns-2
     cast-put-u32
     put-u32-requires

@@ -11,8 +11,8 @@ use Rattle.wire.proofs.append.store_number.Tie as tie
 returns : tie.Need-returns
 returns c = stored-short _ _ _ (rw octets-length (omega arith))
 
-room-requires : tie.Need-room-requires
-room-requires c κs = search needs
+saturating-sub-requires : tie.Need-saturating-sub-requires
+saturating-sub-requires c κs = search needs
 
 returns-2 : tie.Need-returns-2
 returns-2 c = stored-short _ _ _ (rw octets-length (omega arith))
@@ -32,4 +32,4 @@ returns-3 c = stored-fits _ _ _ _ _ (rw octets-length (omega arith)) (rw octets-
 pub store-number-spec : {M : Type 1} → statement M
 store-number-spec =
     tie.close
-    (tie.spec returns room-requires returns-2 put-uint-requires add-t5 same-length returns-3)
+    (tie.spec returns saturating-sub-requires returns-2 put-uint-requires add-t5 same-length returns-3)

@@ -10,8 +10,8 @@ use Rattle.wire.proofs.append.store_plain.Tie as tie
 returns : tie.Need-returns
 returns c = stored-short _ _ _ (omega arith)
 
-room-requires : tie.Need-room-requires
-room-requires c κs = search needs
+saturating-sub-requires : tie.Need-saturating-sub-requires
+saturating-sub-requires c κs = search needs
 
 returns-2 : tie.Need-returns-2
 returns-2 c = stored-short _ _ _ (omega arith)
@@ -30,4 +30,4 @@ returns-3 c = stored-fits _ _ _ _ _ (omega arith) refl (c .before .before .copy 
 
 pub store-plain-spec : {M : Type 1} → statement M
 store-plain-spec =
-    tie.close (tie.spec returns room-requires returns-2 copy-requires add-t6 same-length returns-3)
+    tie.close (tie.spec returns saturating-sub-requires returns-2 copy-requires add-t6 same-length returns-3)

@@ -11,8 +11,8 @@ use borrow.Author.Needs.{needs}
 use Rattle.wire.proofs.append.store_terminated.Statement.{statement}
 use Rattle.wire.proofs.append.store_terminated.Tie as tie
 
-room-requires : tie.Need-room-requires
-room-requires c κs = search needs
+saturating-sub-requires : tie.Need-saturating-sub-requires
+saturating-sub-requires c κs = search needs
 
 returns : tie.Need-returns
 returns c = joined-short (c .before .before .before .before .args .octets .now) (0 ∷ []) _ _ (omega arith)
@@ -43,7 +43,7 @@ pub store-terminated-spec : {M : Type 1} → statement M
 store-terminated-spec =
     tie.close
     (tie.spec
-    room-requires
+    saturating-sub-requires
     returns
     add-end
     copy-requires

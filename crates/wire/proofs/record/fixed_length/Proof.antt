@@ -7,20 +7,20 @@ use borrow.Author.Needs.{needs}
 use Rattle.wire.proofs.record.fixed_length.Statement.{statement}
 use Rattle.wire.proofs.record.fixed_length.Tie as tie
 
-room-requires : tie.Need-room-requires
-room-requires c κs = search needs
+saturating-sub-requires : tie.Need-saturating-sub-requires
+saturating-sub-requires c κs = search needs
 
 returns : tie.Need-returns
 unfolding fixedLength fieldLength
 returns c =
     let s = c .before .before .before in
-    rw (← s .pre .0, lt-ltb _ _ (s .pre .1), ← c .before .room .ensures, lt-ltb _ _ (c .if1 .taken))
+    rw (← s .pre .0, lt-ltb _ _ (s .pre .1), ← c .before .saturating-sub .ensures, lt-ltb _ _ (c .if1 .taken))
 
 returns-2 : tie.Need-returns-2
 unfolding fixedLength fieldLength
 returns-2 c =
     let s = c .before .before .before .before in
-    rw (← s .pre .0, lt-ltb _ _ (s .pre .1), ← c .before .before .room .ensures, le-ltb _ _ (c .before .if1 .left), ne-eqb _ _ (c .if2 .taken))
+    rw (← s .pre .0, lt-ltb _ _ (s .pre .1), ← c .before .before .saturating-sub .ensures, le-ltb _ _ (c .before .if1 .left), ne-eqb _ _ (c .if2 .taken))
 
 shared-slice-read-if3 : tie.Need-shared-slice-read-if3
 shared-slice-read-if3 c = search needs
@@ -29,14 +29,14 @@ returns-3 : tie.Need-returns-3
 unfolding fixedLength fieldLength
 returns-3 c =
     let s = c .before .before .before .before .before .before in
-    rw (← s .pre .0, lt-ltb _ _ (s .pre .1), ← c .before .before .before .before .room .ensures, le-ltb _ _ (c .before .before .before .if1 .left), eq-eqb _ _ (c .before .before .if2 .left), uint-one (s .args .r .now) (s .args .at), lt-ltb _ _ (c .if3 .taken))
+    rw (← s .pre .0, lt-ltb _ _ (s .pre .1), ← c .before .before .before .before .saturating-sub .ensures, le-ltb _ _ (c .before .before .before .if1 .left), eq-eqb _ _ (c .before .before .if2 .left), uint-one (s .args .r .now) (s .args .at), lt-ltb _ _ (c .if3 .taken))
 
 returns-4 : tie.Need-returns-4
 unfolding fixedLength fieldLength
 returns-4 c =
     let s = c .before .before .before .before .before .before in
-    rw (← s .pre .0, lt-ltb _ _ (s .pre .1), ← c .before .before .before .before .room .ensures, le-ltb _ _ (c .before .before .before .if1 .left), eq-eqb _ _ (c .before .before .if2 .left), uint-one (s .args .r .now) (s .args .at), le-ltb _ _ (c .if3 .left))
+    rw (← s .pre .0, lt-ltb _ _ (s .pre .1), ← c .before .before .before .before .saturating-sub .ensures, le-ltb _ _ (c .before .before .before .if1 .left), eq-eqb _ _ (c .before .before .if2 .left), uint-one (s .args .r .now) (s .args .at), le-ltb _ _ (c .if3 .left))
 
 pub fixed-length-spec : {M : Type 1} → statement M
 fixed-length-spec =
-    tie.close (tie.spec room-requires returns returns-2 shared-slice-read-if3 returns-3 returns-4)
+    tie.close (tie.spec saturating-sub-requires returns returns-2 shared-slice-read-if3 returns-3 returns-4)

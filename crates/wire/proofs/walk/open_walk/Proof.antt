@@ -6,16 +6,16 @@ use borrow.Author.Needs.{needs}
 use Rattle.wire.proofs.walk.open_walk.Statement.{statement}
 use Rattle.wire.proofs.walk.open_walk.Tie as tie
 
-record-valid-requires : tie.Need-record-valid-requires
-record-valid-requires c κs = search needs
+record-answer-requires : tie.Need-record-answer-requires
+record-answer-requires c κs = search needs
 
 returns : tie.Need-returns
 unfolding openOf
-returns c = rw (← c .before .record-valid .ensures, eq-eqb _ _ (c .if1 .taken))
+returns c = rw (← c .before .record-answer .ensures, eq-eqb _ _ (c .if1 .taken))
 
 returns-2 : tie.Need-returns-2
 unfolding openOf
-returns-2 c = rw (← c .before .record-valid .ensures, ne-eqb _ _ (c .if1 .left))
+returns-2 c = rw (← c .before .record-answer .ensures, ne-eqb _ _ (c .if1 .left))
 
 pub open-walk-spec : {M : Type 1} → statement M
-open-walk-spec = tie.close (tie.spec record-valid-requires returns returns-2)
+open-walk-spec = tie.close (tie.spec record-answer-requires returns returns-2)

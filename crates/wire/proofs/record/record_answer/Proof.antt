@@ -1,11 +1,11 @@
--- `record_valid` meets its contract: the table is judged, then the template is located, then the record is judged under it. Assumes nothing.
+-- `record_answer` meets its contract: the table is judged, then the template is located, then the record is judged under it. Assumes nothing.
 use mathlib.Core.Path.{sym, _∙_}
 use borrow.Author.Tests.{not-true, not-false}
 use Rattle.wire.specs.Record.{recordAnswer}
 use Rattle.wire.proofs.Tables.{located, not-located, located-within}
 use borrow.Author.Needs.{needs}
-use Rattle.wire.proofs.record.record_valid.Statement.{statement}
-use Rattle.wire.proofs.record.record_valid.Tie as tie
+use Rattle.wire.proofs.record.record_answer.Statement.{statement}
+use Rattle.wire.proofs.record.record_answer.Tie as tie
 
 table-sound-requires : tie.Need-table-sound-requires
 table-sound-requires c κs = search needs
@@ -53,8 +53,8 @@ returns-4 c =
     let n = not-located (a .t .now) (a .id) _ (sym (c .before .before .before .locate .ensures) ∙ c .before .answer .given .1) in
     rw (sym (d .before .table-sound .ensures) ∙ not-false _ (d .if1 .left), n .0) (n .1)
 
-pub record-valid-spec : {M : Type 1} → statement M
-record-valid-spec =
+pub record-answer-spec : {M : Type 1} → statement M
+record-answer-spec =
     tie.close
     (tie.spec
     table-sound-requires
