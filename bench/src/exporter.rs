@@ -93,22 +93,35 @@ impl State {
         best.map(|(v, _)| v)
     }
 
-    /// How many octets are held, if the state is sound.
-    fn held_if_sound(&self) -> Result<usize, u8> {
-        let p = &self.settings;
-        let numbers = settings_sound(p, self.capacity)
+    /// The settings and the numbers that stand beside the queue are in their limits.
+    fn numbers_sound(&self) -> bool {
+        settings_sound(&self.settings, self.capacity)
             && self.count <= MAX_HELD
             && self.start < self.capacity
             && self.sent <= self.reached
             && self.reached <= self.count
-            && self.timer < p.duration
-            && (!self.due || self.reached == 0);
-        if !numbers {
+            && self.timer < self.settings.duration
+            && (!self.due || self.reached == 0)
+    }
+
+    /// With no active server nothing was sent; else the first records were sent to it.
+    fn activation_sound(&self) -> bool {
+        let Some(v) = self.active else {
+            return self.reached == 0 && self.timer == 0;
+        };
+        let reached = &self.receivers[..self.reached];
+        let all = reached.iter().fold(u8::MAX, |all, &set| all & set);
+        all >> v & 1 == 1
+    }
+
+    /// How many octets are held, if the state is sound.
+    fn held_if_sound(&self) -> Result<usize, u8> {
+        if !self.numbers_sound() {
             return Err(UNSOUND_STATE);
         }
         let lengths = &self.lengths[..self.count];
         let receivers = &self.receivers[..self.count];
-        let others = !(((1u16 << p.servers) - 1) as u8);
+        let others = !(((1u16 << self.settings.servers) - 1) as u8);
         let held: u32 = lengths.iter().map(|&n| n as u32).sum();
         let long = lengths
             .iter()
@@ -118,25 +131,11 @@ impl State {
             || held as usize > self.capacity
             || union & others != 0
             || self.active != self.chosen(&self.phases)
+            || !self.activation_sound()
         {
             return Err(UNSOUND_STATE);
         }
-        let activation = match self.active {
-            None => self.reached == 0 && self.timer == 0,
-            Some(v) => {
-                receivers[..self.reached]
-                    .iter()
-                    .fold(u8::MAX, |all, &set| all & set)
-                    >> v
-                    & 1
-                    == 1
-            }
-        };
-        if activation {
-            Ok(held as usize)
-        } else {
-            Err(UNSOUND_STATE)
-        }
+        Ok(held as usize)
     }
 
     /// Makes the choice anew; a changed one begins an activation.
@@ -148,6 +147,16 @@ impl State {
             self.reached = 0;
             self.timer = 0;
             self.due = true;
+        }
+    }
+
+    /// The place in the store of that octet of the ring.
+    fn ring_place(&self, octet: usize) -> usize {
+        let at = self.start + octet;
+        if at >= self.capacity {
+            at - self.capacity
+        } else {
+            at
         }
     }
 
@@ -172,10 +181,7 @@ impl State {
         if held + record.len() > self.capacity {
             return Err(STORE_FULL);
         }
-        let mut at = self.start + held;
-        if at >= self.capacity {
-            at -= self.capacity;
-        }
+        let at = self.ring_place(held);
         let first = record.len().min(self.capacity - at);
         store[at..at + first].copy_from_slice(&record[..first]);
         store[..record.len() - first].copy_from_slice(&record[first..]);
@@ -185,6 +191,19 @@ impl State {
         self.count += 1;
         self.next = self.next.wrapping_add(1);
         Ok(())
+    }
+
+    /// What the DATA of held record i says to the active server.
+    fn data_head(&self, i: usize, active: u8) -> DataHead {
+        let first = self.next.wrapping_sub(self.count as u32);
+        DataHead {
+            session: self.settings.session,
+            template: self.templates[i],
+            config: self.settings.config,
+            first: self.due,
+            duplicate: self.receivers[i] & !(1 << active) != 0,
+            dsn: first.wrapping_add(i as u32),
+        }
     }
 
     pub fn next_data(&mut self, store: &[u8], out: &mut [u8]) -> Wrote {
@@ -203,22 +222,8 @@ impl State {
             return Err(OUTPUT_TOO_SHORT);
         };
         let before: u32 = self.lengths[..i].iter().map(|&n| n as u32).sum();
-        let mut at = self.start + before as usize;
-        if at >= self.capacity {
-            at -= self.capacity;
-        }
-        let head = DataHead {
-            session: self.settings.session,
-            template: self.templates[i],
-            config: self.settings.config,
-            first: self.due,
-            duplicate: self.receivers[i] & !(1 << active) != 0,
-            dsn: self
-                .next
-                .wrapping_sub(self.count as u32)
-                .wrapping_add(i as u32),
-        };
-        out[..16].copy_from_slice(&message::data_head(&head, len));
+        let at = self.ring_place(before as usize);
+        out[..16].copy_from_slice(&message::data_head(&self.data_head(i, active), len));
         let first = len.min(self.capacity - at);
         out[16..16 + first].copy_from_slice(&store[at..at + first]);
         out[16 + first..].copy_from_slice(&store[..len - first]);
@@ -246,10 +251,7 @@ impl State {
             return Ok(());
         }
         let octets: u32 = self.lengths[..n].iter().map(|&n| n as u32).sum();
-        self.start += octets as usize;
-        if self.start >= self.capacity {
-            self.start -= self.capacity;
-        }
+        self.start = self.ring_place(octets as usize);
         self.lengths.copy_within(n..self.count, 0);
         self.templates.copy_within(n..self.count, 0);
         self.receivers.copy_within(n..self.count, 0);
@@ -260,8 +262,8 @@ impl State {
         Ok(())
     }
 
-    pub fn receive(&mut self, v: u8, m: &[u8], out: &mut [u8]) -> Wrote {
-        self.held_if_sound()?;
+    /// Judges server and message by 2 to 7.
+    fn received_form(&self, v: u8, m: &[u8]) -> Answer {
         if v >= self.settings.servers {
             return Err(NO_SUCH_SERVER);
         }
@@ -279,44 +281,58 @@ impl State {
         if !accepted.contains(&number) {
             return Err(MESSAGE_NOT_ACCEPTED);
         }
-        let phase = self.phases[v as usize];
+        Ok(())
+    }
+
+    fn take_start(&mut self, v: u8, out: &mut [u8]) -> Wrote {
+        let reply = Message::StartAck(self.settings.session, self.settings.boot);
+        let n = message::write(&reply, out)?;
+        self.phases[v as usize] = Phase::Started;
+        Ok(n)
+    }
+
+    fn take_stop(&mut self, v: u8, out: &mut [u8]) -> Wrote {
+        let n = message::write(&Message::StopAck(self.settings.session), out)?;
+        self.phases[v as usize] = Phase::Closed;
+        Ok(n)
+    }
+
+    fn take_start_negotiate(&mut self, v: u8, out: &mut [u8]) -> Wrote {
+        if self.phases[v as usize] == Phase::Closed {
+            return Err(OUT_OF_TURN);
+        }
+        let n = message::write(&Message::StartNegotiateAck(self.settings.session), out)?;
+        for phase in &mut self.phases {
+            if *phase != Phase::Closed {
+                *phase = Phase::Started;
+            }
+        }
+        Ok(n)
+    }
+
+    fn take_final_tmpl_data_ack(&mut self, v: u8, config: u8) -> Wrote {
+        if self.phases[v as usize] != Phase::Offered {
+            return Err(OUT_OF_TURN);
+        }
+        if config != self.settings.config {
+            return Err(OTHER_CONFIGURATION);
+        }
+        self.phases[v as usize] = Phase::Agreed;
+        Ok(0)
+    }
+
+    pub fn receive(&mut self, v: u8, m: &[u8], out: &mut [u8]) -> Wrote {
+        self.held_if_sound()?;
+        self.received_form(v, m)?;
         let written = match message::read(m)? {
             Message::DataAck(_, dsn, config) => {
                 self.acknowledge(v, dsn, config)?;
                 return Ok(0);
             }
-            Message::Start(_) => {
-                let n = message::write(&Message::StartAck(session, self.settings.boot), out)?;
-                self.phases[v as usize] = Phase::Started;
-                n
-            }
-            Message::Stop(_) => {
-                let n = message::write(&Message::StopAck(session), out)?;
-                self.phases[v as usize] = Phase::Closed;
-                n
-            }
-            Message::StartNegotiate(_) => {
-                if phase == Phase::Closed {
-                    return Err(OUT_OF_TURN);
-                }
-                let n = message::write(&Message::StartNegotiateAck(session), out)?;
-                for phase in &mut self.phases {
-                    if *phase != Phase::Closed {
-                        *phase = Phase::Started;
-                    }
-                }
-                n
-            }
-            Message::FinalTmplDataAck(_, config) => {
-                if phase != Phase::Offered {
-                    return Err(OUT_OF_TURN);
-                }
-                if config != self.settings.config {
-                    return Err(OTHER_CONFIGURATION);
-                }
-                self.phases[v as usize] = Phase::Agreed;
-                0
-            }
+            Message::Start(_) => self.take_start(v, out)?,
+            Message::Stop(_) => self.take_stop(v, out)?,
+            Message::StartNegotiate(_) => self.take_start_negotiate(v, out)?,
+            Message::FinalTmplDataAck(_, config) => self.take_final_tmpl_data_ack(v, config)?,
             _ => return Err(MESSAGE_NOT_ACCEPTED),
         };
         self.settle();

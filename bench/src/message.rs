@@ -60,65 +60,65 @@ fn exactly(body: &[u8], n: usize) -> Result<(), u8> {
     }
 }
 
+fn read_bare<'a>(body: &[u8], message: Message<'a>) -> Result<Message<'a>, u8> {
+    exactly(body, 0)?;
+    Ok(message)
+}
+
+fn read_start_ack(session: u8, body: &[u8]) -> Result<Message<'_>, u8> {
+    exactly(body, 4)?;
+    Ok(Message::StartAck(session, u32_at(body, 0)))
+}
+
+fn read_tmpl_data(session: u8, body: &[u8]) -> Result<Message<'_>, u8> {
+    if !is_sound(body) {
+        return Err(UNSOUND_TABLE);
+    }
+    Ok(Message::TmplData(session, body))
+}
+
+fn read_final_tmpl_data_ack(session: u8, body: &[u8]) -> Result<Message<'_>, u8> {
+    exactly(body, 4)?;
+    Ok(Message::FinalTmplDataAck(session, body[0]))
+}
+
+fn read_data(session: u8, body: &[u8]) -> Result<Message<'_>, u8> {
+    if body.len() < 8 {
+        return Err(BODY_LENGTH_WRONG);
+    }
+    let head = DataHead {
+        session,
+        template: u16_at(body, 0),
+        config: body[2],
+        first: body[3] & 1 != 0,
+        duplicate: body[3] & 2 != 0,
+        dsn: u32_at(body, 4),
+    };
+    Ok(Message::Data(head, &body[8..]))
+}
+
+fn read_data_ack(session: u8, body: &[u8]) -> Result<Message<'_>, u8> {
+    exactly(body, 8)?;
+    Ok(Message::DataAck(session, u32_at(body, 0), body[4]))
+}
+
 /// Reads a message alone: 3, 4, 5, 7, 8, 21.
 pub fn read(m: &[u8]) -> Result<Message<'_>, u8> {
     let (session, number) = read_header(m)?;
     let body = &m[8..];
-    Ok(match number {
-        START => {
-            exactly(body, 0)?;
-            Message::Start(session)
-        }
-        START_ACK => {
-            exactly(body, 4)?;
-            Message::StartAck(session, u32_at(body, 0))
-        }
-        STOP => {
-            exactly(body, 0)?;
-            Message::Stop(session)
-        }
-        STOP_ACK => {
-            exactly(body, 0)?;
-            Message::StopAck(session)
-        }
-        TMPL_DATA => {
-            if !is_sound(body) {
-                return Err(UNSOUND_TABLE);
-            }
-            Message::TmplData(session, body)
-        }
-        FINAL_TMPL_DATA_ACK => {
-            exactly(body, 4)?;
-            Message::FinalTmplDataAck(session, body[0])
-        }
-        START_NEGOTIATE => {
-            exactly(body, 0)?;
-            Message::StartNegotiate(session)
-        }
-        START_NEGOTIATE_ACK => {
-            exactly(body, 0)?;
-            Message::StartNegotiateAck(session)
-        }
-        DATA => {
-            if body.len() < 8 {
-                return Err(BODY_LENGTH_WRONG);
-            }
-            let head = DataHead {
-                session,
-                template: u16_at(body, 0),
-                config: body[2],
-                first: body[3] & 1 != 0,
-                duplicate: body[3] & 2 != 0,
-                dsn: u32_at(body, 4),
-            };
-            Message::Data(head, &body[8..])
-        }
-        DATA_ACK => {
-            exactly(body, 8)?;
-            Message::DataAck(session, u32_at(body, 0), body[4])
-        }
-        _ => return Err(MESSAGE_NOT_ACCEPTED),
-    })
+    match number {
+        START => read_bare(body, Message::Start(session)),
+        START_ACK => read_start_ack(session, body),
+        STOP => read_bare(body, Message::Stop(session)),
+        STOP_ACK => read_bare(body, Message::StopAck(session)),
+        TMPL_DATA => read_tmpl_data(session, body),
+        FINAL_TMPL_DATA_ACK => read_final_tmpl_data_ack(session, body),
+        START_NEGOTIATE => read_bare(body, Message::StartNegotiate(session)),
+        START_NEGOTIATE_ACK => read_bare(body, Message::StartNegotiateAck(session)),
+        DATA => read_data(session, body),
+        DATA_ACK => read_data_ack(session, body),
+        _ => Err(MESSAGE_NOT_ACCEPTED),
+    }
 }
 
 fn header(number: u8, session: u8, len: usize) -> [u8; 8] {

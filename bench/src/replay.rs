@@ -72,14 +72,26 @@ fn line(text: &mut Vec<u8>, place: usize, answered: Result<usize, u8>, out: &[u8
     write!(text, "{place} {answer}").expect("room");
     if !written.is_empty() {
         text.push(b' ');
-        text.extend(written.iter().flat_map(|o| [DIGITS[(o >> 4) as usize], DIGITS[(o & 15) as usize]]));
+        text.extend(
+            written
+                .iter()
+                .flat_map(|o| [DIGITS[(o >> 4) as usize], DIGITS[(o & 15) as usize]]),
+        );
     }
     text.push(b'\n');
 }
 
-fn call(state: &mut State, (kind, server, body): Event, table: &[u8], store: &mut [u8], out: &mut [u8]) -> Result<usize, u8> {
+fn call(
+    state: &mut State,
+    (kind, server, body): Event,
+    table: &[u8],
+    store: &mut [u8],
+    out: &mut [u8],
+) -> Result<usize, u8> {
     match kind {
-        2 => state.put(store, table, u16_at(body, 0), &body[2..]).map(|()| 0),
+        2 => state
+            .put(store, table, u16_at(body, 0), &body[2..])
+            .map(|()| 0),
         3 => state.receive(server, body, out),
         4 => state.line_down(server).map(|()| 0),
         5 => state.tick().map(|()| 0),
@@ -91,7 +103,9 @@ fn call(state: &mut State, (kind, server, body): Event, table: &[u8], store: &mu
 /// The program: a tape from standard input, its lines to standard output, each written by itself as the other program does.
 pub fn program() -> std::io::Result<()> {
     let mut tape = Vec::new();
-    std::io::stdin().take(MAX_TAPE_OCTETS as u64 + 1).read_to_end(&mut tape)?;
+    std::io::stdin()
+        .take(MAX_TAPE_OCTETS as u64 + 1)
+        .read_to_end(&mut tape)?;
     let mut output = std::io::stdout().lock();
     let Some(all) = events(&tape) else {
         return output.write_all(b"tape refused\n");
@@ -106,7 +120,16 @@ pub fn program() -> std::io::Result<()> {
     };
     let table = all[1].2;
     let is_sessions = table::is_sound(table) && table[0] == all[0].2[1];
-    line(&mut text, 1, if is_sessions { Ok(0) } else { Err(UNSOUND_TABLE) }, &out);
+    line(
+        &mut text,
+        1,
+        if is_sessions {
+            Ok(0)
+        } else {
+            Err(UNSOUND_TABLE)
+        },
+        &out,
+    );
     output.write_all(&text)?;
     if !is_sessions {
         return Ok(());

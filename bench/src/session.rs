@@ -6,6 +6,9 @@ use crate::exporter::{Settings, State};
 /// The octets of an event: its call, its server, the length of its message, and 16 octets with which the message begins.
 pub const EVENT_OCTETS: usize = 19;
 
+/// How many lengths a message of an event can have, 0 to 16.
+const MESSAGE_LENGTHS: u8 = 17;
+
 pub const PUT: u8 = 0;
 pub const NEXT_DATA: u8 = 1;
 pub const TICK: u8 = 2;
@@ -24,6 +27,19 @@ pub struct Given {
 pub const SESSION: u8 = 7;
 pub const CONFIG: u8 = 1;
 
+fn settings(g: Given) -> Settings {
+    Settings {
+        session: SESSION,
+        config: CONFIG,
+        boot: 3600,
+        initial: g.initial,
+        servers: g.servers,
+        priorities: [0; 8],
+        threshold: g.threshold,
+        duration: g.duration,
+    }
+}
+
 /// The sum of all answers and of the octets written.
 #[inline(never)]
 pub fn session(
@@ -35,25 +51,15 @@ pub fn session(
     events: &[u8],
     out: &mut [u8],
 ) -> u64 {
-    let settings = Settings {
-        session: SESSION,
-        config: CONFIG,
-        boot: 3600,
-        initial: g.initial,
-        servers: g.servers,
-        priorities: [0; 8],
-        threshold: g.threshold,
-        duration: g.duration,
-    };
     let events = events.chunks_exact(EVENT_OCTETS);
-    let mut state = match State::set_up(settings, store) {
+    let mut state = match State::set_up(settings(g), store) {
         Ok(state) => state,
         Err(a) => return a as u64 + events.len() as u64 * UNSOUND_STATE as u64,
     };
     let mut total = 0u64;
     for event in events {
         let server = event[1];
-        let len = (event[2] % 17) as usize;
+        let len = (event[2] % MESSAGE_LENGTHS) as usize;
         let answered = match event[0] {
             PUT => state.put(store, table, id, record).map(|()| 0),
             NEXT_DATA => state.next_data(store, out),
