@@ -112,7 +112,10 @@ impl Input {
             Input::Again { message, out } => {
                 Outcome::of_output(out, |out| number_of(message::read_again(message, out)))
             }
-            Input::Open { table, id, record } => Outcome::of(walk::open(table, *id, record)),
+            Input::Open { table, id, record } => Outcome::of_numbers(&[
+                u64::from(walk::open(table, *id, record)),
+                number_of(walk::count_fields(table, *id, record)),
+            ]),
             Input::Step { table, id, record, cursor } => {
                 Outcome::of_list(&step_parts(walk::step(table, *id, record, *cursor)))
             }
@@ -131,7 +134,10 @@ impl Input {
             Input::Record { table, id, record } => Outcome::of(library::record_answer(table, *id, record)),
             Input::Read { message } => Outcome::of_parts(|part| library::read_part(message, part)),
             Input::Again { message, out } => Outcome::of_output(out, |out| library::read_again(message, out)),
-            Input::Open { table, id, record } => Outcome::of(library::open_answer(table, *id, record)),
+            Input::Open { table, id, record } => Outcome::of_numbers(&[
+                u64::from(library::open_answer(table, *id, record)),
+                library::count_fields(table, *id, record),
+            ]),
             Input::Step { table, id, record, cursor } => {
                 Outcome::of_parts(|part| library::step_part(table, *id, record, cursor.index, cursor.at, part))
             }
@@ -168,7 +174,11 @@ impl Input {
 
 impl Outcome {
     fn of(answer: u8) -> Outcome {
-        Outcome { numbers: vec![u64::from(answer)], out: Vec::new() }
+        Outcome::of_numbers(&[u64::from(answer)])
+    }
+
+    fn of_numbers(numbers: &[u64]) -> Outcome {
+        Outcome { numbers: numbers.to_vec(), out: Vec::new() }
     }
 
     /// The parts of an answer, each by its number.

@@ -36,6 +36,13 @@ mod linked {
             record: *const u8,
             record_length: usize,
         ) -> u8;
+        pub fn crane_count_fields(
+            table: *const u8,
+            table_length: usize,
+            id: u16,
+            record: *const u8,
+            record_length: usize,
+        ) -> u64;
         pub fn crane_step_part(
             table: *const u8,
             table_length: usize,
@@ -88,6 +95,10 @@ mod linked {
         panic!("{ABSENT}")
     }
 
+    pub unsafe fn crane_count_fields(_: *const u8, _: usize, _: u16, _: *const u8, _: usize) -> u64 {
+        panic!("{ABSENT}")
+    }
+
     #[allow(clippy::too_many_arguments)]
     pub unsafe fn crane_step_part(
         _: *const u8,
@@ -137,6 +148,11 @@ pub fn read_part(message: &[u8], part: u8) -> u64 {
 /// 0 where a field walk over a record can begin, else 21, 15 or 16.
 pub fn open_answer(table: &[u8], id: u16, record: &[u8]) -> u8 {
     unsafe { linked::crane_open_answer(table.as_ptr(), table.len(), id, record.as_ptr(), record.len()) }
+}
+
+/// How many fields a record has plus 256, or the refusal.
+pub fn count_fields(table: &[u8], id: u16, record: &[u8]) -> u64 {
+    unsafe { linked::crane_count_fields(table.as_ptr(), table.len(), id, record.as_ptr(), record.len()) }
 }
 
 /// Reads a message alone and writes what it says to the output; its length plus 256, or the refusal.

@@ -23,6 +23,8 @@ use Rattle.wire.specs.declared.walk.Field.{Field}
 use Rattle.wire.specs.declared.walk.Cursor.{Cursor}
 use Rattle.wire.specs.declared.walk.Step.{Step}
 use Rattle.wire.specs.declared.walk.Step.the-variants as step
+use Rattle.wire.specs.declared.reader.Counted.{Counted}
+use Rattle.wire.specs.declared.reader.Counted.the-variants as counted
 use Rattle.wire.specs.declared.append.Appended.{Appended}
 use Rattle.wire.specs.declared.append.Appended.the-variants as appended
 
@@ -150,6 +152,11 @@ stepPart part s = getD (stepParts s) part 0
 unfoldable pub valueOf : ℕ → ℕ → Value
 valueOf sort number =
     cond (eqb sort numberSort) (value.Number number) (cond (eqb sort negativeSort) (value.Negative number) value.Octets)
+
+-- The number of fields plus 256, or the refusal.
+abbrev pub countedNumber : Counted → ℕ
+countedNumber (counted.Fields n) = acceptedNumber n
+countedNumber (counted.Refused a) = a
 
 -- The place after the field plus 256, or the refusal.
 abbrev pub appendedNumber : Appended → ℕ

@@ -1,13 +1,14 @@
 // The field walk and appending a field.
 ghost use mathlib.Core.Path.{_≡_};
 ghost use lib.ListN.{getD};
-ghost use Rattle.wire.specs.Walk.{openOf, openAnswer, stepOf};
+ghost use Rattle.wire.specs.Walk.{openOf, openAnswer, stepOf, countOf};
 ghost use Rattle.wire.specs.Append.{appendOf, appendOut};
-ghost use Rattle.exports.specs.Numbers.{valueSort, valueSize, fieldParts, stepPart, valueOf, appendedNumber};
+ghost use Rattle.exports.specs.Numbers.{valueSort, valueSize, fieldParts, stepPart, valueOf, countedNumber, appendedNumber};
 use crate::numbers::accepted;
 use crate::numbers::sole_part;
 use octets::Answer;
 use wire::append::Appended;
+use wire::reader::Counted;
 use wire::walk::Cursor;
 use wire::walk::Field;
 use wire::walk::Opened;
@@ -33,6 +34,18 @@ pub extern "C" fn crane_open_answer(table: &[u8], id: u16, r: &[u8]) -> u8
     match opened {
         Opened::At(_) => Answer::DONE,
         Opened::Refused(a) => a,
+    }
+}
+
+// How many fields a record has plus 256, counted through a reader, or 21, 15 or 16.
+#[no_mangle]
+pub extern "C" fn crane_count_fields(table: &[u8], id: u16, r: &[u8]) -> u64
+    ensures { λ n. ⌜ n ≡ countedNumber (countOf (now (table .entry)) id (now (r .entry))) ⌝ }
+{
+    let counted = wire::reader::count_fields(table, id, r);
+    match counted {
+        Counted::Fields(n) => accepted(n),
+        Counted::Refused(a) => a as u64,
     }
 }
 

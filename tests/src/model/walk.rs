@@ -42,6 +42,14 @@ pub fn open(t: &[u8], id: u16, r: &[u8]) -> u8 {
     judge(t, id, r)
 }
 
+/// How many fields a record has, one for each enabled key; judged like opening.
+pub fn count_fields(t: &[u8], id: u16, r: &[u8]) -> Result<usize, u8> {
+    match open(t, id, r) {
+        answer::DONE => Ok(find_template(t, id)?.keys.iter().filter(|key| !key.disabled).count()),
+        refusal => Err(refusal),
+    }
+}
+
 /// One step, judged 21 and 15, then 16 for the field of the next enabled key; the end where there
 /// is none.
 pub fn step(t: &[u8], id: u16, r: &[u8], c: Cursor) -> Step {
