@@ -1,4 +1,4 @@
-// Messages: read alone, their parts, and written again.
+// Messages, read alone and written again. `read_message` is called once in this crate, so that the compiler puts it in its caller's place.
 ghost use mathlib.Core.Path.{_≡_};
 ghost use mathlib.Core.Bool.{cond};
 ghost use mathlib.Core.List.{_∷_};
@@ -156,6 +156,7 @@ pub extern "C" fn crane_read_again(message: &[u8], out: &mut [u8], part: u8) -> 
         Reading::Message(m) => {
             let carried = wire::message::message_part(message);
             let written = written_number(wire::message::write_message(m, carried, out));
+            // What benchmarks ask for comes first.
             if part == 0 {
                 return written;
             }
