@@ -16,6 +16,7 @@ extern "C" {
         message_len: usize,
         out: *mut u8,
         out_len: usize,
+        part: u8,
     ) -> u64;
     #[allow(clippy::too_many_arguments)]
     fn crane_session(
@@ -45,8 +46,9 @@ pub fn record_answer(t: &[u8], id: u16, record: &[u8]) -> u8 {
     unsafe { crane_record_answer(t.as_ptr(), t.len(), id, record.as_ptr(), record.len()) }
 }
 
+/// Its length plus 256, or the refusal: part 0 of what is read and written.
 pub fn read_again(m: &[u8], out: &mut [u8]) -> u64 {
-    unsafe { crane_read_again(m.as_ptr(), m.len(), out.as_mut_ptr(), out.len()) }
+    unsafe { crane_read_again(m.as_ptr(), m.len(), out.as_mut_ptr(), out.len(), 0) }
 }
 
 pub fn session(

@@ -22,7 +22,7 @@ pub struct Function {
     make: fn(&mut Random) -> Input,
 }
 
-pub const FUNCTIONS: [Function; 8] = [
+pub const FUNCTIONS: [Function; 7] = [
     Function { name: "table", answers: &[DONE, UNSOUND_TABLE], make: make::table },
     Function { name: "find", answers: &[DONE, TEMPLATE_NOT_FOUND, UNSOUND_TABLE], make: make::find },
     Function {
@@ -31,20 +31,7 @@ pub const FUNCTIONS: [Function; 8] = [
         make: make::record,
     },
     Function {
-        name: "read",
-        answers: &[
-            DONE,
-            SHORT_MESSAGE,
-            OTHER_VERSION,
-            LENGTH_DIFFERS,
-            MESSAGE_NOT_ACCEPTED,
-            BODY_LENGTH_WRONG,
-            UNSOUND_TABLE,
-        ],
-        make: make::read,
-    },
-    Function {
-        name: "again",
+        name: "message",
         answers: &[
             DONE,
             SHORT_MESSAGE,
@@ -56,7 +43,7 @@ pub const FUNCTIONS: [Function; 8] = [
             RECORD_TOO_LONG,
             UNSOUND_TABLE,
         ],
-        make: make::again,
+        make: make::message,
     },
     Function { name: "open", answers: &[DONE, TEMPLATE_NOT_FOUND, RECORD_INVALID, UNSOUND_TABLE], make: make::open },
     Function {
@@ -78,8 +65,7 @@ pub enum Input {
     Table { table: Vec<u8> },
     Find { table: Vec<u8>, id: u16 },
     Record { table: Vec<u8>, id: u16, record: Vec<u8> },
-    Read { message: Vec<u8> },
-    Again { message: Vec<u8>, out: Vec<u8> },
+    Message { message: Vec<u8>, out: Vec<u8> },
     Open { table: Vec<u8>, id: u16, record: Vec<u8> },
     Step { table: Vec<u8>, id: u16, record: Vec<u8>, cursor: Cursor },
     Append { kind: u16, sort: u8, number: u64, octets: Vec<u8>, out: Vec<u8>, at: usize },
@@ -108,9 +94,10 @@ impl Input {
             Input::Table { table } => Outcome::of(if table::is_sound(table) { DONE } else { UNSOUND_TABLE }),
             Input::Find { table, id } => Outcome::of_list(&found_parts(table, *id)),
             Input::Record { table, id, record } => Outcome::of(record::judge(table, *id, record)),
-            Input::Read { message } => Outcome::of_list(&read_parts(message)),
-            Input::Again { message, out } => {
-                Outcome::of_output(out, |out| number_of(message::read_again(message, out)))
+            Input::Message { message, out } => {
+                let mut out = out.clone();
+                let parts = again_parts(message, &mut out);
+                Outcome { out, ..Outcome::of_list(&parts) }
             }
             Input::Open { table, id, record } => Outcome::of_numbers(&[
                 u64::from(walk::open(table, *id, record)),
@@ -132,8 +119,12 @@ impl Input {
             Input::Table { table } => Outcome::of(library::table_answer(table)),
             Input::Find { table, id } => Outcome::of_parts(|part| library::find_part(table, *id, part)),
             Input::Record { table, id, record } => Outcome::of(library::record_answer(table, *id, record)),
-            Input::Read { message } => Outcome::of_parts(|part| library::read_part(message, part)),
-            Input::Again { message, out } => Outcome::of_output(out, |out| library::read_again(message, out)),
+            // Each call writes the same octets again.
+            Input::Message { message, out } => {
+                let mut out = out.clone();
+                let numbers = PARTS.iter().map(|part| library::read_again(message, &mut out, *part)).collect();
+                Outcome { numbers, out }
+            }
             Input::Open { table, id, record } => Outcome::of_numbers(&[
                 u64::from(library::open_answer(table, *id, record)),
                 library::count_fields(table, *id, record),
@@ -155,8 +146,7 @@ impl Input {
             Input::Record { table, id, record } | Input::Open { table, id, record } => {
                 format!("table {}\ntemplate {id}\nrecord {}", hex(table), hex(record))
             }
-            Input::Read { message } => format!("message {}", hex(message)),
-            Input::Again { message, out } => {
+            Input::Message { message, out } => {
                 format!("message {}\noutput of {} octets: {}", hex(message), out.len(), hex(out))
             }
             Input::Step { table, id, record, cursor: Cursor { index, at } } => {
@@ -235,12 +225,13 @@ fn found_parts(table: &[u8], id: u16) -> Vec<u64> {
     }
 }
 
-/// What reading a message alone answers: place and length of its part, and what it says.
-fn read_parts(message: &[u8]) -> Vec<u64> {
+/// What reading a message and writing it again answers: how many octets were written, place and length of its part, and
+/// what it says.
+fn again_parts(message: &[u8], out: &mut [u8]) -> Vec<u64> {
     match message::read(message) {
         Ok((said, part)) => {
             let at = part.as_ptr() as usize - message.as_ptr() as usize;
-            let mut parts = vec![u64::from(DONE), at as u64, part.len() as u64];
+            let mut parts = vec![number_of(message::write(&said, part, out)), at as u64, part.len() as u64];
             parts.extend(message_parts(&said));
             parts
         }

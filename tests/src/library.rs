@@ -27,8 +27,13 @@ mod linked {
             record_length: usize,
         ) -> u8;
         pub fn crane_find_part(table: *const u8, table_length: usize, id: u16, part: u8) -> u64;
-        pub fn crane_read_part(message: *const u8, message_length: usize, part: u8) -> u64;
-        pub fn crane_read_again(message: *const u8, message_length: usize, out: *mut u8, out_length: usize) -> u64;
+        pub fn crane_read_again(
+            message: *const u8,
+            message_length: usize,
+            out: *mut u8,
+            out_length: usize,
+            part: u8,
+        ) -> u64;
         pub fn crane_open_answer(
             table: *const u8,
             table_length: usize,
@@ -83,11 +88,7 @@ mod linked {
         panic!("{ABSENT}")
     }
 
-    pub unsafe fn crane_read_part(_: *const u8, _: usize, _: u8) -> u64 {
-        panic!("{ABSENT}")
-    }
-
-    pub unsafe fn crane_read_again(_: *const u8, _: usize, _: *mut u8, _: usize) -> u64 {
+    pub unsafe fn crane_read_again(_: *const u8, _: usize, _: *mut u8, _: usize, _: u8) -> u64 {
         panic!("{ABSENT}")
     }
 
@@ -140,11 +141,6 @@ pub fn find_part(table: &[u8], id: u16, part: u8) -> u64 {
     unsafe { linked::crane_find_part(table.as_ptr(), table.len(), id, part) }
 }
 
-/// One part of what reading a message alone answers.
-pub fn read_part(message: &[u8], part: u8) -> u64 {
-    unsafe { linked::crane_read_part(message.as_ptr(), message.len(), part) }
-}
-
 /// 0 where a field walk over a record can begin, else 21, 15 or 16.
 pub fn open_answer(table: &[u8], id: u16, record: &[u8]) -> u8 {
     unsafe { linked::crane_open_answer(table.as_ptr(), table.len(), id, record.as_ptr(), record.len()) }
@@ -155,9 +151,9 @@ pub fn count_fields(table: &[u8], id: u16, record: &[u8]) -> u64 {
     unsafe { linked::crane_count_fields(table.as_ptr(), table.len(), id, record.as_ptr(), record.len()) }
 }
 
-/// Reads a message alone and writes what it says to the output; its length plus 256, or the refusal.
-pub fn read_again(message: &[u8], out: &mut [u8]) -> u64 {
-    unsafe { linked::crane_read_again(message.as_ptr(), message.len(), out.as_mut_ptr(), out.len()) }
+/// Reads a message alone and writes what it says to the output; one part of what was read and written.
+pub fn read_again(message: &[u8], out: &mut [u8], part: u8) -> u64 {
+    unsafe { linked::crane_read_again(message.as_ptr(), message.len(), out.as_mut_ptr(), out.len(), part) }
 }
 
 /// One part of what a step of the field walk answers.

@@ -3,7 +3,7 @@ use Prim.Native.Nat.{ℕ, _+_, _%_, _^_}
 use mathlib.Core.Bool.{cond}
 use mathlib.Core.List.{List, [], _∷_}
 use lib.Dec.{eqb}
-use lib.ListN.{getD}
+use lib.ListN.{length, getD}
 use Rattle.octets.specs.Answers.{done, unsoundTable}
 use Rattle.wire.specs.Table.{tableSound}
 use Rattle.wire.specs.Messages.{start, startAck, stop, stopAck, tmplData, finalTmplDataAck, startNegotiate, startNegotiateAck, dataNumber, dataAck, writeOf, writeOut}
@@ -53,53 +53,47 @@ foundPart part f = getD (foundParts f) part 0
 
 -- ---- messages
 
--- The answer 0; the place and the length of the part that is carried; message number, session, Configuration ID, boot time or DSN; no
--- template ID and no flags.
-abbrev pub saying : ℕ → ℕ → ℕ → ℕ → ℕ → ℕ → List ℕ
-saying at len number session config long = done ∷ at ∷ len ∷ number ∷ session ∷ config ∷ long ∷ 0 ∷ 0 ∷ 0 ∷ []
-
--- Those of a DATA, with its template ID and its flags S and D.
-abbrev pub dataParts : ℕ → ℕ → DataHead → List ℕ
-dataParts at len h =
-    done ∷ at ∷ len ∷ dataNumber ∷ h .session ∷ h .config ∷ h .dsn ∷ h .template
-    ∷ cond (h .first) 1 0 ∷ cond (h .duplicate) 1 0 ∷ []
-
--- The parts of a message that carries `len` octets from place `at` on; 0 for what it does not say.
-abbrev pub messageParts : ℕ → ℕ → Message → List ℕ
-messageParts at len (Start s) = saying at len start s 0 0
-messageParts at len (StartAck s boot) = saying at len startAck s 0 boot
-messageParts at len (Stop s) = saying at len stop s 0 0
-messageParts at len (StopAck s) = saying at len stopAck s 0 0
-messageParts at len (TmplData s) = saying at len tmplData s 0 0
-messageParts at len (FinalTmplDataAck s config) = saying at len finalTmplDataAck s config 0
-messageParts at len (StartNegotiate s) = saying at len startNegotiate s 0 0
-messageParts at len (StartNegotiateAck s) = saying at len startNegotiateAck s 0 0
-messageParts at len (Data h) = dataParts at len h
-messageParts at len (DataAck s dsn config) = saying at len dataAck s config dsn
-
--- The parts of what reading alone answers; a refusal is alone.
-abbrev pub readParts : ℕ → ℕ → Reading → List ℕ
-readParts at len (reading.Message m) = messageParts at len m
-readParts at len (reading.Refused a) = a ∷ []
-
--- One of them by its number, 0 where there is none.
-abbrev pub readPart : ℕ → ℕ → ℕ → Reading → ℕ
-readPart part at len r = getD (readParts at len r) part 0
-
 -- How many octets were written plus 256, or the refusal.
 abbrev pub writtenNumber : Written → ℕ
 writtenNumber (written.Octets n) = acceptedNumber n
 writtenNumber (written.Refused a) = a
 
--- What is read is written with its part: the number of what writing answers, or the reading's refusal.
-abbrev pub againNumber : Reading → List ℕ → List ℕ → ℕ
-againNumber (reading.Message m) part out = writtenNumber (writeOf m part out)
-againNumber (reading.Refused a) part out = a
+-- Message number, session, Configuration ID, boot time or DSN; no template ID and no flags.
+abbrev pub saying : ℕ → ℕ → ℕ → ℕ → List ℕ
+saying number session config long = number ∷ session ∷ config ∷ long ∷ 0 ∷ 0 ∷ 0 ∷ []
+
+-- Those of a DATA, with its template ID and its flags S and D.
+abbrev pub dataSaying : DataHead → List ℕ
+dataSaying h =
+    dataNumber ∷ h .session ∷ h .config ∷ h .dsn ∷ h .template ∷ cond (h .first) 1 0 ∷ cond (h .duplicate) 1 0 ∷ []
+
+-- What a message says, 0 for what it does not say.
+abbrev pub saidBy : Message → List ℕ
+saidBy (Start s) = saying start s 0 0
+saidBy (StartAck s boot) = saying startAck s 0 boot
+saidBy (Stop s) = saying stop s 0 0
+saidBy (StopAck s) = saying stopAck s 0 0
+saidBy (TmplData s) = saying tmplData s 0 0
+saidBy (FinalTmplDataAck s config) = saying finalTmplDataAck s config 0
+saidBy (StartNegotiate s) = saying startNegotiate s 0 0
+saidBy (StartNegotiateAck s) = saying startNegotiateAck s 0 0
+saidBy (Data h) = dataSaying h
+saidBy (DataAck s dsn config) = saying dataAck s config dsn
+
+-- A message that is read is written with its part, which begins at place `at`: the number of what writing answers, the part's place and
+-- length, and what the message says. A refused reading is alone.
+abbrev pub againParts : ℕ → List ℕ → List ℕ → Reading → List ℕ
+againParts at part out (reading.Message m) = writtenNumber (writeOf m part out) ∷ at ∷ length part ∷ saidBy m
+againParts at part out (reading.Refused a) = a ∷ []
+
+-- One of them by its number, 0 where there is none.
+abbrev pub againPart : ℕ → ℕ → List ℕ → List ℕ → Reading → ℕ
+againPart number at part out r = getD (againParts at part out r) number 0
 
 -- The output afterwards; where nothing is read, as it was.
-abbrev pub againOut : Reading → List ℕ → List ℕ → List ℕ
-againOut (reading.Message m) part out = writeOut m part out
-againOut (reading.Refused a) part out = out
+abbrev pub againOut : List ℕ → List ℕ → Reading → List ℕ
+againOut part out (reading.Message m) = writeOut m part out
+againOut part out (reading.Refused a) = out
 
 -- ---- the field walk
 

@@ -1,13 +1,13 @@
-// Messages: read alone, their parts, and written again.
+// Messages, read alone and written again. `read_message` is called once in this crate, so that the compiler puts it in its caller's place.
 ghost use mathlib.Core.Path.{_≡_};
 ghost use mathlib.Core.Bool.{cond};
-ghost use lib.ListN.{length, getD};
+ghost use mathlib.Core.List.{_∷_};
+ghost use lib.ListN.{getD};
 ghost use Rattle.octets.specs.Answers.{done};
 ghost use Rattle.wire.specs.Messages.{readAnswer, readOf, partAt, partOf};
-ghost use Rattle.exports.specs.Numbers.{saying, dataParts, messageParts, readPart, writtenNumber, againNumber, againOut};
+ghost use Rattle.exports.specs.Numbers.{saying, dataSaying, saidBy, writtenNumber, againPart, againOut};
 use crate::numbers::accepted;
 use crate::numbers::sole_part;
-use octets::Answer;
 use wire::message::DATA_HEAD_OCTETS;
 use wire::message::DataHead;
 use wire::message::HEADER_OCTETS;
@@ -38,11 +38,11 @@ fn part_place(message: &[u8]) -> usize
 }
 
 // The parts of a message that says no more than its number, its session, a Configuration ID and a number of 32 bits.
-fn said(at: usize, len: usize, number: u8, session: u8, config: u8, long: u32) -> [u64; 10]
-    ensures { λ r. ⌜ r ≡ saying at len number session config long ⌝ }
+fn said(n: u64, at: usize, len: usize, number: u8, session: u8, config: u8, long: u32) -> [u64; 10]
+    ensures { λ r. ⌜ r ≡ n ∷ at ∷ len ∷ saying number session config long ⌝ }
 {
     [
-        Answer::DONE as u64,
+        n,
         at as u64,
         len as u64,
         number as u64,
@@ -56,18 +56,18 @@ fn said(at: usize, len: usize, number: u8, session: u8, config: u8, long: u32) -
 }
 
 // The parts of a message that says no more than its number and its session.
-fn bare(at: usize, len: usize, number: u8, session: u8) -> [u64; 10]
-    ensures { λ r. ⌜ r ≡ saying at len number session 0 0 ⌝ }
+fn bare(n: u64, at: usize, len: usize, number: u8, session: u8) -> [u64; 10]
+    ensures { λ r. ⌜ r ≡ n ∷ at ∷ len ∷ saying number session 0 0 ⌝ }
 {
-    said(at, len, number, session, 0, 0)
+    said(n, at, len, number, session, 0, 0)
 }
 
 // The parts of a DATA message.
-fn data_parts(at: usize, len: usize, head: DataHead) -> [u64; 10]
-    ensures { λ r. ⌜ r ≡ dataParts at len head ⌝ }
+fn data_parts(n: u64, at: usize, len: usize, head: DataHead) -> [u64; 10]
+    ensures { λ r. ⌜ r ≡ n ∷ at ∷ len ∷ dataSaying head ⌝ }
 {
     [
-        Answer::DONE as u64,
+        n,
         at as u64,
         len as u64,
         Message::DATA as u64,
@@ -80,13 +80,14 @@ fn data_parts(at: usize, len: usize, head: DataHead) -> [u64; 10]
     ]
 }
 
-// The parts of a message that carries `len` octets from place `at` on.
-fn message_parts(at: usize, len: usize, m: Message) -> [u64; 10]
-    ensures { λ r. ⌜ r ≡ messageParts at len m ⌝ }
+// The parts of a message that carries `len` octets from place `at` on, and of which writing answered the number n.
+fn message_parts(n: u64, at: usize, len: usize, m: Message) -> [u64; 10]
+    ensures { λ r. ⌜ r ≡ n ∷ at ∷ len ∷ saidBy m ⌝ }
 {
     match m {
-        Message::Start { session } => bare(at, len, Message::START, session),
+        Message::Start { session } => bare(n, at, len, Message::START, session),
         Message::StartAck { session, boot_time } => said(
+            n,
             at,
             len,
             Message::START_ACK,
@@ -94,10 +95,11 @@ fn message_parts(at: usize, len: usize, m: Message) -> [u64; 10]
             0,
             boot_time,
         ),
-        Message::Stop { session } => bare(at, len, Message::STOP, session),
-        Message::StopAck { session } => bare(at, len, Message::STOP_ACK, session),
-        Message::TmplData { session } => bare(at, len, Message::TMPL_DATA, session),
+        Message::Stop { session } => bare(n, at, len, Message::STOP, session),
+        Message::StopAck { session } => bare(n, at, len, Message::STOP_ACK, session),
+        Message::TmplData { session } => bare(n, at, len, Message::TMPL_DATA, session),
         Message::FinalTmplDataAck { session, config } => said(
+            n,
             at,
             len,
             Message::FINAL_TMPL_DATA_ACK,
@@ -105,19 +107,20 @@ fn message_parts(at: usize, len: usize, m: Message) -> [u64; 10]
             config,
             0,
         ),
-        Message::StartNegotiate { session } => bare(at, len, Message::START_NEGOTIATE, session),
+        Message::StartNegotiate { session } => bare(n, at, len, Message::START_NEGOTIATE, session),
         Message::StartNegotiateAck { session } => bare(
+            n,
             at,
             len,
             Message::START_NEGOTIATE_ACK,
             session,
         ),
-        Message::Data(head) => data_parts(at, len, head),
+        Message::Data(head) => data_parts(n, at, len, head),
         Message::DataAck {
             session,
             dsn,
             config,
-        } => said(at, len, Message::DATA_ACK, session, config, dsn),
+        } => said(n, at, len, Message::DATA_ACK, session, config, dsn),
     }
 }
 
@@ -127,23 +130,6 @@ fn one_of(part: u8, parts: [u64; 10]) -> u64
 {
     let i = part as usize;
     if i < 10 { parts[i] } else { 0 }
-}
-
-// A part of what reading a message alone answers, by its number: 0 the answer, and of a message 1 and 2 the place and the length of the part
-// that it carries, 3 its number, 4 its session, 5 its Configuration ID, 6 its boot time or DSN, 7 its template ID, 8 and 9 its flags S and
-// D; 0 for what it does not say.
-#[no_mangle]
-pub extern "C" fn crane_read_part(message: &[u8], part: u8) -> u64
-    ensures { λ n. ⌜ n ≡ readPart part (partAt (now (message .entry))) (length (partOf (now (message .entry)))) (readOf (now (message .entry))) ⌝ }
-{
-    let reading = wire::message::read_message(message);
-    match reading {
-        Reading::Message(m) => {
-            let len = wire::message::message_part(message).len();
-            one_of(part, message_parts(part_place(message), len, m))
-        }
-        Reading::Refused(a) => sole_part(part, a as u64),
-    }
 }
 
 // The number of what writing a message answers: how many octets were written plus 256, or the refusal.
@@ -156,19 +142,29 @@ fn written_number(written: Written) -> u64
     }
 }
 
-// Reads a message alone and, where it can be read, writes what it says with its part to the output: how many octets were written plus 256,
-// or the reading's or else the writing's refusal.
+// Reads a message alone and, where it can be read, writes what it says with its part to the output. Answers a part of what was read and
+// written, by its number: 0 how many octets were written plus 256, or the reading's or else the writing's refusal; 1 and 2 the place and the
+// length of the part that the message carries, 3 its number, 4 its session, 5 its Configuration ID, 6 its boot time or DSN, 7 its template
+// ID, 8 and 9 its flags S and D; 0 for what it does not say, and for what could not be read.
 #[no_mangle]
-pub extern "C" fn crane_read_again(message: &[u8], out: &mut [u8]) -> u64
-    ensures { λ n. ⌜ (n ≡ againNumber (readOf (now (message .entry))) (partOf (now (message .entry))) (now (out .entry)))
-        × (now (out .exit) ≡ againOut (readOf (now (message .entry))) (partOf (now (message .entry))) (now (out .entry))) ⌝ }
+pub extern "C" fn crane_read_again(message: &[u8], out: &mut [u8], part: u8) -> u64
+    ensures { λ n. ⌜ (n ≡ againPart part (partAt (now (message .entry))) (partOf (now (message .entry))) (now (out .entry)) (readOf (now (message .entry))))
+        × (now (out .exit) ≡ againOut (partOf (now (message .entry))) (now (out .entry)) (readOf (now (message .entry)))) ⌝ }
 {
     let reading = wire::message::read_message(message);
     match reading {
         Reading::Message(m) => {
-            let part = wire::message::message_part(message);
-            written_number(wire::message::write_message(m, part, out))
+            let carried = wire::message::message_part(message);
+            let written = written_number(wire::message::write_message(m, carried, out));
+            // What benchmarks ask for comes first.
+            if part == 0 {
+                return written;
+            }
+            one_of(
+                part,
+                message_parts(written, part_place(message), carried.len(), m),
+            )
         }
-        Reading::Refused(a) => a as u64,
+        Reading::Refused(a) => sole_part(part, a as u64),
     }
 }

@@ -108,8 +108,7 @@ fn sound_message(random: &mut Random) -> MessageParts {
     MessageParts { flags, ..MessageParts::new(number, session, body) }
 }
 
-/// A message: sound, or with one damage.
-fn message(random: &mut Random) -> Vec<u8> {
+pub fn message(random: &mut Random) -> Input {
     let mut parts = sound_message(random);
     let length = parts.octets().len() as u32;
     let mut cut = usize::MAX;
@@ -134,17 +133,8 @@ fn message(random: &mut Random) -> Vec<u8> {
         let count = random.below(40);
         message = random.octets(count);
     }
-    message
-}
-
-pub fn read(random: &mut Random) -> Input {
-    Input::Read { message: message(random) }
-}
-
-pub fn again(random: &mut Random) -> Input {
-    let message = message(random);
     let out = output_near(random, message.len());
-    Input::Again { message, out }
+    Input::Message { message, out }
 }
 
 fn flipped_if_any(random: &mut Random, octets: Vec<u8>) -> Vec<u8> {

@@ -206,10 +206,3 @@ fn body_octets(message: &Message, part: &[u8]) -> Vec<u8> {
         _ => Vec::new(),
     }
 }
-
-/// Reads a message alone and, where it is read, writes what it says, with its part, to the output:
-/// its length, or the reading's refusal, or else the writing's.
-pub fn read_again(m: &[u8], out: &mut [u8]) -> Result<usize, u8> {
-    let (message, part) = read(m)?;
-    write(&message, part, out)
-}

@@ -1,7 +1,7 @@
 //! Tests of tables, records, the field walk, appending and messages.
 
 use super::append::append;
-use super::message::{read, read_again, write, Message};
+use super::message::{read, write, Message};
 use super::record::judge;
 use super::table::{configuration_id, is_sound};
 use super::tests_support::{blob, blob_table, block_of, hex, sample_table, table_of};
@@ -452,4 +452,10 @@ fn refused_writing_changes_nothing() {
     let mut out = [0xee; 17];
     assert_eq!(write(&example_data(), &hex("0005"), &mut out), Err(12));
     assert_eq!(out, [0xee; 17]);
+}
+
+/// Reads a message and writes what it says with its part.
+fn read_again(m: &[u8], out: &mut [u8]) -> Result<usize, u8> {
+    let (message, part) = read(m)?;
+    write(&message, part, out)
 }

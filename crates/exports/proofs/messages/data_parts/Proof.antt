@@ -3,9 +3,6 @@ use borrow.Author.Needs.{needs}
 use Rattle.exports.proofs.messages.data_parts.Statement.{statement}
 use Rattle.exports.proofs.messages.data_parts.Tie as tie
 
-cast-t4 : tie.Need-cast-t4
-cast-t4 c = search needs
-
 cast-t7 : tie.Need-cast-t7
 cast-t7 c = search needs
 
@@ -33,13 +30,4 @@ returns c = rw (c .bit2 .ensures, c .before .bit .ensures)
 pub data-parts-spec : {M : Type 1} → statement M
 data-parts-spec =
     tie.close
-    (tie.spec
-    cast-t4
-    cast-t7
-    cast-t8
-    cast-t9
-    cast-t10
-    cast-t11
-    bit-requires
-    bit-requires-2
-    returns)
+    (tie.spec cast-t7 cast-t8 cast-t9 cast-t10 cast-t11 bit-requires bit-requires-2 returns)
