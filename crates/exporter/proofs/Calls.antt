@@ -17,9 +17,10 @@ use Rattle.octets.proofs.Judging.{passed}
 use Rattle.wire.proofs.Each.{and-left, and-right}
 use Rattle.wire.specs.Table.{isMissing, templateOf}
 use Rattle.wire.specs.Record.{recordValid}
+use Rattle.wire.specs.Messages.{maxRecordOctets}
 use Rattle.exporter.specs.Servers.{sameActive, changed, settle, Transition, start, stop, negotiate, offer, down, agree, malformed}
 use Rattle.exporter.specs.Queue.{Entry, sumOf, heldOctets, held}
-use Rattle.exporter.specs.Sound.{maxHeld, maxRecordOctets}
+use Rattle.exporter.specs.Limits.{maxHeld}
 use Rattle.exporter.specs.Steps.{modulus, ackCount, Call, put, nextData, tick, ack, move, isDuplicate, headOf, written, isSessions, checks, soundFor, answer, after, settled, storeAfter, Outcome, step}
 use Rattle.exporter.specs.History.{Ledger, History, dsnOf, ackPlace, deliveryAfter, ledgerAfter, afterAccepted, afterCall}
 use Rattle.exporter.specs.Claim.{Session, InRange, entryAt, nextPlace, isDuplicateFor, dueMessage, octetsIn, dueChecks, Named, ReleasedBy, CallClaim, Account}

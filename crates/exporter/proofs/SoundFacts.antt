@@ -9,10 +9,11 @@ use lib.ListN.{getD}
 use borrow.Author.Tests.{not-true, not-false, leb-true, ltb-true, eqb-true, le-leb, lt-ltb, eq-eqb}
 use Rattle.wire.specs.Each.{every, allOf}
 use Rattle.wire.proofs.Each.{and-left, and-right, every-at, every-intro, clause-first, clause-rest, cond-same}
+use Rattle.wire.specs.Messages.{maxRecordOctets}
 use Rattle.exporter.specs.Limits.{maxServers, maxThreshold, minStoreOctets, maxStoreOctets, maxHeld}
 use Rattle.exporter.specs.Servers.{sameActive, chosen}
 use Rattle.exporter.specs.Queue.{heldOctets, has}
-use Rattle.exporter.specs.Sound.{maxRecordOctets, settingsSound, numbersSound, entrySound, activationSound, sound}
+use Rattle.exporter.specs.Sound.{settingsSound, numbersSound, entrySound, activationSound, sound}
 use Rattle.exporter.specs.Changes.{stateOf}
 use Rattle.exporter.specs.declared.state.Active.{Active}
 use Rattle.exporter.specs.declared.state.Active.the-variants.{Nobody, Server}

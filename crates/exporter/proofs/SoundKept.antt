@@ -17,9 +17,11 @@ use lib.Seq.{getD-set-same, getD-set-other}
 use borrow.Author.Tests.{leb-false, ltb-false, eqb-true, eqb-false, eq-eqb}
 use Rattle.octets.specs.Answers.{_when_, judge, done, unsoundState, settingsOutsideLimits}
 use Rattle.octets.proofs.Judging.{passed}
+use Rattle.wire.specs.Messages.{maxRecordOctets}
 use Rattle.exporter.specs.Servers.{isNobody, chosen, changed, settle, withServers, withCounts, transition, sentOne, acknowledged, lateServers, anotherAgreed, expired, tickedFor, ticked}
 use Rattle.exporter.specs.Queue.{sumOf, octetsTo, heldOctets, has, with, markedSet, pushed, dropFront, marked}
-use Rattle.exporter.specs.Sound.{maxHeld, maxRecordOctets, settingsSound, sound}
+use Rattle.exporter.specs.Limits.{maxHeld}
+use Rattle.exporter.specs.Sound.{settingsSound, sound}
 use Rattle.exporter.specs.Steps.{Call, put, nextData, tick, ack, move, ackCount, checks, soundFor, answer, withDelivery, after, settled, step, fresh, refusedState, setUp}
 use Rattle.exporter.specs.declared.state.Server as serverOf
 use Rattle.exporter.specs.declared.state.Active.{Active}

@@ -10,12 +10,13 @@ use Rattle.octets.specs.Answers.{Check, _when_, judge, done, unsoundState, noSu
 use Rattle.octets.specs.Numbers.{Octets}
 use Rattle.wire.specs.Table.{isMissing, templateOf}
 use Rattle.wire.specs.Record.{recordValid}
-use Rattle.wire.specs.Messages.{layoutOf}
+use Rattle.wire.specs.Messages.{maxRecordOctets, layoutOf}
 use Rattle.wire.specs.declared.message.DataHead.{DataHead}
 use Rattle.wire.specs.declared.message.Message.the-variants.{Data}
 use Rattle.exporter.specs.Servers.{sameActive, isNobody, phaseAt, offer, down}
 use Rattle.exporter.specs.Queue.{Entry, held}
-use Rattle.exporter.specs.Sound.{sound, maxHeld, maxRecordOctets}
+use Rattle.exporter.specs.Limits.{maxHeld}
+use Rattle.exporter.specs.Sound.{sound}
 use Rattle.exporter.specs.Steps.{modulus, Call, put, nextData, tick, ack, move, received, isSessions, replyTo, transitionChecks, Outcome, putStep, nextDataStep, receiveStep, offerStep, lineDownStep, tickStep, setUp}
 use Rattle.exporter.specs.History.{Writing, Ledger, History, dsnOf, placeOf, ackPlace, afterCall, freshHistory, anyWriting, writtenIn, writtenDuring}
 use Rattle.exporter.specs.declared.state.Active.{Active}
@@ -225,9 +226,9 @@ dueChecks z capacity room table h hs (move v m) =
 -- A DATA ACK's place is the only one of the 65 from the released number on with its DSN, and is that number or an accepted record's.
 pub record Named (w : ℕ) (p : Settings) (l : Ledger) (d : ℕ) : Type 0 where
   pub from : l .released ≤ ackPlace w p l d
-  pub upTo : ackPlace w p l d ≤ l .released + 64
+  pub upTo : ackPlace w p l d ≤ l .released + maxHeld
   pub carries : dsnOf w p (ackPlace w p l d) ≡ d
-  pub only : (q : ℕ) → l .released ≤ q → q ≤ l .released + 64 → dsnOf w p q ≡ d → q ≡ ackPlace w p l d
+  pub only : (q : ℕ) → l .released ≤ q → q ≤ l .released + maxHeld → dsnOf w p q ≡ d → q ≡ ackPlace w p l d
   pub accepted : ackPlace w p l d ≤ length (l .records)
 
 -- Place q is released by call c: c is a DATA ACK of the active server, and q was written to that server in the present activation.
@@ -247,7 +248,7 @@ pub record CallClaim (z : Session) (capacity room : ℕ) (table : List ℕ) (h :
   -- an accepted call writes its message, and no other call writes
   pub writes : o .written ≡ cond (eqb (o .answer) done) (dueMessage z table h c) []
   -- the DSN of a DATA stands for its place: no other record that may be held has it, and the record was accepted
-  pub standsFor : c ≡ nextData → o .answer ≡ done → (q : ℕ) → h .ledger .released < q → q ≤ h .ledger .released + 64
+  pub standsFor : c ≡ nextData → o .answer ≡ done → (q : ℕ) → h .ledger .released < q → q ≤ h .ledger .released + maxHeld
       → dsnOf (z .width) (z .settings) q ≡ dsnOf (z .width) (z .settings) (nextPlace h) → q ≡ nextPlace h
   pub accepted : c ≡ nextData → o .answer ≡ done → nextPlace h ≤ length (h .ledger .records)
   -- an accepted DATA ACK names one place

@@ -4,12 +4,11 @@ use Prim.Native.Nat.{ℕ, zero, suc, _+_, _-_, _%_}
 use mathlib.Core.Bool.{Bool, false, _&&_, _||_, cond}
 use mathlib.Core.List.{List, [], _∷_, _++_}
 use lib.Dec.{eqb}
-use lib.ListN.{replicate}
 use Rattle.octets.specs.Answers.{done}
-use Rattle.exporter.specs.Servers.{server, changed, settle, withServers, transition, sentOne, acknowledged, ticked}
+use Rattle.exporter.specs.Limits.{maxHeld}
+use Rattle.exporter.specs.Servers.{freshDelivery, changed, settle, withServers, transition, sentOne, acknowledged, ticked}
 use Rattle.exporter.specs.Queue.{Entry}
 use Rattle.exporter.specs.Steps.{modulus, Call, put, nextData, tick, ack, move}
-use Rattle.exporter.specs.declared.state.Phase.the-variants.{Closed}
 use Rattle.exporter.specs.declared.state.Active.{Active}
 use Rattle.exporter.specs.declared.state.Active.the-variants as active
 use Rattle.exporter.specs.declared.state.Settings.{Settings}
@@ -34,16 +33,19 @@ pub record History : Type 0 where
   pub delivery : Delivery
   pub ledger : Ledger
 
--- A ledger with other records, another released number, one more writing, and another activation.
+-- The ledger with these records.
 abbrev pub withRecords : Ledger → List Entry → Ledger
 withRecords l records = record { records = records; released = l .released; writings = l .writings; activation = l .activation }
 
+-- The ledger with n records released.
 abbrev pub withReleased : Ledger → ℕ → Ledger
 withReleased l n = record { records = l .records; released = n; writings = l .writings; activation = l .activation }
 
+-- The ledger with one more writing.
 abbrev pub withWriting : Ledger → Writing → Ledger
 withWriting l x = record { records = l .records; released = l .released; writings = x ∷ l .writings; activation = l .activation }
 
+-- The ledger in activation k.
 abbrev pub withActivation : Ledger → ℕ → Ledger
 withActivation l k = record { records = l .records; released = l .released; writings = l .writings; activation = k }
 
@@ -58,7 +60,7 @@ placeOf w p (suc n) q d = cond (eqb (dsnOf w p q) d) q (placeOf w p n (q + 1) d)
 
 -- The place that a DATA ACK of DSN d names: one of the 65 from the released number on.
 abbrev pub ackPlace : ℕ → Settings → Ledger → ℕ → ℕ
-ackPlace w p l d = placeOf w p 64 (l .released) d
+ackPlace w p l d = placeOf w p maxHeld (l .released) d
 
 -- The delivery takes the exporter's steps; how many records a DATA ACK releases is counted by places.
 unfoldable pub deliveryAfter : ℕ → Settings → Call → Ledger → Delivery → Delivery
@@ -97,7 +99,7 @@ afterCall w p c answer h = cond (eqb answer done) (afterAccepted w p c h) h
 unfoldable pub freshHistory : History
 freshHistory =
     record {
-      delivery = record { servers = replicate 8 (server Closed); active = active.Nobody; sent = 0; reached = 0; timer = 0 };
+      delivery = freshDelivery;
       ledger = record { records = []; released = 0; writings = []; activation = 0 };
     }
 

@@ -5,9 +5,8 @@ use mathlib.Core.List.{List, [], _∷_}
 use lib.Dec.{eqb, leb, ltb}
 use lib.ListN.{getD}
 use Rattle.wire.specs.Each.{every, allOf}
-pub use Rattle.wire.specs.Messages.{maxRecordOctets}
-pub use Rattle.exporter.specs.Limits.{maxHeld}
-use Rattle.exporter.specs.Limits.{maxServers, maxThreshold, minStoreOctets, maxStoreOctets}
+use Rattle.wire.specs.Messages.{maxRecordOctets}
+use Rattle.exporter.specs.Limits.{maxServers, maxThreshold, minStoreOctets, maxStoreOctets, maxHeld}
 use Rattle.exporter.specs.Servers.{sameActive, chosen}
 use Rattle.exporter.specs.Queue.{heldOctets, has}
 use Rattle.exporter.specs.declared.state.Active.{Active}
