@@ -242,7 +242,7 @@ pub record ReleasedBy (h : History) (c : Call) (q : ℕ) : Type 0 where
 
 -- Answers, messages and releases, sentence by sentence.
 pub record CallClaim (z : Session) (capacity room : ℕ) (table : List ℕ) (h : History) (hs : List Entry) (c : Call) (o : Outcome) : Type 0 where
-  -- the answer is the first refusal that is due, and never 1
+  -- the answer is the first refusal that is due, and so never 1
   pub answered : o .answer ≡ judge (dueChecks z capacity room table h hs c)
   pub neverUnsound : o .answer ≢ unsoundState
   -- an accepted call writes its message, and no other call writes
@@ -255,8 +255,8 @@ pub record CallClaim (z : Session) (capacity room : ℕ) (table : List ℕ) (h :
   pub names : (v d config : ℕ) → c ≡ ack v d config → o .answer ≡ done → Named (z .width) (z .settings) (h .ledger) d
   -- whatever a call releases was written to the acknowledging server in its activation
   pub releases : (q : ℕ) → h .ledger .released < q → q ≤ afterCall (z .width) (z .settings) c (o .answer) h .ledger .released → ReleasedBy h c q
-  -- under a sound table of the session's Configuration ID a valid record of at most 1,024 octets is refused exactly where 64 are held or its
-  -- octets do not fit beside the held ones
+  -- a sentence of the demand, which follows from `answered`: under a sound table of the session's Configuration ID a valid record of at most
+  -- 1,024 octets is refused exactly where 64 are held or its octets do not fit beside the held ones
   pub putting : (id : ℕ) (r : List ℕ) → c ≡ put id r → isSessions (z .settings) table ≡ true → isMissing table id ≡ false
       → recordValid table (templateOf table id) r ≡ true → length r ≤ maxRecordOctets
       → not (eqb (o .answer) done) ≡ (leb maxHeld (length hs) || ltb capacity (octetsIn hs + length r))
@@ -299,7 +299,8 @@ historyOf z store es = historyFrom (z .width) (z .settings) freshHistory (transc
 pub record Claim (z : Session) (store : List ℕ) (es : List Event) : Type 0 where
   -- the accepted records are the released ones, then the held ones as they are read from state and store
   pub account : let x = run z (begin z store) es in Account (historyOf z store es .ledger) (held (x .state) (x .store))
-  -- the number released is the place named by the last accepted DATA ACK, 0 before the first
+  -- the history counts releases as it should, whatever the exporter does: the number released is the place named by the last accepted
+  -- DATA ACK, 0 before the first
   pub last : historyOf z store es .ledger .released ≡ lastNamed (z .width) (z .settings) freshHistory 0 (transcript z (begin z store) es)
   -- every call is answered, writes and releases as the history has it
   pub calls : Calls z (begin z store) freshHistory es
