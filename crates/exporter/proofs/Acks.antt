@@ -11,20 +11,21 @@ use borrow.Author.Tests.{eqb-true, eqb-false, ltb-false, ne-eqb}
 use lib.Dec.{eqb}
 use Rattle.octets.specs.Answers.{judge, done, unsoundState}
 use Rattle.octets.proofs.Judging.{passed}
-use Rattle.exporter.specs.Servers.{chosen, withCounts, acknowledged}
-use Rattle.exporter.specs.Queue.{octetsTo, shifted, dropFront}
-use Rattle.exporter.specs.Sound.{sound}
-use Rattle.exporter.specs.Steps.{ackCount, ack, checks, answer, after, settled, written, step, wroteOf, outputAfter, ackCountBy, ackChecks}
-use Rattle.exporter.specs.Changes.{stateOf}
+use Rattle.session.specs.Servers.{chosen, withCounts, acknowledged}
+use Rattle.session.specs.Queue.{octetsTo, shifted, dropFront}
+use Rattle.session.specs.Sound.{sound}
+use Rattle.session.specs.Steps.{ackCount, ack, checks, answer, after, settled, written, step, wroteOf, outputAfter, ackCountBy, ackChecks}
+use Rattle.session.specs.Parts.{stateOf}
 use Rattle.exporter.specs.Moves.{ackChangeOf}
 use Rattle.exporter.specs.declared.acknowledge.AckChange.{AckChange}
-use Rattle.exporter.specs.declared.state.Queue.{Queue}
-use Rattle.exporter.specs.declared.state.Settings.{Settings}
-use Rattle.exporter.specs.declared.state.Delivery.{Delivery}
-use Rattle.exporter.specs.declared.state.State.{State}
-use Rattle.exporter.specs.declared.state.Wrote.{Wrote}
-use Rattle.exporter.proofs.SoundFacts.{sound-facts}
-use Rattle.exporter.proofs.Changes.{partsIn, settled-same, step-refused, step-done}
+use Rattle.session.specs.declared.state.Queue.{Queue}
+use Rattle.session.specs.declared.state.Settings.{Settings}
+use Rattle.session.specs.declared.state.Delivery.{Delivery}
+use Rattle.session.specs.declared.state.State.{State}
+use Rattle.session.specs.declared.state.Wrote.{Wrote}
+use Rattle.session.proofs.SoundFacts.{sound-facts}
+use Rattle.exporter.proofs.Changes.{partsIn}
+use Rattle.session.proofs.StepLaws.{settled-same, step-refused, step-done}
 
 -- ---- numbers that wrap at m
 

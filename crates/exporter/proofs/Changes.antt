@@ -9,36 +9,20 @@ use lib.Dec.{eqb, leb}
 use lib.ListN.{length}
 use lib.Seq.{sets}
 use Rattle.octets.specs.Answers.{judge, done, unsoundState, noSuchServer}
-use Rattle.exporter.specs.Servers.{chosen, settle, changed, phaseAt, withServers, Transition, transition}
-use Rattle.exporter.specs.Sound.{sound}
-use Rattle.exporter.specs.Steps.{Outcome, Call, step, answer, checks, after, settled, storeAfter, written, move, replyTo, transitionChecks, outputAfter, wroteOf}
-use Rattle.exporter.specs.Changes.{stateOf, changeOf, appliedTo, settledChange, refusedChange}
+use Rattle.session.specs.Servers.{chosen, settle, changed, phaseAt, withServers, Transition, transition}
+use Rattle.session.specs.Sound.{sound}
+use Rattle.session.specs.Steps.{Outcome, Call, step, answer, checks, after, settled, storeAfter, written, move, replyTo, transitionChecks, outputAfter, wroteOf}
+use Rattle.exporter.specs.Changes.{changeOf, appliedTo, settledChange, refusedChange}
+use Rattle.session.specs.Parts.{stateOf}
 use Rattle.exporter.specs.declared.change.Change.{Change}
-use Rattle.exporter.specs.declared.state.State.{State}
-use Rattle.exporter.specs.declared.state.Wrote.{Wrote}
-use Rattle.exporter.proofs.SoundFacts.{active-same, parts-of}
+use Rattle.session.specs.declared.state.State.{State}
+use Rattle.session.specs.declared.state.Wrote.{Wrote}
+use Rattle.session.proofs.SoundFacts.{parts-of}
+use Rattle.session.proofs.StepLaws.{settled-same, step-refused, step-done}
 
 -- the parts of a state that soundness looks at
 abbrev pub partsIn : State → State
 partsIn s = stateOf (s .settings) (s .capacity) (s .delivery) (s .due) (s .queue .count) (s .queue .lengths) [] (s .queue .receivers) (s .start) 0
-
--- where the active server is the one to be chosen, choosing changes nothing
-pub settled-same : (s : State) → s .delivery .active ≡ chosen (s .settings) (s .delivery) → settled s ≡ s
-unfolding settled settle changed
-settled-same s e = rw (← e, active-same (s .delivery .active))
-
--- ---- calls that are refused, and those that are not
-
-module _ (w : ℕ) (table : List ℕ) (room : ℕ) (c : Call) (s : State) (store : List ℕ) where
-  pub step-refused : (a : ℕ) → (a ≡ done → ⊥) → answer w table room c s store ≡ a
-      → step w table room c s store ≡ record { answer = a; state = s; store = store; written = [] }
-  unfolding step
-  step-refused a h e = rw (e, ne-eqb a done h)
-
-  pub step-done : answer w table room c s store ≡ done
-      → step w table room c s store ≡ record { answer = done; state = settled (after w c s); store = storeAfter c s store; written = written w table c s store }
-  unfolding step
-  step-done e = rw e
 
 -- ---- transitions
 

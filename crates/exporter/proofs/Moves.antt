@@ -20,14 +20,14 @@ use Rattle.wire.specs.declared.message.Written.{Written}
 use Rattle.wire.specs.declared.message.Written.the-variants as written
 use Rattle.wire.proofs.Messages.{allowed, placed}
 use Rattle.wire.proofs.Each.{and-left}
-use Rattle.exporter.specs.Servers.{phaseAt, Transition, start, stop, negotiate, offer, down, agree, malformed}
-use Rattle.exporter.specs.Steps.{move, answer, replyTo, transitionChecks, isSessions, turnChecks}
-use Rattle.exporter.specs.Sound.{sound}
-use Rattle.exporter.specs.declared.state.State.{State}
+use Rattle.session.specs.Servers.{phaseAt, Transition, start, stop, negotiate, offer, down, agree, malformed}
+use Rattle.session.specs.Steps.{move, answer, replyTo, transitionChecks, isSessions, turnChecks}
+use Rattle.session.specs.Sound.{sound}
+use Rattle.session.specs.declared.state.State.{State}
 use Rattle.exporter.proofs.Changes.{move-judged}
 use Rattle.exporter.specs.Moves.{tableFits}
-use Rattle.exporter.specs.declared.state.Phase.{Phase}
-use Rattle.exporter.specs.declared.state.Settings.{Settings}
+use Rattle.session.specs.declared.state.Phase.{Phase}
+use Rattle.session.specs.declared.state.Settings.{Settings}
 
 -- ---- refusals
 

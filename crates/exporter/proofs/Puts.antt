@@ -13,16 +13,17 @@ use borrow.Author.Tests.{not-false, ne-eqb, eqb-true, eqb-false, leb-false, ltb-
 use Rattle.octets.specs.Answers.{_when_, judge, done, unsoundState}
 use Rattle.octets.proofs.Judging.{passed, judged-first, judged-next}
 use Rattle.wire.proofs.Each.{and-left, and-right}
-use Rattle.exporter.specs.Sound.{sound}
-use Rattle.exporter.specs.Steps.{put, answer, checks, soundFor, after, storeAfter, putStep, steppedOf, recordChecks, roomChecks}
-use Rattle.exporter.specs.Queue.{heldOctets, ringWrite, pushed}
+use Rattle.session.specs.Sound.{sound}
+use Rattle.session.specs.Steps.{put, answer, checks, soundFor, after, storeAfter, putStep, steppedOf, recordChecks, roomChecks}
+use Rattle.session.specs.Queue.{heldOctets, ringWrite, pushed}
 use Rattle.exporter.specs.Changes.{puttingOf}
 use Rattle.exporter.specs.declared.put.Putting.{Putting}
-use Rattle.exporter.specs.declared.state.Settings.{Settings}
-use Rattle.exporter.specs.declared.state.Stepped.{Stepped}
-use Rattle.exporter.specs.declared.state.State.{State}
-use Rattle.exporter.proofs.SoundFacts.{sound-facts, parts-of}
-use Rattle.exporter.proofs.Changes.{partsIn, settled-same, step-done, step-refused}
+use Rattle.session.specs.declared.state.Settings.{Settings}
+use Rattle.session.specs.declared.state.Stepped.{Stepped}
+use Rattle.session.specs.declared.state.State.{State}
+use Rattle.session.proofs.SoundFacts.{sound-facts, parts-of}
+use Rattle.exporter.proofs.Changes.{partsIn}
+use Rattle.session.proofs.StepLaws.{settled-same, step-done, step-refused}
 
 -- wire's answer to a record, with the Configuration ID and the limit of 1,024 octets judged in their turn: whether the table is sound, its
 -- ID the session's, the template missing, the record too long, the record valid

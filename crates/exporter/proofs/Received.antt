@@ -16,10 +16,10 @@ use Rattle.wire.specs.declared.message.Header.{Header}
 use Rattle.wire.specs.declared.message.HeaderReading.the-variants as header
 use Rattle.wire.specs.declared.message.Reading.the-variants as reading
 use Rattle.wire.proofs.Messages.{header-passed}
-use Rattle.exporter.specs.Servers.{malformed}
-use Rattle.exporter.specs.Steps.{move, isReceived, formAnswer, callOfMessage, received}
+use Rattle.session.specs.Servers.{malformed}
+use Rattle.session.specs.Steps.{move, isReceived, formAnswer, callOfMessage, received}
 use Rattle.exporter.specs.Moves.{callOfReading}
-use Rattle.exporter.specs.declared.state.Settings.{Settings}
+use Rattle.session.specs.declared.state.Settings.{Settings}
 
 -- ---- what reading a header says
 

@@ -19,17 +19,19 @@ use Rattle.wire.specs.declared.message.Message.the-variants.{Data}
 use Rattle.wire.specs.declared.message.DataHead.{DataHead}
 use Rattle.wire.specs.declared.message.Written.{Written}
 use Rattle.wire.specs.declared.message.Written.the-variants.{Octets, Refused}
-use Rattle.exporter.specs.Servers.{withCounts, sentOne}
-use Rattle.exporter.specs.Queue.{ringRead, recordAt, octetsTo, markedSet, marked}
-use Rattle.exporter.specs.Sound.{sound}
-use Rattle.exporter.specs.Steps.{Outcome, headOf, sendChecks, nextData, answer, checks, soundFor, after, settled, written, nextDataStep, wroteOf, outputAfter}
-use Rattle.exporter.specs.Changes.{SendFacts, stateOf, sendingOf}
+use Rattle.session.specs.Servers.{withCounts, sentOne}
+use Rattle.session.specs.Queue.{ringRead, recordAt, octetsTo, markedSet, marked}
+use Rattle.session.specs.Sound.{sound}
+use Rattle.session.specs.Steps.{Outcome, headOf, sendChecks, nextData, answer, checks, soundFor, after, settled, written, nextDataStep, wroteOf, outputAfter}
+use Rattle.exporter.specs.Changes.{SendFacts, sendingOf}
+use Rattle.session.specs.Parts.{stateOf}
 use Rattle.exporter.specs.declared.next_data.Sending.{Sending}
-use Rattle.exporter.specs.declared.state.State.{State}
-use Rattle.exporter.specs.declared.state.Wrote.{Wrote}
-use Rattle.exporter.proofs.Rings.{read-same}
-use Rattle.exporter.proofs.SoundFacts.{sound-facts, parts-of}
-use Rattle.exporter.proofs.Changes.{partsIn, settled-same, step-done, step-refused}
+use Rattle.session.specs.declared.state.State.{State}
+use Rattle.session.specs.declared.state.Wrote.{Wrote}
+use Rattle.session.proofs.Rings.{read-same}
+use Rattle.session.proofs.SoundFacts.{sound-facts, parts-of}
+use Rattle.exporter.proofs.Changes.{partsIn}
+use Rattle.session.proofs.StepLaws.{settled-same, step-done, step-refused}
 
 -- ---- writing a head for a record of at most 1,024 octets
 

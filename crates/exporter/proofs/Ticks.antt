@@ -9,21 +9,21 @@ use borrow.Author.Tests.{not-true}
 use lib.Dec.{eqb, ltb}
 use Rattle.octets.specs.Answers.{done, unsoundState}
 use Rattle.wire.proofs.Each.{and-left}
-use Rattle.exporter.specs.Servers.{choose, IsChoice, sameActive, isNobody, chosen, changed, activated, settle, withServers, withCounts, lateServers, expired, tickedFor, ticked}
-use Rattle.exporter.specs.Sound.{sound}
-use Rattle.exporter.specs.Steps.{tick, answer, checks, after, settled, tickStep, steppedOf}
+use Rattle.session.specs.Servers.{choose, IsChoice, sameActive, isNobody, chosen, changed, activated, settle, withServers, withCounts, lateServers, expired, tickedFor, ticked}
+use Rattle.session.specs.Sound.{sound}
+use Rattle.session.specs.Steps.{tick, answer, checks, after, settled, tickStep, steppedOf}
 use Rattle.exporter.specs.Changes.{settledChange, refusedChange, appliedTo, numberOf, runningClock, clockFor, clockOf, tickChangeTo, tickChangeBy}
 use Rattle.exporter.specs.declared.change.Change.{Change}
 use Rattle.exporter.specs.declared.tick.Clock.{Clock}
-use Rattle.exporter.specs.declared.state.Active.{Active}
-use Rattle.exporter.specs.declared.state.Active.the-variants.{Nobody, Server}
-use Rattle.exporter.specs.declared.state.Settings.{Settings}
-use Rattle.exporter.specs.declared.state.Delivery.{Delivery}
-use Rattle.exporter.specs.declared.state.State.{State}
-use Rattle.exporter.specs.declared.state.Stepped.{Stepped}
-use Rattle.exporter.proofs.SoundFacts.{active-same, sound-facts}
-use Rattle.exporter.proofs.Choice.{choice, late-phase, other-chosen}
-use Rattle.exporter.proofs.Changes.{step-refused, step-done}
+use Rattle.session.specs.declared.state.Active.{Active}
+use Rattle.session.specs.declared.state.Active.the-variants.{Nobody, Server}
+use Rattle.session.specs.declared.state.Settings.{Settings}
+use Rattle.session.specs.declared.state.Delivery.{Delivery}
+use Rattle.session.specs.declared.state.State.{State}
+use Rattle.session.specs.declared.state.Stepped.{Stepped}
+use Rattle.session.proofs.SoundFacts.{active-same, sound-facts}
+use Rattle.session.proofs.Choice.{choice, late-phase, other-chosen}
+use Rattle.session.proofs.StepLaws.{step-refused, step-done}
 
 -- ---- the choice made anew
 

@@ -7,42 +7,22 @@ use mathlib.Core.List.{List}
 use lib.Dec.{eqb, ltb}
 use lib.ListN.{length, getD}
 use Rattle.octets.specs.Answers.{done, unsoundState}
-use Rattle.exporter.specs.Servers.{choose, chosen, isNobody, changed, settle, lateServers}
-use Rattle.exporter.specs.Queue.{markedSet}
-use Rattle.exporter.specs.Sound.{sound}
-use Rattle.exporter.specs.Steps.{withDue, Outcome}
+use Rattle.session.specs.Servers.{choose, chosen, isNobody, changed, settle, lateServers}
+use Rattle.session.specs.Queue.{markedSet}
+use Rattle.session.specs.Sound.{sound}
+use Rattle.session.specs.Steps.{withDue, Outcome}
 use Rattle.exporter.specs.declared.change.Change.{Change}
 use Rattle.exporter.specs.declared.next_data.Sending.{Sending}
 use Rattle.exporter.specs.declared.put.Putting.{Putting}
 use Rattle.exporter.specs.declared.tick.Clock.{Clock}
-use Rattle.exporter.specs.declared.state.Server as serverOf
-use Rattle.exporter.specs.declared.state.Active.{Active}
-use Rattle.exporter.specs.declared.state.Active.the-variants as active
-use Rattle.exporter.specs.declared.state.Settings.{Settings}
-use Rattle.exporter.specs.declared.state.Delivery.{Delivery}
-use Rattle.exporter.specs.declared.state.State.{State}
-
--- ---- states by their parts
-
--- A state, by its parts. Where a function does not look at template IDs or the next DSN, [] and 0 stand for them.
-abbrev pub stateOf : Settings → ℕ → Delivery → Bool → ℕ → List ℕ → List ℕ → List ℕ → ℕ → ℕ → State
-stateOf p capacity d due count lengths templates receivers start next =
-    record {
-      settings = p;
-      capacity = capacity;
-      delivery = d;
-      due = due;
-      queue = record { count = count; lengths = lengths; templates = templates; receivers = receivers };
-      start = start;
-      next = next;
-    }
+use Rattle.session.specs.declared.state.Server as serverOf
+use Rattle.session.specs.declared.state.Active.{Active}
+use Rattle.session.specs.declared.state.Active.the-variants as active
+use Rattle.session.specs.declared.state.Settings.{Settings}
+use Rattle.session.specs.declared.state.Delivery.{Delivery}
+use Rattle.session.specs.declared.state.State.{State}
 
 -- ---- what private functions require
-
--- The active server, if there is one, has a number below n.
-abbrev pub Below : ℕ → Active → Type 0
-Below n active.Nobody = Unit {0}
-Below n (active.Server v) = v < n
 
 -- What soundness says of a delivery: the timer is below the duration, and the active server is the chosen one.
 abbrev pub Steady : Bool → Settings → Delivery → Type 0

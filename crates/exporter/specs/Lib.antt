@@ -1,11 +1,3 @@
--- The definitions, in reading order: limits, servers, the queue, sound states, the calls and their steps, the history and the claim; then what
--- private functions compute.
-pub mod Limits
-pub mod Servers
-pub mod Queue
-pub mod Sound
-pub mod Steps
-pub mod History
-pub mod Claim
+-- What private functions compute; the calls and their steps are those of the crate session.
 pub mod Changes
 pub mod Moves

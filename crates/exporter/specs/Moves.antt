@@ -8,8 +8,8 @@ use Rattle.octets.specs.Answers.{done}
 use Rattle.wire.specs.Table.{tableSound}
 use Rattle.wire.specs.declared.message.Reading.{Reading}
 use Rattle.wire.specs.declared.message.Reading.the-variants as reading
-use Rattle.exporter.specs.Servers.{Transition, start, stop, negotiate, offer, down, agree, malformed}
-use Rattle.exporter.specs.Steps.{Call, ack, move, callOfMessage, Outcome}
+use Rattle.session.specs.Servers.{Transition, start, stop, negotiate, offer, down, agree, malformed}
+use Rattle.session.specs.Steps.{Call, ack, move, callOfMessage, Outcome}
 use Rattle.exporter.specs.declared.acknowledge.AckChange.{AckChange}
 use Rattle.exporter.specs.declared.decode.Request.{Request}
 use Rattle.exporter.specs.declared.decode.Request.the-variants as request

@@ -1,9 +1,9 @@
 // What a call changes of a state besides its queue: computed as a small value and applied once.
 ghost use mathlib.Core.Path.{_≡_};
 ghost use Rattle.exporter.specs.Changes.{settledChange, refusedChange, appliedTo};
-use crate::state::Delivery;
-use crate::state::Settings;
-use crate::state::State;
+use session::state::Delivery;
+use session::state::Settings;
+use session::state::State;
 use octets::Answer;
 
 // A call's answer, how many octets it wrote, and the delivery and S as it leaves them.

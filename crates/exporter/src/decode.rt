@@ -2,9 +2,9 @@
 ghost use mathlib.Core.Path.{_≡_};
 ghost use Prim.Native.Nat.{ℕ};
 ghost use Rattle.wire.specs.Messages.{readOf};
-ghost use Rattle.exporter.specs.Steps.{isReceived, callOfMessage, received};
+ghost use Rattle.session.specs.Steps.{isReceived, callOfMessage, received};
 ghost use Rattle.exporter.specs.Moves.{callOfRequest, callOfReading};
-use crate::state::Settings;
+use session::state::Settings;
 use crate::transition::Move;
 use octets::Answer;
 use wire::message::HeaderReading;

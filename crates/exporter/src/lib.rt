@@ -21,6 +21,5 @@ mod ring;
 mod servers;
 pub mod set_up;
 mod sound;
-pub mod state;
 pub mod tick;
 mod transition;

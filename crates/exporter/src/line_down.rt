@@ -1,8 +1,8 @@
 // A server's line that is down.
 ghost use mathlib.Core.Path.{_≡_};
-ghost use Rattle.exporter.specs.Steps.{lineDownStep, steppedOf};
-use crate::state::State;
-use crate::state::Stepped;
+ghost use Rattle.session.specs.Steps.{lineDownStep, steppedOf};
+use session::state::State;
+use session::state::Stepped;
 use crate::transition::Move;
 
 // The line to server v is down, which closes it. Refused with 1 or 2.

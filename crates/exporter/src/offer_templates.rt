@@ -1,8 +1,8 @@
 // An offer of the session's templates to a server.
 ghost use mathlib.Core.Path.{_≡_};
-ghost use Rattle.exporter.specs.Steps.{offerStep, outputAfter, wroteOf};
-use crate::state::State;
-use crate::state::Wrote;
+ghost use Rattle.session.specs.Steps.{offerStep, outputAfter, wroteOf};
+use session::state::State;
+use session::state::Wrote;
 use crate::transition::Move;
 
 // Writes the TMPL DATA that offers a table to server v. Refused with 1, 2, 21, 9 or 12.

@@ -3,9 +3,9 @@ ghost use mathlib.Core.Path.{_≡_};
 ghost use Prim.Native.Nat.{_+_, _≤_, _<_};
 ghost use lib.ListN.{getD, take};
 ghost use Rattle.wire.specs.Each.{every};
-ghost use Rattle.exporter.specs.Limits.{maxServers, maxStoreOctets, maxHeld};
-ghost use Rattle.exporter.specs.Queue.{sumOf, ringPlace, has, with, hasOther, shifted};
-ghost use Rattle.exporter.specs.Sound.{entrySound};
+ghost use Rattle.session.specs.Limits.{maxServers, maxStoreOctets, maxHeld};
+ghost use Rattle.session.specs.Queue.{sumOf, ringPlace, has, with, hasOther, shifted};
+ghost use Rattle.session.specs.Sound.{entrySound};
 use wire::message::MAX_RECORD_OCTETS;
 
 // The most records that are held at a time.

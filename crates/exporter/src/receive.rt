@@ -1,9 +1,9 @@
 // A message from a server.
 ghost use mathlib.Core.Path.{_≡_};
-ghost use Rattle.exporter.specs.Steps.{receiveStep, outputAfter, wroteOf};
+ghost use Rattle.session.specs.Steps.{receiveStep, outputAfter, wroteOf};
 use crate::decode::Request;
-use crate::state::State;
-use crate::state::Wrote;
+use session::state::State;
+use session::state::Wrote;
 
 // Takes a message from server v, and writes its acknowledgement if it has one. Refused with the least of 1 to 12 that applies.
 pub fn receive(s: State, v: u8, message: &[u8], out: &mut [u8]) -> Wrote

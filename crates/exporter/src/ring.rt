@@ -3,7 +3,7 @@ ghost use mathlib.Core.Path.{_≡_};
 ghost use Prim.Native.Nat.{_+_, _%_, _≤_, _<_};
 ghost use lib.ListN.{length};
 ghost use lib.Seq.{sets};
-ghost use Rattle.exporter.specs.Queue.{ringRead, ringWrite};
+ghost use Rattle.session.specs.Queue.{ringRead, ringWrite};
 
 // The place behind one of a ring with this room.
 fn next_place(place: usize, room: usize) -> usize

@@ -4,14 +4,14 @@ ghost use mathlib.Core.Bool.{cond, not};
 ghost use Prim.Native.Nat.{_≤_};
 ghost use mathlib.Core.List.{map};
 ghost use lib.ListN.{getD, set};
-ghost use Rattle.exporter.specs.Servers.{server, phaseAt, isClosed, isOffered, canOffer, isAgreed, restart};
-ghost use Rattle.exporter.specs.Servers.{beats, preferred, choose, sameActive, isNobody, activated, acknowledged};
+ghost use Rattle.session.specs.Servers.{server, phaseAt, isClosed, isOffered, canOffer, isAgreed, restart};
+ghost use Rattle.session.specs.Servers.{beats, preferred, choose, sameActive, isNobody, activated, acknowledged};
 ghost use Rattle.exporter.specs.Changes.{numberOf};
-ghost use Rattle.exporter.specs.declared.state.Phase.the-variants.{Closed};
-use crate::state::Active;
-use crate::state::Delivery;
-use crate::state::Phase;
-use crate::state::Server;
+ghost use Rattle.session.specs.declared.state.Phase.the-variants.{Closed};
+use session::state::Active;
+use session::state::Delivery;
+use session::state::Phase;
+use session::state::Server;
 
 // The most servers that an exporter has.
 pub const MAX_SERVERS: u8 = 8;

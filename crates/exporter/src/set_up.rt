@@ -1,15 +1,15 @@
 // Set-up: a fresh exporter.
 ghost use mathlib.Core.Path.{_≡_};
 ghost use lib.ListN.{length};
-ghost use Rattle.exporter.specs.Steps.{fresh, noSettings, setUp};
-use crate::state::Active;
-use crate::state::Delivery;
-use crate::state::Made;
-use crate::state::Phase;
-use crate::state::Queue;
-use crate::state::Server;
-use crate::state::Settings;
-use crate::state::State;
+ghost use Rattle.session.specs.Steps.{fresh, noSettings, setUp};
+use session::state::Active;
+use session::state::Delivery;
+use session::state::Made;
+use session::state::Phase;
+use session::state::Queue;
+use session::state::Server;
+use session::state::Settings;
+use session::state::State;
 use octets::Answer;
 
 // A state that holds nothing.

@@ -2,14 +2,14 @@
 ghost use mathlib.Core.Path.{_≡_};
 ghost use Prim.Native.Nat.{_≤_};
 ghost use mathlib.Core.List.{[]};
-ghost use Rattle.exporter.specs.Limits.{maxServers, maxHeld};
-ghost use Rattle.exporter.specs.Changes.{Below, stateOf};
-ghost use Rattle.exporter.specs.Sound.{settingsSound, numbersSound, activationSound, sound};
+ghost use Rattle.session.specs.Limits.{maxServers, maxHeld};
+ghost use Rattle.session.specs.Parts.{Below, stateOf};
+ghost use Rattle.session.specs.Sound.{settingsSound, numbersSound, activationSound, sound};
 use crate::queue::MAX_HELD;
 use crate::servers::MAX_SERVERS;
-use crate::state::Active;
-use crate::state::Delivery;
-use crate::state::Settings;
+use session::state::Active;
+use session::state::Delivery;
+use session::state::Settings;
 
 // The greatest threshold.
 pub const MAX_THRESHOLD: u8 = 64;

@@ -2,16 +2,16 @@
 ghost use mathlib.Core.Path.{_≡_};
 ghost use mathlib.Core.Bool.{cond};
 ghost use Prim.Native.Nat.{_<_};
-ghost use Rattle.exporter.specs.Steps.{tickStep, steppedOf};
+ghost use Rattle.session.specs.Steps.{tickStep, steppedOf};
 ghost use Rattle.exporter.specs.Changes.{Steady, runningClock, clockOf, tickChangeBy};
 use crate::change::Change;
-use crate::state::Active;
-use crate::state::Delivery;
-use crate::state::Phase;
-use crate::state::Server;
-use crate::state::Settings;
-use crate::state::State;
-use crate::state::Stepped;
+use session::state::Active;
+use session::state::Delivery;
+use session::state::Phase;
+use session::state::Server;
+use session::state::Settings;
+use session::state::State;
+use session::state::Stepped;
 use octets::Answer;
 
 // The timer after a tick, and whether it has run out.

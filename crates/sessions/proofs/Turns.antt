@@ -5,12 +5,12 @@ use Prim.Native.Nat.{ℕ, _+_, _*_}
 use native.Mathlib.Numerals.{add-one}
 use borrow.Author.Tests.{ne-eqb}
 use lib.ListN.{getD}
-use Rattle.exporter.proofs.Written.{writes-nothing}
-use Rattle.exporter.specs.Steps.{put, tick, written, step, steppedOf, wroteOf, outputAfter}
-use Rattle.exporter.specs.Claim.{Event, Put, NextData, Receive, OfferTemplates, Tick, outcome, storeLeft}
-use Rattle.exporter.specs.declared.state.State.{State}
-use Rattle.exporter.specs.declared.state.Stepped.{Stepped}
-use Rattle.exporter.specs.declared.state.Wrote.{Wrote}
+use Rattle.session.proofs.Written.{writes-nothing}
+use Rattle.session.specs.Steps.{put, tick, written, step, steppedOf, wroteOf, outputAfter}
+use Rattle.session.specs.Claim.{Event, Put, NextData, Receive, OfferTemplates, Tick, outcome, storeLeft}
+use Rattle.session.specs.declared.state.State.{State}
+use Rattle.session.specs.declared.state.Stepped.{Stepped}
+use Rattle.session.specs.declared.state.Wrote.{Wrote}
 use Rattle.sessions.specs.Sessions.{Lent, messageAt, eventAt, eventOctets, Progress, progress, anySession, exporterOf, added, after, played, PlayedTo}
 
 -- ---- the event at a place, by the number of its call

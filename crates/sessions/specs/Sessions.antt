@@ -5,10 +5,10 @@ use mathlib.Core.Bool.{cond}
 use mathlib.Core.List.{List}
 use lib.Dec.{eqb}
 use lib.ListN.{length, getD, take, drop, replicate}
-use Rattle.exporter.specs.Steps.{setUp, noSettings, outputAfter}
-use Rattle.exporter.specs.Claim.{Event, Put, NextData, Receive, OfferTemplates, Tick, Session, Exporter, outcome, storeLeft, sessionOf32}
-use Rattle.exporter.specs.declared.state.Settings.{Settings}
-use Rattle.exporter.specs.declared.state.State.{State}
+use Rattle.session.specs.Steps.{setUp, noSettings, outputAfter}
+use Rattle.session.specs.Claim.{Event, Put, NextData, Receive, OfferTemplates, Tick, Session, Exporter, outcome, storeLeft, sessionOf32}
+use Rattle.session.specs.declared.state.Settings.{Settings}
+use Rattle.session.specs.declared.state.State.{State}
 
 -- Session 7, configuration 1, boot time 3,600 and priorities of 0; the rest is given.
 abbrev pub settingsOf : ℕ → ℕ → ℕ → ℕ → Settings

@@ -5,8 +5,8 @@ ghost use mathlib.Core.Path.{_≡_};
 ghost use Prim.Native.Nat.{_+_, _≤_};
 ghost use lib.ListN.{length};
 ghost use Rattle.sessions.specs.Sessions.{settingsOf, eventOctets, messageAt, added, eventCount, progress, played, sessionEnd, PlayedTo};
-use exporter::state::Made;
-use exporter::state::Settings;
+use session::state::Made;
+use session::state::Settings;
 
 // The octets of an event: its call, its server, the length of its message modulo 17, and 16 octets, the first of which are the message.
 const EVENT_OCTETS: usize = 19;

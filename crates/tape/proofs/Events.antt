@@ -8,13 +8,13 @@ use lib.ListN.{length, drop}
 use lib.Dec.{eqb}
 use borrow.Author.Tests.{ne-eqb}
 use Rattle.octets.specs.Numbers.{uintAt}
-use Rattle.exporter.specs.Servers.{down, offer}
-use Rattle.exporter.specs.Steps.{put, nextData, tick, move, received, step, written, Outcome, steppedOf, wroteOf, outputAfter, putStep, tickStep, lineDownStep}
-use Rattle.exporter.proofs.Written.{writes-nothing}
-use Rattle.exporter.specs.Claim.{Event, Put, NextData, Receive, OfferTemplates, LineDown, Tick}
-use Rattle.exporter.specs.declared.state.State.{State}
-use Rattle.exporter.specs.declared.state.Stepped.{Stepped}
-use Rattle.exporter.specs.declared.state.Wrote.{Wrote}
+use Rattle.session.specs.Servers.{down, offer}
+use Rattle.session.specs.Steps.{put, nextData, tick, move, received, step, written, Outcome, steppedOf, wroteOf, outputAfter, putStep, tickStep, lineDownStep}
+use Rattle.session.proofs.Written.{writes-nothing}
+use Rattle.session.specs.Claim.{Event, Put, NextData, Receive, OfferTemplates, LineDown, Tick}
+use Rattle.session.specs.declared.state.State.{State}
+use Rattle.session.specs.declared.state.Stepped.{Stepped}
+use Rattle.session.specs.declared.state.Wrote.{Wrote}
 use Rattle.tape.specs.Tape.{putKind, messageKind, downKind, tickKind, nextKind}
 use Rattle.tape.specs.Replay.{eventCall}
 use Rattle.tape.specs.Turns.{effect, effectStore, Gives}

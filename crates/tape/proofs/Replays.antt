@@ -15,11 +15,11 @@ use Rattle.octets.specs.Answers.{done}
 use Rattle.octets.specs.Numbers.{Octets}
 use Rattle.octets.proofs.Numbers.{uint-below}
 use Rattle.wire.specs.Each.{every}
-use Rattle.exporter.specs.Steps.{setUp}
-use Rattle.exporter.specs.Claim.{Event, Put, NextData, Receive, OfferTemplates, LineDown, Tick, sessionOf32, Exporter, outcome, storeLeft, advance, begin, AllOctets}
-use Rattle.exporter.proofs.Demand.{demand3of32}
-use Rattle.exporter.specs.declared.state.Settings.{Settings}
-use Rattle.exporter.specs.declared.state.State.{State}
+use Rattle.session.specs.Steps.{setUp}
+use Rattle.session.specs.Claim.{Event, Put, NextData, Receive, OfferTemplates, LineDown, Tick, sessionOf32, Exporter, outcome, storeLeft, advance, begin, AllOctets}
+use Rattle.session.proofs.Demand.{demand3of32}
+use Rattle.session.specs.declared.state.Settings.{Settings}
+use Rattle.session.specs.declared.state.State.{State}
 use Rattle.tape.specs.Tape.{eventCount, kindAt, serverAt, bodyLength, bodyAt, octetsAt, bodyOf, eventSound, maxTapeOctets, minEvents, maxEvents, tapeSound}
 use Rattle.tape.specs.Lines.{lineOf}
 use Rattle.tape.specs.Replay.{tableAnswer, outputBuffer, eventCall, callsFrom, linesOf, ifDone, tapeSettings, tapeSession, tapeStore, tapeCalls, replay, settingsOf}

@@ -10,12 +10,12 @@ use lib.Dec.{eqb}
 use lib.ListN.{length, take, length-take}
 use lib.Seq.{sets, sets-eq, take-append-seam}
 use Rattle.octets.specs.Answers.{done}
-use Rattle.exporter.specs.Steps.{Outcome, wroteOf, outputAfter, setUp}
-use Rattle.exporter.proofs.Written.{step-fits}
-use Rattle.exporter.specs.Claim.{Event, Put, NextData, Receive, OfferTemplates, LineDown, Tick, roomOf}
-use Rattle.exporter.specs.declared.state.State.{State}
-use Rattle.exporter.specs.declared.state.Made.{Made}
-use Rattle.exporter.specs.declared.state.Wrote.{Wrote}
+use Rattle.session.specs.Steps.{Outcome, wroteOf, outputAfter, setUp}
+use Rattle.session.proofs.Written.{step-fits}
+use Rattle.session.specs.Claim.{Event, Put, NextData, Receive, OfferTemplates, LineDown, Tick, roomOf}
+use Rattle.session.specs.declared.state.State.{State}
+use Rattle.session.specs.declared.state.Made.{Made}
+use Rattle.session.specs.declared.state.Wrote.{Wrote}
 use Rattle.tape.specs.Tape.{eventCount, kindAt, serverAt, bodyAt, bodyOf, tapeSound}
 use Rattle.tape.specs.Lines.{lineOf, tapeRefused}
 use Rattle.tape.specs.Replay.{tableAnswer, outputBufferOctets, outputBuffer, eventCall, tapeSettings}

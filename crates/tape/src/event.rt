@@ -5,10 +5,10 @@ ghost use Rattle.tape.specs.Tape.{bodyOf};
 ghost use Rattle.tape.specs.Replay.{settingsOf, storeLength, tableAnswer, eventCall};
 ghost use Rattle.tape.specs.Turns.{Called};
 use crate::contents::Kind;
-use exporter::state::Settings;
-use exporter::state::State;
-use exporter::state::Stepped;
-use exporter::state::Wrote;
+use session::state::Settings;
+use session::state::State;
+use session::state::Stepped;
+use session::state::Wrote;
 use octets::Answer;
 
 // The settings in the body of event 0.

@@ -6,7 +6,7 @@ ghost use lib.ListN.{length};
 ghost use lib.Seq.{sets};
 ghost use Rattle.tape.specs.Replay.{outputBufferOctets};
 ghost use Rattle.tape.specs.Turns.{opened, indexOf, nextBody, tableTurn, callTurn, played, turnOf, Turned};
-use exporter::state::State;
+use session::state::State;
 use octets::Answer;
 
 // How many octets the calls of a replay are lent as output.

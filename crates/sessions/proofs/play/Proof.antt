@@ -6,7 +6,7 @@ use mathlib.Core.Logic.{⊎-elim}
 use Prim.Native.Nat.{_+_, _-_, _*_, _≤_}
 use native.Mathlib.Omega.{arith}
 use lib.ListN.{length, getD}
-use Rattle.exporter.specs.Claim.{Event, Put, NextData, Receive, OfferTemplates, Tick}
+use Rattle.session.specs.Claim.{Event, Put, NextData, Receive, OfferTemplates, Tick}
 use borrow.Author.Needs.{needs}
 use Rattle.sessions.specs.Sessions.{Lent, messageAt, Progress, progress, played}
 use Rattle.sessions.proofs.Turns.{event-put, event-next, event-tick, event-offer, event-receive, put-writes-nothing, tick-writes-nothing, stepped-after, wrote-after, same-progress, played-more, played-to}

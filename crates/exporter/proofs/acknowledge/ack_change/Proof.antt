@@ -4,9 +4,9 @@ use mathlib.Core.List.{[]}
 use mathlib.Core.Path.{sym, _∙_}
 use native.Mathlib.Omega.{arith}
 use Prim.Native.Nat.{_≤_}
-use Rattle.exporter.specs.Changes.{stateOf}
-use Rattle.exporter.proofs.Arrays.{sum-fewer}
-use Rattle.exporter.proofs.SoundFacts.{sound-facts, passed-sound, failed-sound}
+use Rattle.session.specs.Parts.{stateOf}
+use Rattle.session.proofs.Arrays.{sum-fewer}
+use Rattle.session.proofs.SoundFacts.{sound-facts, passed-sound, failed-sound}
 use Rattle.exporter.proofs.Acks.{ack-sound-parts, ack-unsound, answered-ack, refused-ack, accepted-ack, ack-reached}
 use borrow.Author.Needs.{needs}
 use Rattle.exporter.proofs.acknowledge.ack_change.Statement.{statement}

@@ -1,6 +1,6 @@
 -- `release_queue` meets its contract. Each of the three arrays is moved down by n, which is the definition field by field; n is at most the
 -- count, so the subtraction does not go below 0.
-use Rattle.exporter.specs.Queue.{dropFront}
+use Rattle.session.specs.Queue.{dropFront}
 use borrow.Author.Needs.{needs}
 use Rattle.exporter.proofs.acknowledge.release_queue.Statement.{statement}
 use Rattle.exporter.proofs.acknowledge.release_queue.Tie as tie

@@ -1,6 +1,6 @@
 -- `settle_change` meets its contract. One choice is made, and whether it differs from the active server decides both the delivery and S, as
 -- in `settle` and `changed`.
-use Rattle.exporter.specs.Servers.{changed, settle, server}
+use Rattle.session.specs.Servers.{changed, settle, server}
 use borrow.Author.Needs.{needs}
 use Rattle.exporter.proofs.change.settle_change.Statement.{statement}
 use Rattle.exporter.proofs.change.settle_change.Tie as tie

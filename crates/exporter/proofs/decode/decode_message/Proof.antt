@@ -1,6 +1,6 @@
 -- `decode_message` meets its contract. Each arm of the match is the row of `callOfMessage` for that message, so each is shown by computing
 -- it.
-use Rattle.exporter.specs.Steps.{callOfMessage}
+use Rattle.session.specs.Steps.{callOfMessage}
 use borrow.Author.Needs.{needs}
 use Rattle.exporter.proofs.decode.decode_message.Statement.{statement}
 use Rattle.exporter.proofs.decode.decode_message.Tie as tie

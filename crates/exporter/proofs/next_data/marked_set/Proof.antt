@@ -1,8 +1,8 @@
 -- `marked_set` meets its contract. While nobody is active the set stays; else the active server's bit is set, and its number is below 8, as
 -- the call requires.
 use mathlib.Core.Path.{subst}
-use Rattle.exporter.specs.Limits.{maxServers}
-use Rattle.exporter.specs.Changes.{Below}
+use Rattle.session.specs.Limits.{maxServers}
+use Rattle.session.specs.Parts.{Below}
 use borrow.Author.Needs.{needs}
 use Rattle.exporter.proofs.next_data.marked_set.Statement.{statement}
 use Rattle.exporter.proofs.next_data.marked_set.Tie as tie

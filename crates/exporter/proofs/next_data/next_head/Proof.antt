@@ -1,6 +1,6 @@
 -- `next_head` meets its contract. Each field is that of `headOf`: most are copied, and the two calls give D and the DSN. The place is below
 -- 64, so both arrays are read inside.
-use Rattle.exporter.specs.Steps.{headOf}
+use Rattle.session.specs.Steps.{headOf}
 use borrow.Author.Needs.{needs}
 use Rattle.exporter.proofs.next_data.next_head.Statement.{statement}
 use Rattle.exporter.proofs.next_data.next_head.Tie as tie

@@ -4,11 +4,11 @@ use native.Mathlib.Omega.{arith}
 use Prim.Native.Nat.{_+_, _≤_}
 use native.Mathlib.Nat.{mod-lt}
 use lib.ListN.{length, take}
-use Rattle.exporter.specs.Queue.{sumOf}
-use Rattle.exporter.specs.Changes.{stateOf}
-use Rattle.exporter.proofs.Arrays.{sum-fewer}
-use Rattle.exporter.proofs.SoundFacts.{sound-facts}
-use Rattle.exporter.proofs.Choice.{active-below}
+use Rattle.session.specs.Queue.{sumOf}
+use Rattle.session.specs.Parts.{stateOf}
+use Rattle.session.proofs.Arrays.{sum-fewer}
+use Rattle.session.proofs.SoundFacts.{sound-facts}
+use Rattle.session.proofs.Choice.{active-below}
 use Rattle.exporter.proofs.Sends.{sent-few, next-octets, sending-done, sending-refused}
 use borrow.Author.Needs.{needs}
 use Rattle.exporter.proofs.next_data.send.Statement.{statement}

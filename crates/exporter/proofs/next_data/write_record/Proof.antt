@@ -7,10 +7,10 @@ use lib.ListN.{length}
 use Rattle.octets.specs.Numbers.{octetsOf}
 use Rattle.wire.specs.Messages.{dataHeadOctets}
 use Rattle.wire.proofs.Messages.{placed-short, placed, sets-then, data-layout, data-length}
-use Rattle.exporter.specs.Queue.{ringRead}
+use Rattle.session.specs.Queue.{ringRead}
 use mathlib.Core.List.{_++_}
 use lib.Seq.{sets, length-sets}
-use Rattle.exporter.proofs.Rings.{read-length}
+use Rattle.session.proofs.Rings.{read-length}
 use Rattle.exporter.proofs.Sends.{head-octets, head-refused, head-out, head-kept}
 use borrow.Author.Needs.{needs}
 use Rattle.exporter.proofs.next_data.write_record.Statement.{statement}

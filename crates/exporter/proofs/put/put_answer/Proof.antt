@@ -2,8 +2,8 @@
 -- list, and where there is none the room decides (laws `refused-first` and `passed-first`).
 use mathlib.Core.List.{[]}
 use borrow.Author.Tests.{eq-eqb, ne-eqb}
-use Rattle.exporter.specs.Changes.{stateOf}
-use Rattle.exporter.proofs.SoundFacts.{sound-facts, passed-sound, failed-sound}
+use Rattle.session.specs.Parts.{stateOf}
+use Rattle.session.proofs.SoundFacts.{sound-facts, passed-sound, failed-sound}
 use Rattle.exporter.proofs.Puts.{refused-first, passed-first}
 use borrow.Author.Needs.{needs}
 use Rattle.exporter.proofs.put.put_answer.Statement.{statement}

@@ -1,8 +1,8 @@
 -- `put_change` meets its contract. A refusal changes nothing. A record that can be put finds fewer than 64 held and has at most 1,024
 -- octets, so every sum fits; it fills the first unused entries, and its octets follow the held ones.
 use native.Mathlib.Omega.{arith}
-use Rattle.exporter.specs.Changes.{stateOf}
-use Rattle.exporter.proofs.SoundFacts.{sound-facts}
+use Rattle.session.specs.Parts.{stateOf}
+use Rattle.session.proofs.SoundFacts.{sound-facts}
 use Rattle.exporter.proofs.Puts.{put-known, putting-kept, putting-done}
 use borrow.Author.Needs.{needs}
 use Rattle.exporter.proofs.put.put_change.Statement.{statement}

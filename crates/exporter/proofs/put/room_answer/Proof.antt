@@ -4,7 +4,7 @@ use native.Mathlib.Omega.{arith}
 use Prim.Native.Nat.{_+_, _<_, _≤_}
 use lib.ListN.{length, take}
 use borrow.Author.Tests.{le-leb, lt-leb, le-ltb, lt-ltb}
-use Rattle.exporter.specs.Queue.{sumOf}
+use Rattle.session.specs.Queue.{sumOf}
 use borrow.Author.Needs.{needs}
 use Rattle.exporter.proofs.put.room_answer.Statement.{statement}
 use Rattle.exporter.proofs.put.room_answer.Tie as tie

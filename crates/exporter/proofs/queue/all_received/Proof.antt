@@ -7,8 +7,8 @@ use Prim.Native.Nat.{_-_, _≤_}
 use lib.ListN.{getD}
 use Rattle.wire.specs.Each.{every}
 use Rattle.wire.proofs.Each.{every-more}
-use Rattle.exporter.specs.Queue.{has}
-use Rattle.exporter.proofs.Arrays.{has-both, has-all}
+use Rattle.session.specs.Queue.{has}
+use Rattle.session.proofs.Arrays.{has-both, has-all}
 use borrow.Author.Needs.{needs}
 use Rattle.exporter.proofs.queue.all_received.Statement.{statement}
 use Rattle.exporter.proofs.queue.all_received.Tie as tie

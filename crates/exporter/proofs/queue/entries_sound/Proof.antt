@@ -4,9 +4,9 @@ use mathlib.Core.Path.{_≡_, refl}
 use native.Mathlib.Omega.{arith}
 use Prim.Native.Nat.{_-_, _≤_}
 use Rattle.wire.specs.Each.{every}
-use Rattle.exporter.specs.Sound.{entrySound}
+use Rattle.session.specs.Sound.{entrySound}
 use Rattle.wire.proofs.Each.{every-more}
-use Rattle.exporter.proofs.Arrays.{one-shifted}
+use Rattle.session.proofs.Arrays.{one-shifted}
 use borrow.Author.Needs.{needs}
 use Rattle.exporter.proofs.queue.entries_sound.Statement.{statement}
 use Rattle.exporter.proofs.queue.entries_sound.Tie as tie

@@ -3,8 +3,8 @@
 use mathlib.Core.Path.{_≡_}
 use native.Mathlib.Omega.{arith}
 use Prim.Native.Nat.{_-_, _≤_}
-use Rattle.exporter.specs.Queue.{hasOther}
-use Rattle.exporter.proofs.Arrays.{other-more}
+use Rattle.session.specs.Queue.{hasOther}
+use Rattle.session.proofs.Arrays.{other-more}
 use borrow.Author.Needs.{needs}
 use Rattle.exporter.proofs.queue.has_other.Statement.{statement}
 use Rattle.exporter.proofs.queue.has_other.Tie as tie

@@ -2,8 +2,8 @@
 -- 16 on.
 use mathlib.Core.Path.{refl}
 use native.Mathlib.Omega.{arith}
-use Rattle.exporter.specs.Queue.{has}
-use Rattle.exporter.proofs.Arrays.{has-none}
+use Rattle.session.specs.Queue.{has}
+use Rattle.session.proofs.Arrays.{has-none}
 use borrow.Author.Needs.{needs}
 use Rattle.exporter.proofs.queue.has_server.Statement.{statement}
 use Rattle.exporter.proofs.queue.has_server.Tie as tie

@@ -4,8 +4,8 @@ use mathlib.Core.Path.{_≡_}
 use Prim.Native.Nat.{_*_, _-_, _≤_, _<_}
 use native.Mathlib.Omega.{arith}
 use lib.ListN.{length, take}
-use Rattle.exporter.specs.Queue.{sumOf}
-use Rattle.exporter.proofs.Arrays.{sum-more}
+use Rattle.session.specs.Queue.{sumOf}
+use Rattle.session.proofs.Arrays.{sum-more}
 use borrow.Author.Needs.{needs}
 use Rattle.exporter.proofs.queue.octets_to.Statement.{statement}
 use Rattle.exporter.proofs.queue.octets_to.Tie as tie

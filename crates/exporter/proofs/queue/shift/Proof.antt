@@ -4,7 +4,7 @@ use mathlib.Core.Path.{_≡_, _∙_}
 use Prim.Native.Nat.{_-_, _≤_}
 use native.Mathlib.Omega.{arith}
 use lib.ListN.{length}
-use Rattle.exporter.proofs.Arrays.{Moved, moved-more, moved-all}
+use Rattle.session.proofs.Arrays.{Moved, moved-more, moved-all}
 use borrow.Author.Needs.{needs}
 use Rattle.exporter.proofs.queue.shift.Statement.{statement}
 use Rattle.exporter.proofs.queue.shift.Tie as tie

@@ -1,7 +1,7 @@
 -- `with_server` meets its contract. The shift of 1 is the power of 2 that is the server's bit, and it does not leave the 16 bits, since the
 -- server is below 8.
 use native.Mathlib.Omega.{arith}
-use Rattle.exporter.proofs.Arrays.{one-shifted}
+use Rattle.session.proofs.Arrays.{one-shifted}
 use borrow.Author.Needs.{needs}
 use Rattle.exporter.proofs.queue.with_server.Statement.{statement}
 use Rattle.exporter.proofs.queue.with_server.Tie as tie

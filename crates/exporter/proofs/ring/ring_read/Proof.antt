@@ -7,9 +7,9 @@ use native.Mathlib.Omega.{arith}
 use lib.ListN.{length, take, drop, length-drop}
 use lib.Seq.{length-take-le, take-all}
 use Rattle.octets.specs.Numbers.{putAt}
-use Rattle.exporter.specs.Queue.{ringRead}
+use Rattle.session.specs.Queue.{ringRead}
 use Rattle.octets.proofs.Stores.{put-fits, put-join}
-use Rattle.exporter.proofs.Rings.{read-length, read-near, read-far}
+use Rattle.session.proofs.Rings.{read-length, read-near, read-far}
 use borrow.Author.Needs.{needs}
 use Rattle.exporter.proofs.ring.ring_read.Statement.{statement}
 use Rattle.exporter.proofs.ring.ring_read.Tie as tie

@@ -5,8 +5,8 @@ use Prim.Native.Nat.{_+_, _-_, _%_, _≤_}
 use native.Mathlib.Nat.{mod-lt, mod-add-mod, add-zero, add-assoc}
 use native.Mathlib.Omega.{arith}
 use lib.ListN.{length, drop, length-set}
-use Rattle.exporter.specs.Queue.{ringWrite}
-use Rattle.exporter.proofs.Rings.{write-more, write-done}
+use Rattle.session.specs.Queue.{ringWrite}
+use Rattle.session.proofs.Rings.{write-more, write-done}
 use borrow.Author.Needs.{needs}
 use Rattle.exporter.proofs.ring.ring_write.Statement.{statement}
 use Rattle.exporter.proofs.ring.ring_write.Tie as tie

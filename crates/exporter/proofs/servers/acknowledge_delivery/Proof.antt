@@ -1,7 +1,7 @@
 -- `acknowledge_delivery` meets its contract, by whether n is 0. The saturating subtraction is that of the definition, and n is at most
 -- reached, so the other does not go below 0.
 use borrow.Author.Tests.{eq-eqb, ne-eqb}
-use Rattle.exporter.specs.Servers.{acknowledged}
+use Rattle.session.specs.Servers.{acknowledged}
 use borrow.Author.Needs.{needs}
 use Rattle.exporter.proofs.servers.acknowledge_delivery.Statement.{statement}
 use Rattle.exporter.proofs.servers.acknowledge_delivery.Tie as tie

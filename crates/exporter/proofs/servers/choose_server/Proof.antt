@@ -2,7 +2,7 @@
 -- `choose`.
 use mathlib.Core.Path.{_≡_}
 use native.Mathlib.Omega.{arith}
-use Rattle.exporter.specs.Servers.{choose}
+use Rattle.session.specs.Servers.{choose}
 use Prim.Native.Nat.{_≤_, _-_}
 use native.Mathlib.Numerals.{add-one}
 use borrow.Author.Needs.{needs}

@@ -1,8 +1,8 @@
 -- `phase_at` meets its contract. A number below 8 reads its entry; past the end the definition reads a closed server, as the code returns.
 use native.Mathlib.Omega.{arith}
 use lib.ListN.{List·getD-eq-default}
-use Rattle.exporter.specs.declared.state.Phase.the-variants.{Closed}
-use Rattle.exporter.specs.Servers.{server}
+use Rattle.session.specs.declared.state.Phase.the-variants.{Closed}
+use Rattle.session.specs.Servers.{server}
 use borrow.Author.Needs.{needs}
 use Rattle.exporter.proofs.servers.phase_at.Statement.{statement}
 use Rattle.exporter.proofs.servers.phase_at.Tie as tie

@@ -5,9 +5,9 @@ use mathlib.Core.List.{_++_, map}
 use Prim.Native.Nat.{_≤_, _-_}
 use native.Mathlib.Omega.{arith}
 use lib.ListN.{take, drop, length}
-use Rattle.exporter.specs.Servers.{restart, server}
-use Rattle.exporter.specs.declared.state.Phase.the-variants.{Closed}
-use Rattle.exporter.proofs.Arrays.{map-suc, map-all}
+use Rattle.session.specs.Servers.{restart, server}
+use Rattle.session.specs.declared.state.Phase.the-variants.{Closed}
+use Rattle.session.proofs.Arrays.{map-suc, map-all}
 use borrow.Author.Needs.{needs}
 use Rattle.exporter.proofs.servers.restart_servers.Statement.{statement}
 use Rattle.exporter.proofs.servers.restart_servers.Tie as tie

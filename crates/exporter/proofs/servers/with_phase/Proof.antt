@@ -3,7 +3,7 @@
 use mathlib.Core.Path.{sym}
 use native.Mathlib.Omega.{arith}
 use lib.Seq.{set-out}
-use Rattle.exporter.specs.Servers.{server}
+use Rattle.session.specs.Servers.{server}
 use borrow.Author.Needs.{needs}
 use Rattle.exporter.proofs.servers.with_phase.Statement.{statement}
 use Rattle.exporter.proofs.servers.with_phase.Tie as tie

@@ -1,6 +1,6 @@
 -- `fresh_state` meets its contract. It builds the definition field by field, so the two are the same by computing.
 use mathlib.Core.Path.{refl}
-use Rattle.exporter.specs.Steps.{fresh}
+use Rattle.session.specs.Steps.{fresh}
 use Rattle.exporter.proofs.set_up.fresh_state.Statement.{statement}
 use Rattle.exporter.proofs.set_up.fresh_state.Tie as tie
 

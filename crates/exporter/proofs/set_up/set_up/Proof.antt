@@ -1,7 +1,7 @@
 -- `set_up` meets its contract. The settings are judged once. Where they are in their limits the fresh state is handed back, else the one
 -- that every call refuses.
 use mathlib.Core.Path.{sym, _∙_}
-use Rattle.exporter.specs.Steps.{setUp}
+use Rattle.session.specs.Steps.{setUp}
 use borrow.Author.Needs.{needs}
 use Rattle.exporter.proofs.set_up.set_up.Statement.{statement}
 use Rattle.exporter.proofs.set_up.set_up.Tie as tie

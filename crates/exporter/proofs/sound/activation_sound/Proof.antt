@@ -2,8 +2,8 @@
 -- reached was sent to the active server, whose number is below 8.
 use mathlib.Core.Path.{subst}
 use native.Mathlib.Omega.{arith}
-use Rattle.exporter.specs.Limits.{maxServers}
-use Rattle.exporter.specs.Changes.{Below}
+use Rattle.session.specs.Limits.{maxServers}
+use Rattle.session.specs.Parts.{Below}
 use borrow.Author.Needs.{needs}
 use Rattle.exporter.proofs.sound.activation_sound.Statement.{statement}
 use Rattle.exporter.proofs.sound.activation_sound.Tie as tie

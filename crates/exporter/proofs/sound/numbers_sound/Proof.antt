@@ -1,5 +1,5 @@
 -- `numbers_sound` meets its contract. Its tests are those of `numbersSound`, joined in the same order.
-use Rattle.exporter.specs.Sound.{numbersSound}
+use Rattle.session.specs.Sound.{numbersSound}
 use borrow.Author.Needs.{needs}
 use Rattle.exporter.proofs.sound.numbers_sound.Statement.{statement}
 use Rattle.exporter.proofs.sound.numbers_sound.Tie as tie

@@ -4,10 +4,10 @@ use mathlib.Core.Path.{sym, _∙_}
 use native.Mathlib.Omega.{arith}
 use borrow.Author.Tests.{not-true, not-false, le-leb, lt-leb}
 use Rattle.wire.proofs.Each.{clause-last}
-use Rattle.exporter.specs.Limits.{maxServers}
-use Rattle.exporter.specs.Sound.{sound}
-use Rattle.exporter.proofs.SoundFacts.{numbers-facts, unsound, same-active}
-use Rattle.exporter.proofs.Choice.{choice-below}
+use Rattle.session.specs.Limits.{maxServers}
+use Rattle.session.specs.Sound.{sound}
+use Rattle.session.proofs.SoundFacts.{numbers-facts, unsound, same-active}
+use Rattle.session.proofs.Choice.{choice-below}
 use borrow.Author.Needs.{needs}
 use Rattle.exporter.proofs.sound.parts_sound.Statement.{statement}
 use Rattle.exporter.proofs.sound.parts_sound.Tie as tie

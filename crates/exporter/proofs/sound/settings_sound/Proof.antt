@@ -1,6 +1,6 @@
 -- `settings_sound` meets its contract. Its tests are those of `settingsSound`, joined in the same order.
 use mathlib.Core.Path.{refl}
-use Rattle.exporter.specs.Sound.{settingsSound}
+use Rattle.session.specs.Sound.{settingsSound}
 use Rattle.exporter.proofs.sound.settings_sound.Statement.{statement}
 use Rattle.exporter.proofs.sound.settings_sound.Tie as tie
 

@@ -1,7 +1,7 @@
 -- `tick` meets its contract. Soundness is judged once; the clock and the choice then give what a tick changes, which is applied to the
 -- state. The law `tick-turned` says that this is the step of the definition, also for an unsound state.
 use mathlib.Core.Path.{sym, _∙_}
-use Rattle.exporter.proofs.SoundFacts.{sound-facts, parts-of}
+use Rattle.session.proofs.SoundFacts.{sound-facts, parts-of}
 use Rattle.exporter.proofs.Ticks.{tick-turned}
 use borrow.Author.Needs.{needs}
 use Rattle.exporter.proofs.tick.tick.Statement.{statement}

@@ -1,6 +1,6 @@
 -- `tick_change` meets its contract. Each part of the change is one call, whose contract is that part of the definition; there is no branch,
 -- so one rewriting by all of them closes it.
-use Rattle.exporter.specs.Servers.{server}
+use Rattle.session.specs.Servers.{server}
 use borrow.Author.Needs.{needs}
 use Rattle.exporter.proofs.tick.tick_change.Statement.{statement}
 use Rattle.exporter.proofs.tick.tick_change.Tie as tie

@@ -6,10 +6,10 @@ use mathlib.Core.Bool.{true, false}
 use native.Mathlib.Omega.{arith}
 use borrow.Author.Tests.{le-leb, lt-leb}
 use lib.ListN.{length}
-use Rattle.exporter.specs.Changes.{stateOf}
-use Rattle.exporter.specs.Steps.{move}
+use Rattle.session.specs.Parts.{stateOf}
+use Rattle.session.specs.Steps.{move}
 use Rattle.exporter.specs.Moves.{transitionOf}
-use Rattle.exporter.proofs.SoundFacts.{passed-sound, failed-sound}
+use Rattle.session.proofs.SoundFacts.{passed-sound, failed-sound}
 use Rattle.exporter.proofs.Changes.{move-unsound, move-unknown, refused-change, moved-change}
 use Rattle.exporter.proofs.Moves.{table-fits, move-refused, move-roomed, fitted, unfitted}
 use borrow.Author.Needs.{needs}

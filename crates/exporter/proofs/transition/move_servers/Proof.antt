@@ -1,5 +1,5 @@
 -- `move_servers` meets its contract. Each arm of the match is the row of `transition` for that move, by the contract of its one call.
-use Rattle.exporter.specs.Servers.{transition}
+use Rattle.session.specs.Servers.{transition}
 use borrow.Author.Needs.{needs}
 use Rattle.exporter.proofs.transition.move_servers.Statement.{statement}
 use Rattle.exporter.proofs.transition.move_servers.Tie as tie

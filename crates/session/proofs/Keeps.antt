@@ -15,24 +15,24 @@ use borrow.Author.Tests.{ltb-false, leb-false, eqb-true, eq-eqb, ne-eqb}
 use Rattle.octets.specs.Answers.{judge, done}
 use Rattle.octets.proofs.Judging.{passed}
 use Rattle.wire.proofs.Each.{and-right}
-use Rattle.exporter.specs.Servers.{chosen, changed, settle, withServers, transition, sentOne, acknowledged, ticked}
-use Rattle.exporter.specs.Queue.{Entry, heldOctets, recordAt, has, with, pushed, dropFront, marked}
-use Rattle.exporter.specs.Sound.{sound}
-use Rattle.exporter.specs.Steps.{modulus, firstHeld, dsnAt, ackCount, Call, put, nextData, tick, ack, move, checks, withDelivery, after, settled, storeAfter}
-use Rattle.exporter.specs.History.{Ledger, withActivation, dsnOf, ackPlace, deliveryAfter, writtenBy, ledgerAfter, anyWriting, writtenIn}
-use Rattle.exporter.specs.Claim.{InRange}
-use Rattle.exporter.specs.declared.state.Active.{Active}
-use Rattle.exporter.specs.declared.state.Active.the-variants.{Nobody, Server}
-use Rattle.exporter.specs.declared.state.Delivery.{Delivery}
-use Rattle.exporter.specs.declared.state.State.{State}
-use Rattle.exporter.proofs.Choice.{chosen-below}
-use Rattle.exporter.proofs.Places.{dsn-add, dsn-back, dsn-ack, place-found}
-use Rattle.exporter.proofs.RingLaws.{write-length}
-use Rattle.exporter.proofs.QueueLaws.{or-elim, or-right, set-cases, shifted-at, has-with, has-zero, writtenTo}
-use Rattle.exporter.proofs.SoundFacts.{SoundFacts, sound-facts}
-use Rattle.exporter.proofs.SoundKept.{Sized, Calm, move-calm, tick-calm, active-some, ack-lower}
-use Rattle.exporter.proofs.HeldLaws.{held-kept, held-put, held-release}
-use Rattle.exporter.proofs.Agrees.{Core}
+use Rattle.session.specs.Servers.{chosen, changed, settle, withServers, transition, sentOne, acknowledged, ticked}
+use Rattle.session.specs.Queue.{Entry, heldOctets, recordAt, has, with, pushed, dropFront, marked}
+use Rattle.session.specs.Sound.{sound}
+use Rattle.session.specs.Steps.{modulus, firstHeld, dsnAt, ackCount, Call, put, nextData, tick, ack, move, checks, withDelivery, after, settled, storeAfter}
+use Rattle.session.specs.History.{Ledger, withActivation, dsnOf, ackPlace, deliveryAfter, writtenBy, ledgerAfter, anyWriting, writtenIn}
+use Rattle.session.specs.Claim.{InRange}
+use Rattle.session.specs.declared.state.Active.{Active}
+use Rattle.session.specs.declared.state.Active.the-variants.{Nobody, Server}
+use Rattle.session.specs.declared.state.Delivery.{Delivery}
+use Rattle.session.specs.declared.state.State.{State}
+use Rattle.session.proofs.Choice.{chosen-below}
+use Rattle.session.proofs.Places.{dsn-add, dsn-back, dsn-ack, place-found}
+use Rattle.session.proofs.RingLaws.{write-length}
+use Rattle.session.proofs.QueueLaws.{or-elim, or-right, set-cases, shifted-at, has-with, has-zero, writtenTo}
+use Rattle.session.proofs.SoundFacts.{SoundFacts, sound-facts}
+use Rattle.session.proofs.SoundKept.{Sized, Calm, move-calm, tick-calm, active-some, ack-lower}
+use Rattle.session.proofs.HeldLaws.{held-kept, held-put, held-release}
+use Rattle.session.proofs.Agrees.{Core}
 
 -- the ledger after the choice
 abbrev pub begun : Bool → Ledger → Ledger

@@ -11,9 +11,9 @@ use lib.ListN.{length}
 use Rattle.octets.specs.Answers.{Check, _when_, done, unsoundState}
 use Rattle.octets.proofs.Judging.{passed}
 use Rattle.octets.proofs.Stores.{cond-cases}
-use Rattle.exporter.specs.Servers.{start, stop, negotiate, offer, down, agree, malformed}
-use Rattle.exporter.specs.Steps.{Call, put, nextData, tick, ack, move, answer, checks, soundFor, after, settled, storeAfter, written, Outcome, step}
-use Rattle.exporter.specs.declared.state.State.{State}
+use Rattle.session.specs.Servers.{start, stop, negotiate, offer, down, agree, malformed}
+use Rattle.session.specs.Steps.{Call, put, nextData, tick, ack, move, answer, checks, soundFor, after, settled, storeAfter, written, Outcome, step}
+use Rattle.session.specs.declared.state.State.{State}
 
 -- a step whose call writes nothing where it is accepted writes nothing
 pub writes-nothing : (w : ℕ) (table : List ℕ) (room : ℕ) (c : Call) (s : State) (store : List ℕ) → written w table c s store ≡ []

@@ -13,16 +13,16 @@ use Rattle.wire.specs.Record.{recordValid}
 use Rattle.wire.specs.Messages.{maxRecordOctets, layoutOf}
 use Rattle.wire.specs.declared.message.DataHead.{DataHead}
 use Rattle.wire.specs.declared.message.Message.the-variants.{Data}
-use Rattle.exporter.specs.Servers.{sameActive, isNobody, phaseAt, offer, down}
-use Rattle.exporter.specs.Queue.{Entry, held}
-use Rattle.exporter.specs.Limits.{maxHeld}
-use Rattle.exporter.specs.Sound.{sound}
-use Rattle.exporter.specs.Steps.{modulus, Call, put, nextData, tick, ack, move, received, isSessions, replyTo, transitionChecks, Outcome, putStep, nextDataStep, receiveStep, offerStep, lineDownStep, tickStep, setUp}
-use Rattle.exporter.specs.History.{Writing, Ledger, History, dsnOf, placeOf, ackPlace, afterCall, freshHistory, anyWriting, writtenIn, writtenDuring}
-use Rattle.exporter.specs.declared.state.Active.{Active}
-use Rattle.exporter.specs.declared.state.Active.the-variants as active
-use Rattle.exporter.specs.declared.state.Settings.{Settings}
-use Rattle.exporter.specs.declared.state.State.{State}
+use Rattle.session.specs.Servers.{sameActive, isNobody, phaseAt, offer, down}
+use Rattle.session.specs.Queue.{Entry, held}
+use Rattle.session.specs.Limits.{maxHeld}
+use Rattle.session.specs.Sound.{sound}
+use Rattle.session.specs.Steps.{modulus, Call, put, nextData, tick, ack, move, received, isSessions, replyTo, transitionChecks, Outcome, putStep, nextDataStep, receiveStep, offerStep, lineDownStep, tickStep, setUp}
+use Rattle.session.specs.History.{Writing, Ledger, History, dsnOf, placeOf, ackPlace, afterCall, freshHistory, anyWriting, writtenIn, writtenDuring}
+use Rattle.session.specs.declared.state.Active.{Active}
+use Rattle.session.specs.declared.state.Active.the-variants as active
+use Rattle.session.specs.declared.state.Settings.{Settings}
+use Rattle.session.specs.declared.state.State.{State}
 
 -- ---- a run
 

@@ -14,7 +14,7 @@ use lib.ListN.{length, getD, set, take, drop, replicate, length-drop, length-rep
 use lib.Seq.{take-suc, take-all, drop-at, getD-drop}
 use Rattle.wire.specs.Each.{every}
 use Rattle.wire.proofs.Each.{every-at}
-use Rattle.exporter.specs.Queue.{sumOf, has, hasOther, shifted}
+use Rattle.session.specs.Queue.{sumOf, has, hasOther, shifted}
 
 -- ---- sums
 

@@ -9,15 +9,15 @@ use native.Mathlib.Nat.{zero-add, mod-add-mod}
 use native.Mathlib.Omega.{arith}
 use lib.ListN.{length, getD, take, drop, length-append, length-drop, List·getD-append}
 use lib.Seq.{getD-set-same, getD-set-other, getD-append-seam, getD-drop, ext-getD}
-use Rattle.exporter.specs.Queue.{Entry, sumOf, octetsTo, heldOctets, recordAt, held, pushed, shifted, dropFront}
-use Rattle.exporter.specs.Sound.{sound}
-use Rattle.exporter.specs.Steps.{put, ack, ackCount, after, storeAfter}
-use Rattle.exporter.specs.declared.state.State.{State}
-use Rattle.exporter.proofs.Rings.{read-same}
-use Rattle.exporter.proofs.RingLaws.{read-before, read-written}
-use Rattle.exporter.proofs.SoundFacts.{sound-facts}
-use Rattle.exporter.proofs.QueueLaws.{last-cases, shifted-at, sum-upto, sum-set, sum-shifted, noEntry, heldAt, held-length, held-at}
-use Rattle.exporter.proofs.SoundKept.{Sized}
+use Rattle.session.specs.Queue.{Entry, sumOf, octetsTo, heldOctets, recordAt, held, pushed, shifted, dropFront}
+use Rattle.session.specs.Sound.{sound}
+use Rattle.session.specs.Steps.{put, ack, ackCount, after, storeAfter}
+use Rattle.session.specs.declared.state.State.{State}
+use Rattle.session.proofs.Rings.{read-same}
+use Rattle.session.proofs.RingLaws.{read-before, read-written}
+use Rattle.session.proofs.SoundFacts.{sound-facts}
+use Rattle.session.proofs.QueueLaws.{last-cases, shifted-at, sum-upto, sum-set, sum-shifted, noEntry, heldAt, held-length, held-at}
+use Rattle.session.proofs.SoundKept.{Sized}
 
 -- next data reads the record at its place of the list
 pub held-read : (s : State) (store : List ℕ) (i : ℕ) → i < s .queue .count → getD (held s store) i noEntry ≡ heldAt s store i

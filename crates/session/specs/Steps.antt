@@ -17,21 +17,21 @@ use Rattle.wire.specs.declared.message.Message.{Message}
 use Rattle.wire.specs.declared.message.Message.the-variants.{Start, StartAck, Stop, StopAck, TmplData, FinalTmplDataAck}
 use Rattle.wire.specs.declared.message.Message.the-variants.{StartNegotiate, StartNegotiateAck, Data, DataAck}
 use Rattle.wire.specs.declared.message.DataHead.{DataHead}
-use Rattle.exporter.specs.Servers.{phaseAt, isClosed, isOffered, canOffer, sameActive, isNobody, changed, settle, freshDelivery}
-use Rattle.exporter.specs.Servers.{withServers, Transition, start, stop, negotiate, offer, down, agree, malformed, transition, sentOne, acknowledged, ticked}
-use Rattle.exporter.specs.Queue.{sumOf, heldOctets, ringPlace, recordAt, ringWrite, markedSet, hasOther, pushed, dropFront, marked}
-use Rattle.exporter.specs.Limits.{maxServers, maxHeld}
-use Rattle.exporter.specs.Sound.{settingsSound, sound}
-use Rattle.exporter.specs.declared.state.Phase.{Phase}
-use Rattle.exporter.specs.declared.state.Active.{Active}
-use Rattle.exporter.specs.declared.state.Active.the-variants as active
-use Rattle.exporter.specs.declared.state.Settings.{Settings}
-use Rattle.exporter.specs.declared.state.Delivery.{Delivery}
-use Rattle.exporter.specs.declared.state.Queue.{Queue}
-use Rattle.exporter.specs.declared.state.State.{State}
-use Rattle.exporter.specs.declared.state.Made.{Made}
-use Rattle.exporter.specs.declared.state.Stepped.{Stepped}
-use Rattle.exporter.specs.declared.state.Wrote.{Wrote}
+use Rattle.session.specs.Servers.{phaseAt, isClosed, isOffered, canOffer, sameActive, isNobody, changed, settle, freshDelivery}
+use Rattle.session.specs.Servers.{withServers, Transition, start, stop, negotiate, offer, down, agree, malformed, transition, sentOne, acknowledged, ticked}
+use Rattle.session.specs.Queue.{sumOf, heldOctets, ringPlace, recordAt, ringWrite, markedSet, hasOther, pushed, dropFront, marked}
+use Rattle.session.specs.Limits.{maxServers, maxHeld}
+use Rattle.session.specs.Sound.{settingsSound, sound}
+use Rattle.session.specs.declared.state.Phase.{Phase}
+use Rattle.session.specs.declared.state.Active.{Active}
+use Rattle.session.specs.declared.state.Active.the-variants as active
+use Rattle.session.specs.declared.state.Settings.{Settings}
+use Rattle.session.specs.declared.state.Delivery.{Delivery}
+use Rattle.session.specs.declared.state.Queue.{Queue}
+use Rattle.session.specs.declared.state.State.{State}
+use Rattle.session.specs.declared.state.Made.{Made}
+use Rattle.session.specs.declared.state.Stepped.{Stepped}
+use Rattle.session.specs.declared.state.Wrote.{Wrote}
 
 -- ---- sequence numbers (01, "Exporter")
 

@@ -8,7 +8,7 @@ use native.Mathlib.Numerals.{add-one}
 use native.Mathlib.Omega.{arith}
 use lib.ListN.{length, getD, take, drop, set, length-drop, drop-of-length-le}
 use lib.Seq.{drop-cons, take-all}
-use Rattle.exporter.specs.Queue.{ringRead, ringWrite}
+use Rattle.session.specs.Queue.{ringRead, ringWrite}
 
 -- ---- reading
 

@@ -6,14 +6,14 @@ use lib.Dec.{eqb, leb, ltb}
 use lib.ListN.{getD}
 use Rattle.wire.specs.Each.{every, allOf}
 use Rattle.wire.specs.Messages.{maxRecordOctets}
-use Rattle.exporter.specs.Limits.{maxServers, maxThreshold, minStoreOctets, maxStoreOctets, maxHeld}
-use Rattle.exporter.specs.Servers.{sameActive, chosen}
-use Rattle.exporter.specs.Queue.{heldOctets, has}
-use Rattle.exporter.specs.declared.state.Active.{Active}
-use Rattle.exporter.specs.declared.state.Active.the-variants as active
-use Rattle.exporter.specs.declared.state.Settings.{Settings}
-use Rattle.exporter.specs.declared.state.Delivery.{Delivery}
-use Rattle.exporter.specs.declared.state.State.{State}
+use Rattle.session.specs.Limits.{maxServers, maxThreshold, minStoreOctets, maxStoreOctets, maxHeld}
+use Rattle.session.specs.Servers.{sameActive, chosen}
+use Rattle.session.specs.Queue.{heldOctets, has}
+use Rattle.session.specs.declared.state.Active.{Active}
+use Rattle.session.specs.declared.state.Active.the-variants as active
+use Rattle.session.specs.declared.state.Settings.{Settings}
+use Rattle.session.specs.declared.state.Delivery.{Delivery}
+use Rattle.session.specs.declared.state.State.{State}
 
 -- ---- settings
 

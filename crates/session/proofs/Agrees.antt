@@ -5,15 +5,15 @@ use mathlib.Core.Bool.{true, false, not}
 use mathlib.Core.List.{List}
 use Prim.Native.Nat.{ℕ, _+_, _≤_, _<_}
 use lib.ListN.{length, getD, drop}
-use Rattle.exporter.specs.Queue.{Entry, has, held}
-use Rattle.exporter.specs.Sound.{sound}
-use Rattle.exporter.specs.History.{Writing, Ledger, History, dsnOf, writtenIn, writtenDuring}
-use Rattle.exporter.specs.declared.state.Active.the-variants.{Server}
-use Rattle.exporter.specs.declared.state.Settings.{Settings}
-use Rattle.exporter.specs.declared.state.Queue.{Queue}
-use Rattle.exporter.specs.declared.state.State.{State}
-use Rattle.exporter.proofs.QueueLaws.{writtenTo}
-use Rattle.exporter.proofs.SoundKept.{Sized}
+use Rattle.session.specs.Queue.{Entry, has, held}
+use Rattle.session.specs.Sound.{sound}
+use Rattle.session.specs.History.{Writing, Ledger, History, dsnOf, writtenIn, writtenDuring}
+use Rattle.session.specs.declared.state.Active.the-variants.{Server}
+use Rattle.session.specs.declared.state.Settings.{Settings}
+use Rattle.session.specs.declared.state.Queue.{Queue}
+use Rattle.session.specs.declared.state.State.{State}
+use Rattle.session.proofs.QueueLaws.{writtenTo}
+use Rattle.session.proofs.SoundKept.{Sized}
 
 -- the queue and the next DSN, against the records, the released number R and the writings
 pub record Stock (w : ℕ) (p : Settings) (records : List Entry) (R : ℕ) (writings : List Writing) (q : Queue) (next : ℕ) : Type 0 where

@@ -9,9 +9,9 @@ use native.Mathlib.Decide.{decLe, decLt}
 use native.Mathlib.Omega.{arith}
 use lib.Dec.{eqb, ltb}
 use borrow.Author.Tests.{eq-eqb, ne-eqb, lt-ltb, le-ltb}
-use Rattle.exporter.specs.Steps.{modulus}
-use Rattle.exporter.specs.History.{dsnOf, placeOf}
-use Rattle.exporter.specs.declared.state.Settings.{Settings}
+use Rattle.session.specs.Steps.{modulus}
+use Rattle.session.specs.History.{dsnOf, placeOf}
+use Rattle.session.specs.declared.state.Settings.{Settings}
 
 -- ---- remainders
 

@@ -14,20 +14,20 @@ use Rattle.wire.specs.Messages.{headerChecks, sessionOf, messageNumber, headerO
 use Rattle.wire.specs.Messages as wire
 use Rattle.wire.specs.declared.message.Message.{Message}
 use Rattle.wire.specs.declared.message.Message.the-variants.{Start, StartAck, Stop, StopAck, TmplData, FinalTmplDataAck, StartNegotiate, StartNegotiateAck, Data, DataAck}
-use Rattle.exporter.specs.Servers.{start, stop, negotiate, offer, down, agree, malformed, changed, Transition}
-use Rattle.exporter.specs.Queue.{heldFrom, held}
-use Rattle.exporter.specs.Sound.{settingsSound}
-use Rattle.exporter.specs.Steps.{modulus, Call, put, nextData, tick, ack, move, isReceived, formAnswer, callOfMessage, received, written, checks, answer, after, settled, storeAfter, Outcome, step, fresh, refusedState, setUp}
-use Rattle.exporter.specs.History.{History, deliveryAfter, ledgerAfter, afterAccepted, afterCall, freshHistory, anyWriting}
-use Rattle.exporter.specs.Claim.{Event, Put, NextData, Receive, OfferTemplates, LineDown, Tick, Session, Exporter, outcome, storeLeft, advance, run, begin, Heard, callOf, transcript, historyFrom, Premises, InRange, AllInRange, roomOf, tableOf, nextPlace, CallClaim, namedBy, lastNamed, Calls, historyOf, Demand3, AllOctets, sessionOf32, Demand3Of32}
-use Rattle.exporter.specs.declared.state.Settings.{Settings}
-use Rattle.exporter.specs.declared.state.State.{State}
-use Rattle.exporter.specs.declared.state.Made.{Made}
-use Rattle.exporter.proofs.Places.{wide-modulus, dsn-first}
-use Rattle.exporter.proofs.Agrees.{Agrees}
-use Rattle.exporter.proofs.SoundKept.{fresh-sound}
-use Rattle.exporter.proofs.Keeps.{begun-released, written-released}
-use Rattle.exporter.proofs.Calls.{step-settings, step-keeps, judge-other, Fair, call-claim, account-of}
+use Rattle.session.specs.Servers.{start, stop, negotiate, offer, down, agree, malformed, changed, Transition}
+use Rattle.session.specs.Queue.{heldFrom, held}
+use Rattle.session.specs.Sound.{settingsSound}
+use Rattle.session.specs.Steps.{modulus, Call, put, nextData, tick, ack, move, isReceived, formAnswer, callOfMessage, received, written, checks, answer, after, settled, storeAfter, Outcome, step, fresh, refusedState, setUp}
+use Rattle.session.specs.History.{History, deliveryAfter, ledgerAfter, afterAccepted, afterCall, freshHistory, anyWriting}
+use Rattle.session.specs.Claim.{Event, Put, NextData, Receive, OfferTemplates, LineDown, Tick, Session, Exporter, outcome, storeLeft, advance, run, begin, Heard, callOf, transcript, historyFrom, Premises, InRange, AllInRange, roomOf, tableOf, nextPlace, CallClaim, namedBy, lastNamed, Calls, historyOf, Demand3, AllOctets, sessionOf32, Demand3Of32}
+use Rattle.session.specs.declared.state.Settings.{Settings}
+use Rattle.session.specs.declared.state.State.{State}
+use Rattle.session.specs.declared.state.Made.{Made}
+use Rattle.session.proofs.Places.{wide-modulus, dsn-first}
+use Rattle.session.proofs.Agrees.{Agrees}
+use Rattle.session.proofs.SoundKept.{fresh-sound}
+use Rattle.session.proofs.Keeps.{begun-released, written-released}
+use Rattle.session.proofs.Calls.{step-settings, step-keeps, judge-other, Fair, call-claim, account-of}
 
 -- ---- what a call is lent
 

@@ -7,14 +7,14 @@ use mathlib.Core.Bool.{Bool, true, false, not, _&&_, _||_, cond}
 use mathlib.Core.List.{List, map}
 use lib.ListN.{getD, set, replicate}
 use lib.Dec.{eqb, ltb}
-use Rattle.exporter.specs.Limits.{maxServers}
-use Rattle.exporter.specs.declared.state.Phase.{Phase}
-use Rattle.exporter.specs.declared.state.Phase.the-variants.{Closed, Started, Offered, Agreed, Late}
-use Rattle.exporter.specs.declared.state.Server.{Server}
-use Rattle.exporter.specs.declared.state.Active.{Active}
-use Rattle.exporter.specs.declared.state.Active.the-variants as active
-use Rattle.exporter.specs.declared.state.Settings.{Settings}
-use Rattle.exporter.specs.declared.state.Delivery.{Delivery}
+use Rattle.session.specs.Limits.{maxServers}
+use Rattle.session.specs.declared.state.Phase.{Phase}
+use Rattle.session.specs.declared.state.Phase.the-variants.{Closed, Started, Offered, Agreed, Late}
+use Rattle.session.specs.declared.state.Server.{Server}
+use Rattle.session.specs.declared.state.Active.{Active}
+use Rattle.session.specs.declared.state.Active.the-variants as active
+use Rattle.session.specs.declared.state.Settings.{Settings}
+use Rattle.session.specs.declared.state.Delivery.{Delivery}
 
 -- ---- phases: server states of 01
 

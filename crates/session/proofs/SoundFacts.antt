@@ -10,16 +10,16 @@ use borrow.Author.Tests.{not-true, not-false, leb-true, ltb-true, eqb-true, le-l
 use Rattle.wire.specs.Each.{every, allOf}
 use Rattle.wire.proofs.Each.{and-left, and-right, every-at, every-intro, clause-first, clause-rest, cond-same}
 use Rattle.wire.specs.Messages.{maxRecordOctets}
-use Rattle.exporter.specs.Limits.{maxServers, maxThreshold, minStoreOctets, maxStoreOctets, maxHeld}
-use Rattle.exporter.specs.Servers.{sameActive, chosen}
-use Rattle.exporter.specs.Queue.{heldOctets, has}
-use Rattle.exporter.specs.Sound.{settingsSound, numbersSound, entrySound, activationSound, sound}
-use Rattle.exporter.specs.Changes.{stateOf}
-use Rattle.exporter.specs.declared.state.Active.{Active}
-use Rattle.exporter.specs.declared.state.Active.the-variants.{Nobody, Server}
-use Rattle.exporter.specs.declared.state.Settings.{Settings}
-use Rattle.exporter.specs.declared.state.Delivery.{Delivery}
-use Rattle.exporter.specs.declared.state.State.{State}
+use Rattle.session.specs.Limits.{maxServers, maxThreshold, minStoreOctets, maxStoreOctets, maxHeld}
+use Rattle.session.specs.Servers.{sameActive, chosen}
+use Rattle.session.specs.Queue.{heldOctets, has}
+use Rattle.session.specs.Sound.{settingsSound, numbersSound, entrySound, activationSound, sound}
+use Rattle.session.specs.Parts.{stateOf}
+use Rattle.session.specs.declared.state.Active.{Active}
+use Rattle.session.specs.declared.state.Active.the-variants.{Nobody, Server}
+use Rattle.session.specs.declared.state.Settings.{Settings}
+use Rattle.session.specs.declared.state.Delivery.{Delivery}
+use Rattle.session.specs.declared.state.State.{State}
 
 -- ---- tests that all hold
 

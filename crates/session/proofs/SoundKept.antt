@@ -18,24 +18,24 @@ use borrow.Author.Tests.{leb-false, ltb-false, eqb-true, eqb-false, eq-eqb}
 use Rattle.octets.specs.Answers.{_when_, judge, done, unsoundState, settingsOutsideLimits}
 use Rattle.octets.proofs.Judging.{passed}
 use Rattle.wire.specs.Messages.{maxRecordOctets}
-use Rattle.exporter.specs.Servers.{isNobody, chosen, changed, settle, withServers, withCounts, transition, sentOne, acknowledged, lateServers, anotherAgreed, expired, tickedFor, ticked}
-use Rattle.exporter.specs.Queue.{sumOf, octetsTo, heldOctets, has, with, markedSet, pushed, dropFront, marked}
-use Rattle.exporter.specs.Limits.{maxHeld}
-use Rattle.exporter.specs.Sound.{settingsSound, sound}
-use Rattle.exporter.specs.Steps.{Call, put, nextData, tick, ack, move, ackCount, checks, soundFor, answer, withDelivery, after, settled, step, fresh, refusedState, setUp}
-use Rattle.exporter.specs.declared.state.Server as serverOf
-use Rattle.exporter.specs.declared.state.Active.{Active}
-use Rattle.exporter.specs.declared.state.Active.the-variants.{Nobody, Server}
-use Rattle.exporter.specs.declared.state.Settings.{Settings}
-use Rattle.exporter.specs.declared.state.Delivery.{Delivery}
-use Rattle.exporter.specs.declared.state.Queue.{Queue}
-use Rattle.exporter.specs.declared.state.State.{State}
-use Rattle.exporter.specs.declared.state.Made.{Made}
-use Rattle.exporter.proofs.Arrays.{sum-more}
-use Rattle.exporter.proofs.SoundFacts.{SettingsFacts, NumbersFacts, IdleFacts, SoundFacts, settings-facts, sound-facts, facts-sound}
-use Rattle.exporter.proofs.Choice.{chosen-below, settle-choice, all-closed}
-use Rattle.exporter.proofs.Changes.{step-done, step-refused}
-use Rattle.exporter.proofs.QueueLaws.{set-cases, shifted-length, shifted-at, sum-set, sum-shifted, has-with}
+use Rattle.session.specs.Servers.{isNobody, chosen, changed, settle, withServers, withCounts, transition, sentOne, acknowledged, lateServers, anotherAgreed, expired, tickedFor, ticked}
+use Rattle.session.specs.Queue.{sumOf, octetsTo, heldOctets, has, with, markedSet, pushed, dropFront, marked}
+use Rattle.session.specs.Limits.{maxHeld}
+use Rattle.session.specs.Sound.{settingsSound, sound}
+use Rattle.session.specs.Steps.{Call, put, nextData, tick, ack, move, ackCount, checks, soundFor, answer, withDelivery, after, settled, step, fresh, refusedState, setUp}
+use Rattle.session.specs.declared.state.Server as serverOf
+use Rattle.session.specs.declared.state.Active.{Active}
+use Rattle.session.specs.declared.state.Active.the-variants.{Nobody, Server}
+use Rattle.session.specs.declared.state.Settings.{Settings}
+use Rattle.session.specs.declared.state.Delivery.{Delivery}
+use Rattle.session.specs.declared.state.Queue.{Queue}
+use Rattle.session.specs.declared.state.State.{State}
+use Rattle.session.specs.declared.state.Made.{Made}
+use Rattle.session.proofs.Arrays.{sum-more}
+use Rattle.session.proofs.SoundFacts.{SettingsFacts, NumbersFacts, IdleFacts, SoundFacts, settings-facts, sound-facts, facts-sound}
+use Rattle.session.proofs.Choice.{chosen-below, settle-choice, all-closed}
+use Rattle.session.proofs.StepLaws.{step-done, step-refused}
+use Rattle.session.proofs.QueueLaws.{set-cases, shifted-length, shifted-at, sum-set, sum-shifted, has-with}
 
 -- ---- set-up
 

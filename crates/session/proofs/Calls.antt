@@ -18,23 +18,23 @@ use Rattle.wire.proofs.Each.{and-left, and-right}
 use Rattle.wire.specs.Table.{isMissing, templateOf}
 use Rattle.wire.specs.Record.{recordValid}
 use Rattle.wire.specs.Messages.{maxRecordOctets}
-use Rattle.exporter.specs.Servers.{sameActive, changed, settle, Transition, start, stop, negotiate, offer, down, agree, malformed}
-use Rattle.exporter.specs.Queue.{Entry, sumOf, heldOctets, held}
-use Rattle.exporter.specs.Limits.{maxHeld}
-use Rattle.exporter.specs.Steps.{modulus, ackCount, Call, put, nextData, tick, ack, move, isDuplicate, headOf, written, isSessions, checks, soundFor, answer, after, settled, storeAfter, Outcome, step}
-use Rattle.exporter.specs.History.{Ledger, History, dsnOf, ackPlace, deliveryAfter, ledgerAfter, afterAccepted, afterCall}
-use Rattle.exporter.specs.Claim.{Session, InRange, entryAt, nextPlace, isDuplicateFor, dueMessage, octetsIn, dueChecks, Named, ReleasedBy, CallClaim, Account}
-use Rattle.exporter.specs.declared.state.Active.{Active}
-use Rattle.exporter.specs.declared.state.Active.the-variants.{Nobody, Server}
-use Rattle.exporter.specs.declared.state.Delivery.{Delivery}
-use Rattle.exporter.specs.declared.state.State.{State}
-use Rattle.exporter.proofs.SoundFacts.{SoundFacts, sound-facts, same-active}
-use Rattle.exporter.proofs.Places.{one-place, reached-test}
-use Rattle.exporter.proofs.QueueLaws.{duplicate-same, noEntry, heldAt, held-length, held-octets}
-use Rattle.exporter.proofs.Agrees.{Core, Agrees}
-use Rattle.exporter.proofs.SoundKept.{after-sized, accepted-sound}
-use Rattle.exporter.proofs.HeldLaws.{held-read}
-use Rattle.exporter.proofs.Keeps.{begun, begun-released, written-released, settle-keeps, held-dsn, acked, ack-dsn, ack-below, ack-named, call-keeps, call-delivery}
+use Rattle.session.specs.Servers.{sameActive, changed, settle, Transition, start, stop, negotiate, offer, down, agree, malformed}
+use Rattle.session.specs.Queue.{Entry, sumOf, heldOctets, held}
+use Rattle.session.specs.Limits.{maxHeld}
+use Rattle.session.specs.Steps.{modulus, ackCount, Call, put, nextData, tick, ack, move, isDuplicate, headOf, written, isSessions, checks, soundFor, answer, after, settled, storeAfter, Outcome, step}
+use Rattle.session.specs.History.{Ledger, History, dsnOf, ackPlace, deliveryAfter, ledgerAfter, afterAccepted, afterCall}
+use Rattle.session.specs.Claim.{Session, InRange, entryAt, nextPlace, isDuplicateFor, dueMessage, octetsIn, dueChecks, Named, ReleasedBy, CallClaim, Account}
+use Rattle.session.specs.declared.state.Active.{Active}
+use Rattle.session.specs.declared.state.Active.the-variants.{Nobody, Server}
+use Rattle.session.specs.declared.state.Delivery.{Delivery}
+use Rattle.session.specs.declared.state.State.{State}
+use Rattle.session.proofs.SoundFacts.{SoundFacts, sound-facts, same-active}
+use Rattle.session.proofs.Places.{one-place, reached-test}
+use Rattle.session.proofs.QueueLaws.{duplicate-same, noEntry, heldAt, held-length, held-octets}
+use Rattle.session.proofs.Agrees.{Core, Agrees}
+use Rattle.session.proofs.SoundKept.{after-sized, accepted-sound}
+use Rattle.session.proofs.HeldLaws.{held-read}
+use Rattle.session.proofs.Keeps.{begun, begun-released, written-released, settle-keeps, held-dsn, acked, ack-dsn, ack-below, ack-named, call-keeps, call-delivery}
 
 -- ---- the state is sound
 

@@ -5,14 +5,14 @@ use mathlib.Core.Bool.{Bool, false, _&&_, _||_, cond}
 use mathlib.Core.List.{List, [], _∷_, _++_}
 use lib.Dec.{eqb}
 use Rattle.octets.specs.Answers.{done}
-use Rattle.exporter.specs.Limits.{maxHeld}
-use Rattle.exporter.specs.Servers.{freshDelivery, changed, settle, withServers, transition, sentOne, acknowledged, ticked}
-use Rattle.exporter.specs.Queue.{Entry}
-use Rattle.exporter.specs.Steps.{modulus, Call, put, nextData, tick, ack, move}
-use Rattle.exporter.specs.declared.state.Active.{Active}
-use Rattle.exporter.specs.declared.state.Active.the-variants as active
-use Rattle.exporter.specs.declared.state.Settings.{Settings}
-use Rattle.exporter.specs.declared.state.Delivery.{Delivery}
+use Rattle.session.specs.Limits.{maxHeld}
+use Rattle.session.specs.Servers.{freshDelivery, changed, settle, withServers, transition, sentOne, acknowledged, ticked}
+use Rattle.session.specs.Queue.{Entry}
+use Rattle.session.specs.Steps.{modulus, Call, put, nextData, tick, ack, move}
+use Rattle.session.specs.declared.state.Active.{Active}
+use Rattle.session.specs.declared.state.Active.the-variants as active
+use Rattle.session.specs.declared.state.Settings.{Settings}
+use Rattle.session.specs.declared.state.Delivery.{Delivery}
 
 -- A writing: the record at this place was written to this server in this activation.
 pub record Writing : Type 0 where

@@ -6,10 +6,10 @@ use mathlib.Core.List.{List, [], _∷_, _++_}
 use lib.Bits.{bitOr}
 use lib.ListN.{getD, set, take, drop, replicate}
 use lib.Dec.{eqb}
-use Rattle.exporter.specs.declared.state.Active.{Active}
-use Rattle.exporter.specs.declared.state.Active.the-variants as active
-use Rattle.exporter.specs.declared.state.Queue.{Queue}
-use Rattle.exporter.specs.declared.state.State.{State}
+use Rattle.session.specs.declared.state.Active.{Active}
+use Rattle.session.specs.declared.state.Active.the-variants as active
+use Rattle.session.specs.declared.state.Queue.{Queue}
+use Rattle.session.specs.declared.state.State.{State}
 
 -- A record with its template ID.
 pub record Entry : Type 0 where

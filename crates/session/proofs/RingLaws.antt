@@ -7,8 +7,8 @@ use native.Mathlib.Nat.{mod-lt}
 use native.Mathlib.Omega.{arith}
 use lib.ListN.{length, getD, set, length-set}
 use lib.Seq.{getD-set-same, getD-set-other}
-use Rattle.exporter.specs.Queue.{ringRead, ringWrite}
-use Rattle.exporter.proofs.Places.{apart}
+use Rattle.session.specs.Queue.{ringRead, ringWrite}
+use Rattle.session.proofs.Places.{apart}
 
 pub write-length : (room : ℕ) (st : List ℕ) (at : ℕ) (r : List ℕ) → length (ringWrite room st at r) ≡ length st
 unfolding ringWrite

@@ -15,13 +15,13 @@ use Rattle.wire.specs.Record.{fixedLength, fieldLength, fieldAt, recordValid, r
 use Rattle.wire.specs.declared.message.Message.{Message}
 use Rattle.wire.specs.declared.message.Message.the-variants.{StartAck, Data}
 use Rattle.wire.specs.declared.message.Reading.the-variants as reading
-use Rattle.exporter.specs.Servers.{server, choose, changed, settle, acknowledged}
-use Rattle.exporter.specs.Queue.{sumOf, has, dropFront}
-use Rattle.exporter.specs.Sound.{settingsSound, numbersSound, sound}
-use Rattle.exporter.specs.Steps.{ack, ackCount, answer, checks, after, settled, storeAfter, written, step}
-use Rattle.exporter.specs.declared.state.Phase.the-variants.{Closed, Agreed}
-use Rattle.exporter.specs.declared.state.Active.the-variants.{Server}
-use Rattle.exporter.specs.declared.state.State.{State}
+use Rattle.session.specs.Servers.{server, choose, changed, settle, acknowledged}
+use Rattle.session.specs.Queue.{sumOf, has, dropFront}
+use Rattle.session.specs.Sound.{settingsSound, numbersSound, sound}
+use Rattle.session.specs.Steps.{ack, ackCount, answer, checks, after, settled, storeAfter, written, step}
+use Rattle.session.specs.declared.state.Phase.the-variants.{Closed, Agreed}
+use Rattle.session.specs.declared.state.Active.the-variants.{Server}
+use Rattle.session.specs.declared.state.State.{State}
 
 -- A row.
 pub data Star : Type 0 where

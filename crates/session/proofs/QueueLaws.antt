@@ -16,12 +16,12 @@ use lib.Pow.{pow-pos, pow-lt, pow-add}
 use lib.Seq.{getD-set-same, getD-set-other, getD-drop, take-append-le, take-add, take-set-le}
 use borrow.Author.Tests.{eqb-true, eqb-false, eq-eqb, ne-eqb, not-true}
 use Rattle.wire.proofs.Each.{and-left, and-right}
-use Rattle.exporter.specs.Queue.{Entry, sumOf, has, with, hasOther, shifted, recordAt, heldFrom}
-use Rattle.exporter.specs.History.{Writing, anyWriting}
-use Rattle.exporter.specs.Claim.{writtenToOther, octetsIn}
-use Rattle.exporter.specs.declared.state.State.{State}
-use Rattle.exporter.proofs.Arrays.{sum-append, sum-more}
-use Rattle.exporter.proofs.Rings.{read-length}
+use Rattle.session.specs.Queue.{Entry, sumOf, has, with, hasOther, shifted, recordAt, heldFrom}
+use Rattle.session.specs.History.{Writing, anyWriting}
+use Rattle.session.specs.Claim.{writtenToOther, octetsIn}
+use Rattle.session.specs.declared.state.State.{State}
+use Rattle.session.proofs.Arrays.{sum-append, sum-more}
+use Rattle.session.proofs.Rings.{read-length}
 
 -- ---- bools
 

@@ -1,0 +1,28 @@
+-- What a refused and an accepted step is.
+use mathlib.Core.Path.{_≡_}
+use mathlib.Core.List.{List, []}
+use Prim.Native.Nat.{ℕ}
+use borrow.Author.Tests.{ne-eqb}
+use Rattle.octets.specs.Answers.{done}
+use Rattle.session.specs.Servers.{chosen, settle, changed}
+use Rattle.session.specs.Steps.{Call, step, answer, after, settled, storeAfter, written}
+use Rattle.session.specs.declared.state.State.{State}
+use Rattle.session.proofs.SoundFacts.{active-same}
+
+-- where the active server is the one to be chosen, choosing changes nothing
+pub settled-same : (s : State) → s .delivery .active ≡ chosen (s .settings) (s .delivery) → settled s ≡ s
+unfolding settled settle changed
+settled-same s e = rw (← e, active-same (s .delivery .active))
+
+-- ---- calls that are refused, and those that are not
+
+module _ (w : ℕ) (table : List ℕ) (room : ℕ) (c : Call) (s : State) (store : List ℕ) where
+  pub step-refused : (a : ℕ) → (a ≡ done → ⊥) → answer w table room c s store ≡ a
+      → step w table room c s store ≡ record { answer = a; state = s; store = store; written = [] }
+  unfolding step
+  step-refused a h e = rw (e, ne-eqb a done h)
+
+  pub step-done : answer w table room c s store ≡ done
+      → step w table room c s store ≡ record { answer = done; state = settled (after w c s); store = storeAfter c s store; written = written w table c s store }
+  unfolding step
+  step-done e = rw e

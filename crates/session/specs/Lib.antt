@@ -1,0 +1,9 @@
+-- The definitions, in reading order: limits, servers, the queue, sound states, the calls and their steps, the history and the claim.
+pub mod Limits
+pub mod Servers
+pub mod Queue
+pub mod Sound
+pub mod Steps
+pub mod History
+pub mod Claim
+pub mod Parts
