@@ -69,3 +69,11 @@ write-more room st at octets i h = rw (← add-assoc at i 1, drop-cons octets i 
 pub write-done : (room : ℕ) (st : List ℕ) (k : ℕ) (octets : List ℕ) (i : ℕ) → length octets ≤ i → ringWrite room st k (drop i octets) ≡ st
 unfolding ringWrite
 write-done room st k octets i h = rw (drop-of-length-le octets h)
+
+-- ---- places in the store
+
+-- a place up to one store's length past the end, brought back into the store
+pub place-back : (at room : ℕ) → room ≤ at → at < room + room → at - room ≡ at % room
+place-back at room l h =
+    let e : at - room + room ≡ at = omega arith in
+    sym (mod-eq-of-lt {n = at - room} {m = room} (omega arith)) ∙ sym (add-mod-right (at - room) room) ∙ ap (λ (n : ℕ). n % room) e

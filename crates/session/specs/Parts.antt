@@ -1,7 +1,7 @@
 -- A state by its parts, for functions that are handed the parts. These definitions render no rule of 01. Assumes nothing.
 use Prim.Native.Nat.{ℕ, _<_}
 use mathlib.Core.Bool.{Bool}
-use mathlib.Core.List.{List}
+use mathlib.Core.List.{List, []}
 use Rattle.session.specs.declared.state.Active.{Active}
 use Rattle.session.specs.declared.state.Active.the-variants as active
 use Rattle.session.specs.declared.state.Settings.{Settings}
@@ -25,3 +25,7 @@ stateOf p capacity d due count lengths templates receivers start next =
 abbrev pub Below : ℕ → Active → Type 0
 Below n active.Nobody = Unit {0}
 Below n (active.Server v) = v < n
+
+-- the parts of a state that soundness looks at
+abbrev pub partsIn : State → State
+partsIn s = stateOf (s .settings) (s .capacity) (s .delivery) (s .due) (s .queue .count) (s .queue .lengths) [] (s .queue .receivers) (s .start) 0

@@ -81,28 +81,28 @@ fn play(
         let server = events[at + 1];
         match code {
             PUT => {
-                let left = exporter::put::put(state, store, table, id, r);
+                let left = sending::put::put(state, store, table, id, r);
                 state = left.state;
                 total = add(total, left.answer, 0);
             }
             NEXT_DATA => {
-                let left = exporter::next_data::next_data(state, store, out);
+                let left = sending::next_data::next_data(state, store, out);
                 state = left.state;
                 total = add(total, left.answer, left.written);
             }
             TICK => {
-                let left = exporter::tick::tick(state);
+                let left = ticking::tick::tick(state);
                 state = left.state;
                 total = add(total, left.answer, 0);
             }
             OFFER => {
-                let left = exporter::offer_templates::offer_templates(state, server, table, out);
+                let left = receiving::offer_templates::offer_templates(state, server, table, out);
                 state = left.state;
                 total = add(total, left.answer, left.written);
             }
             _ => {
                 let m = message_at(events, at);
-                let left = exporter::receive::receive(state, server, m, out);
+                let left = receiving::receive::receive(state, server, m, out);
                 state = left.state;
                 total = add(total, left.answer, left.written);
             }
@@ -130,6 +130,6 @@ pub extern "C" fn crane_session(
     ensures { λ n. ⌜ PlayedTo (sessionEnd (settingsOf servers threshold duration initial)
         (record { table = now (table .entry); template = id; octets = now (r .entry); events = now (events .entry) }) (now (store .entry)) (now (out .entry))) n (now (store .exit)) (now (out .exit)) ⌝ }
 {
-    let made = exporter::set_up::set_up(settings(servers, threshold, duration, initial), store);
+    let made = soundness::set_up::set_up(settings(servers, threshold, duration, initial), store);
     play(made, store, table, id, r, events, out)
 }

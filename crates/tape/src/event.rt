@@ -95,19 +95,19 @@ pub(crate) fn call<'a>(
 {
     if kind == Kind::PUT {
         let id = octets::get_u16(b, 0);
-        return wrote(exporter::put::put(s, store, table, id, record_of(b)));
+        return wrote(sending::put::put(s, store, table, id, record_of(b)));
     }
     if kind == Kind::MESSAGE {
-        return exporter::receive::receive(s, server, b, out);
+        return receiving::receive::receive(s, server, b, out);
     }
     if kind == Kind::DOWN {
-        return wrote(exporter::line_down::line_down(s, server));
+        return wrote(receiving::line_down::line_down(s, server));
     }
     if kind == Kind::TICK {
-        return wrote(exporter::tick::tick(s));
+        return wrote(ticking::tick::tick(s));
     }
     if kind == Kind::NEXT {
-        return exporter::next_data::next_data(s, store, out);
+        return sending::next_data::next_data(s, store, out);
     }
-    exporter::offer_templates::offer_templates(s, server, table, out)
+    receiving::offer_templates::offer_templates(s, server, table, out)
 }

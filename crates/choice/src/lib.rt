@@ -1,0 +1,3 @@
+// Part of the exporter.
+pub mod change;
+pub mod servers;

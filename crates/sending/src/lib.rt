@@ -1,0 +1,3 @@
+// Part of the exporter.
+pub mod next_data;
+pub mod put;

@@ -1,0 +1,3 @@
+// Part of the exporter.
+pub mod set_up;
+pub mod sound;

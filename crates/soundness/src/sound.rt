@@ -1,0 +1,100 @@
+// The limits of the settings, and whether a state is sound.
+ghost use mathlib.Core.Path.{_≡_};
+ghost use Prim.Native.Nat.{_≤_};
+ghost use mathlib.Core.List.{[]};
+ghost use Rattle.session.specs.Limits.{maxServers, maxHeld};
+ghost use Rattle.session.specs.Parts.{Below, stateOf};
+ghost use Rattle.session.specs.Sound.{settingsSound, numbersSound, activationSound, sound};
+use held::queue::MAX_HELD;
+use choice::servers::MAX_SERVERS;
+use session::state::Active;
+use session::state::Delivery;
+use session::state::Settings;
+
+// The greatest threshold.
+pub const MAX_THRESHOLD: u8 = 64;
+
+// The fewest octets that a store has.
+pub const MIN_STORE_OCTETS: usize = 1024;
+
+// The most octets that a store has.
+pub const MAX_STORE_OCTETS: usize = 65536;
+
+// Whether settings and a store's length are in their limits.
+pub fn settings_sound(p: Settings, room: usize) -> bool
+    ensures { λ r. ⌜ r ≡ settingsSound p room ⌝ }
+{
+    (1 <= p.servers)
+        & (p.servers <= MAX_SERVERS)
+        & (1 <= p.threshold)
+        & (p.threshold <= MAX_THRESHOLD)
+        & (1 <= p.duration)
+        & (MIN_STORE_OCTETS <= room)
+        & (room <= MAX_STORE_OCTETS)
+}
+
+// Whether the numbers of a state are in their limits.
+fn numbers_sound(
+    p: Settings,
+    room: usize,
+    d: Delivery,
+    due: bool,
+    count: usize,
+    start: usize,
+) -> bool
+    ensures { λ r. ⌜ r ≡ numbersSound p room d due count start ⌝ }
+{
+    settings_sound(p, room)
+        & (count <= MAX_HELD)
+        & (start < room)
+        & (d.sent <= d.reached)
+        & (d.reached <= count)
+        & (d.timer < p.duration)
+        & (!due | (d.reached == 0))
+}
+
+// Whether the activation is as the records have it.
+fn activation_sound(d: Delivery, receivers: &[u16; 64]) -> bool
+    requires { ⌜ (d .reached ≤ maxHeld) × Below maxServers (d .active) ⌝ }
+    ensures { λ r. ⌜ r ≡ activationSound d (now (receivers .entry)) (d .active) ⌝ }
+{
+    let active = d.active;
+    match active {
+        Active::Nobody => (d.sent == 0) & (d.reached == 0) & (d.timer == 0),
+        Active::Server(v) => held::queue::all_received(receivers, d.reached, v),
+    }
+}
+
+// Whether the parts of a state that soundness looks at are those of a sound state.
+pub fn parts_sound<'a>(
+    p: Settings,
+    room: usize,
+    d: Delivery,
+    due: bool,
+    count: usize,
+    lengths: &'a [u16; 64],
+    receivers: &'a [u16; 64],
+    start: usize,
+) -> bool
+    ensures { λ r. ⌜ r ≡ sound (stateOf p room d due count (now (lengths .entry)) [] (now (receivers .entry)) start 0) ⌝ }
+{
+    if !numbers_sound(p, room, d, due, count, start) {
+        return false;
+    }
+    if !held::queue::entries_sound(lengths, receivers, count, p.servers) {
+        return false;
+    }
+    if room < held::queue::octets_to(lengths, count) as usize {
+        return false;
+    }
+    let priorities = p.priorities;
+    let servers = d.servers;
+    let active = d.active;
+    if !choice::servers::same_active(
+        active,
+        choice::servers::choose_server(priorities, servers, p.servers),
+    ) {
+        return false;
+    }
+    activation_sound(d, receivers)
+}

@@ -1,0 +1,2 @@
+// Part of the exporter.
+pub mod tick;
