@@ -5,28 +5,28 @@ use mathlib.Core.List.{List, [], _∷_}
 use lib.Dec.{eqb}
 use lib.ListN.{length, getD}
 use Rattle.octets.specs.Answers.{done, unsoundTable}
-use Rattle.wire.specs.Table.{tableSound}
-use Rattle.wire.specs.Messages.{start, startAck, stop, stopAck, tmplData, finalTmplDataAck, startNegotiate, startNegotiateAck, dataNumber, dataAck, writeOf, writeOut}
-use Rattle.wire.specs.declared.table.Template.{Template}
-use Rattle.wire.specs.declared.table.Found.{Found}
-use Rattle.wire.specs.declared.table.Found.the-variants as found
-use Rattle.wire.specs.declared.message.DataHead.{DataHead}
-use Rattle.wire.specs.declared.message.Message.{Message}
-use Rattle.wire.specs.declared.message.Message.the-variants.{Start, StartAck, Stop, StopAck, TmplData, FinalTmplDataAck, StartNegotiate, StartNegotiateAck, Data, DataAck}
-use Rattle.wire.specs.declared.message.Reading.{Reading}
-use Rattle.wire.specs.declared.message.Reading.the-variants as reading
-use Rattle.wire.specs.declared.message.Written.{Written}
-use Rattle.wire.specs.declared.message.Written.the-variants as written
-use Rattle.wire.specs.declared.walk.Value.{Value}
-use Rattle.wire.specs.declared.walk.Value.the-variants as value
-use Rattle.wire.specs.declared.walk.Field.{Field}
-use Rattle.wire.specs.declared.walk.Cursor.{Cursor}
-use Rattle.wire.specs.declared.walk.Step.{Step}
-use Rattle.wire.specs.declared.walk.Step.the-variants as step
-use Rattle.wire.specs.declared.reader.Counted.{Counted}
-use Rattle.wire.specs.declared.reader.Counted.the-variants as counted
-use Rattle.wire.specs.declared.append.Appended.{Appended}
-use Rattle.wire.specs.declared.append.Appended.the-variants as appended
+use Rattle.tables.specs.Table.{tableSound}
+use Rattle.messages.specs.Messages.{start, startAck, stop, stopAck, tmplData, finalTmplDataAck, startNegotiate, startNegotiateAck, dataNumber, dataAck, writeOf, writeOut}
+use Rattle.tables.specs.declared.table.Template.{Template}
+use Rattle.tables.specs.declared.table.Found.{Found}
+use Rattle.tables.specs.declared.table.Found.the-variants as found
+use Rattle.messages.specs.declared.message.DataHead.{DataHead}
+use Rattle.messages.specs.declared.message.Message.{Message}
+use Rattle.messages.specs.declared.message.Message.the-variants.{Start, StartAck, Stop, StopAck, TmplData, FinalTmplDataAck, StartNegotiate, StartNegotiateAck, Data, DataAck}
+use Rattle.messages.specs.declared.message.Reading.{Reading}
+use Rattle.messages.specs.declared.message.Reading.the-variants as reading
+use Rattle.messages.specs.declared.message.Written.{Written}
+use Rattle.messages.specs.declared.message.Written.the-variants as written
+use Rattle.records.specs.declared.walk.Value.{Value}
+use Rattle.records.specs.declared.walk.Value.the-variants as value
+use Rattle.records.specs.declared.walk.Field.{Field}
+use Rattle.records.specs.declared.walk.Cursor.{Cursor}
+use Rattle.records.specs.declared.walk.Step.{Step}
+use Rattle.records.specs.declared.walk.Step.the-variants as step
+use Rattle.records.specs.declared.reader.Counted.{Counted}
+use Rattle.records.specs.declared.reader.Counted.the-variants as counted
+use Rattle.appending.specs.declared.append.Appended.{Appended}
+use Rattle.appending.specs.declared.append.Appended.the-variants as appended
 
 -- A number that an accepted answer carries has 256 added to it, modulo 2 to the 64, so that it is no refusal's number.
 abbrev pub acceptedNumber : ℕ → ℕ

@@ -2,11 +2,11 @@
 ghost use mathlib.Core.Path.{_≡_};
 ghost use Prim.Native.Nat.{_+_, _≤_, _<_};
 ghost use lib.ListN.{getD, take};
-ghost use Rattle.wire.specs.Each.{every};
+ghost use Rattle.tables.specs.Each.{every};
 ghost use Rattle.session.specs.Limits.{maxServers, maxStoreOctets, maxHeld};
 ghost use Rattle.session.specs.Queue.{sumOf, ringPlace, has, with, hasOther, shifted};
 ghost use Rattle.session.specs.Sound.{entrySound};
-use wire::message::MAX_RECORD_OCTETS;
+use messages::message::MAX_RECORD_OCTETS;
 
 // The most records that are held at a time.
 pub const MAX_HELD: usize = 64;

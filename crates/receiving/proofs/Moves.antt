@@ -13,13 +13,13 @@ use Rattle.octets.specs.Answers.{_when_, judge, done, outputTooShort}
 use Rattle.octets.specs.Numbers.{putAt}
 use Rattle.octets.proofs.Judging.{passed, judged-first, judged-next}
 use Rattle.octets.proofs.Stores.{put-fits, put-short}
-use Rattle.wire.specs.Table.{tableSound, configurationId}
-use Rattle.wire.specs.Messages.{Placed, isTmplData, isData, layoutOf, writeOf, writeOut}
-use Rattle.wire.specs.declared.message.Message.{Message}
-use Rattle.wire.specs.declared.message.Written.{Written}
-use Rattle.wire.specs.declared.message.Written.the-variants as written
-use Rattle.wire.proofs.Messages.{allowed, placed}
-use Rattle.wire.proofs.Each.{and-left}
+use Rattle.tables.specs.Table.{tableSound, configurationId}
+use Rattle.messages.specs.Messages.{Placed, isTmplData, isData, layoutOf, writeOf, writeOut}
+use Rattle.messages.specs.declared.message.Message.{Message}
+use Rattle.messages.specs.declared.message.Written.{Written}
+use Rattle.messages.specs.declared.message.Written.the-variants as written
+use Rattle.messages.proofs.Messages.{allowed, placed}
+use Rattle.tables.proofs.Each.{and-left}
 use Rattle.session.specs.Servers.{phaseAt, Transition, start, stop, negotiate, offer, down, agree, malformed}
 use Rattle.session.specs.Steps.{move, answer, replyTo, transitionChecks, isSessions, turnChecks}
 use Rattle.session.specs.Sound.{sound}

@@ -10,12 +10,12 @@ use lib.Dec.{eqb}
 use lib.ListN.{length}
 use Rattle.octets.specs.Answers.{Check, _when_, judge, done, otherSession, messageNotAccepted, bodyLengthWrong}
 use Rattle.octets.proofs.Judging.{judged-first, judged-next}
-use Rattle.wire.specs.Messages.{headerChecks, headerAnswer, headerOf, headerOctets, readAnswer, readOf, sessionOf, messageNumber, isMessage, bodyFits, meaningOf, tmplData}
-use Rattle.wire.specs.declared.message.Message.{Message}
-use Rattle.wire.specs.declared.message.Header.{Header}
-use Rattle.wire.specs.declared.message.HeaderReading.the-variants as header
-use Rattle.wire.specs.declared.message.Reading.the-variants as reading
-use Rattle.wire.proofs.Messages.{header-passed}
+use Rattle.messages.specs.Messages.{headerChecks, headerAnswer, headerOf, headerOctets, readAnswer, readOf, sessionOf, messageNumber, isMessage, bodyFits, meaningOf, tmplData}
+use Rattle.messages.specs.declared.message.Message.{Message}
+use Rattle.messages.specs.declared.message.Header.{Header}
+use Rattle.messages.specs.declared.message.HeaderReading.the-variants as header
+use Rattle.messages.specs.declared.message.Reading.the-variants as reading
+use Rattle.messages.proofs.Messages.{header-passed}
 use Rattle.session.specs.Servers.{malformed}
 use Rattle.session.specs.Steps.{move, isReceived, formAnswer, callOfMessage, received}
 use Rattle.receiving.specs.Moves.{callOfReading}

@@ -5,9 +5,9 @@ use mathlib.Core.Bool.{Bool, true, cond}
 use mathlib.Core.List.{List}
 use lib.Dec.{eqb}
 use Rattle.octets.specs.Answers.{done}
-use Rattle.wire.specs.Table.{tableSound}
-use Rattle.wire.specs.declared.message.Reading.{Reading}
-use Rattle.wire.specs.declared.message.Reading.the-variants as reading
+use Rattle.tables.specs.Table.{tableSound}
+use Rattle.messages.specs.declared.message.Reading.{Reading}
+use Rattle.messages.specs.declared.message.Reading.the-variants as reading
 use Rattle.session.specs.Servers.{Transition, start, stop, negotiate, offer, down, agree, malformed}
 use Rattle.session.specs.Steps.{Call, ack, move, callOfMessage, Outcome}
 use Rattle.receiving.specs.declared.acknowledge.AckChange.{AckChange}

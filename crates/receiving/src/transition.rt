@@ -4,7 +4,7 @@ ghost use mathlib.Core.Bool.{true};
 ghost use mathlib.Core.List.{[]};
 ghost use lib.ListN.{length};
 ghost use Rattle.octets.specs.Answers.{judge};
-ghost use Rattle.wire.specs.Messages.{Placed};
+ghost use Rattle.messages.specs.Messages.{Placed};
 ghost use Rattle.session.specs.Servers.{offer, agree, transition, withServers};
 ghost use Rattle.session.specs.Steps.{isSessions, move, step, replyTo, outputAfter, wroteOf, negotiateChecks, turnChecks};
 ghost use Rattle.choice.specs.Changes.{changeOf};
@@ -18,8 +18,8 @@ use session::state::Settings;
 use session::state::State;
 use session::state::Wrote;
 use octets::Answer;
-use wire::message::Message;
-use wire::message::Written;
+use messages::message::Message;
+use messages::message::Written;
 
 // What can move a server: START, STOP, START NEGOTIATE, an offer of templates, a line that is down, and FINAL TMPL DATA ACK with its
 // Configuration ID. A message that its form refuses, with the number of that refusal, moves nothing.
@@ -37,8 +37,8 @@ pub enum Move {
 pub fn is_sessions(p: Settings, table: &[u8]) -> bool
     ensures { λ r. ⌜ r ≡ isSessions p (now (table .entry)) ⌝ }
 {
-    let sound = wire::table::table_sound(table);
-    sound & (wire::table::configuration_id(table) == p.config)
+    let sound = tables::table::table_sound(table);
+    sound & (tables::table::configuration_id(table) == p.config)
 }
 
 // START NEGOTIATE is judged 9.
@@ -101,15 +101,15 @@ fn write_reply(p: Settings, m: Move, table: &[u8], out: &mut [u8]) -> Written
     match m {
         Move::Start => {
             let boot_time = p.boot;
-            wire::message::write_message(Message::StartAck { session, boot_time }, table, out)
+            messages::message::write_message(Message::StartAck { session, boot_time }, table, out)
         }
-        Move::Stop => wire::message::write_message(Message::StopAck { session }, table, out),
-        Move::Negotiate => wire::message::write_message(
+        Move::Stop => messages::message::write_message(Message::StopAck { session }, table, out),
+        Move::Negotiate => messages::message::write_message(
             Message::StartNegotiateAck { session },
             table,
             out,
         ),
-        Move::Offer => wire::message::write_message(Message::TmplData { session }, table, out),
+        Move::Offer => messages::message::write_message(Message::TmplData { session }, table, out),
         Move::Down => Written::Octets(0),
         Move::Agree(_) => Written::Octets(0),
         Move::Malformed(_) => Written::Octets(0),

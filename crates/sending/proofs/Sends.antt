@@ -13,12 +13,12 @@ use lib.Seq.{sets, set-getD}
 use Rattle.octets.specs.Answers.{Check, _when_, judge, done, unsoundState, outputTooShort}
 use Rattle.octets.proofs.Judging.{passed, judged-first}
 use Rattle.octets.proofs.Stores.{put-fits, put-short}
-use Rattle.wire.proofs.Each.{and-left, and-right}
-use Rattle.wire.specs.Messages.{Placed, layoutOf, dataHeadOctets, headWriteAnswer, headWriteOf, headWriteOut}
-use Rattle.wire.specs.declared.message.Message.the-variants.{Data}
-use Rattle.wire.specs.declared.message.DataHead.{DataHead}
-use Rattle.wire.specs.declared.message.Written.{Written}
-use Rattle.wire.specs.declared.message.Written.the-variants.{Octets, Refused}
+use Rattle.tables.proofs.Each.{and-left, and-right}
+use Rattle.messages.specs.Messages.{Placed, layoutOf, dataHeadOctets, headWriteAnswer, headWriteOf, headWriteOut}
+use Rattle.messages.specs.declared.message.Message.the-variants.{Data}
+use Rattle.messages.specs.declared.message.DataHead.{DataHead}
+use Rattle.messages.specs.declared.message.Written.{Written}
+use Rattle.messages.specs.declared.message.Written.the-variants.{Octets, Refused}
 use Rattle.session.specs.Servers.{withCounts, sentOne}
 use Rattle.session.specs.Queue.{ringRead, recordAt, octetsTo, markedSet, marked}
 use Rattle.session.specs.Sound.{sound}

@@ -6,8 +6,8 @@ ghost use Prim.Native.Nat.{_+_, _≤_, _<_, max};
 ghost use lib.Dec.{eqb};
 ghost use lib.ListN.{length};
 ghost use Rattle.octets.specs.Answers.{_when_, judge, done, unsoundState};
-ghost use Rattle.wire.specs.Messages.{maxRecordOctets, Placed, layoutOf};
-ghost use Rattle.wire.specs.declared.message.Message.the-variants.{Data};
+ghost use Rattle.messages.specs.Messages.{maxRecordOctets, Placed, layoutOf};
+ghost use Rattle.messages.specs.declared.message.Message.the-variants.{Data};
 ghost use Rattle.session.specs.Limits.{maxServers, maxHeld};
 ghost use Rattle.session.specs.Queue.{markedSet, ringRead};
 ghost use Rattle.session.specs.Sound.{sound};
@@ -21,8 +21,8 @@ use session::state::Settings;
 use session::state::State;
 use session::state::Wrote;
 use octets::Answer;
-use wire::message::DataHead;
-use wire::message::Written;
+use messages::message::DataHead;
+use messages::message::Written;
 
 // A sending's answer, how many octets it wrote, the place of its record with the set of servers that this was sent to, and what it leaves
 // of the delivery's counters and S.
@@ -127,10 +127,10 @@ fn write_record(head: DataHead, store: &[u8], at: usize, len: usize, out: &mut [
         (let octets = ringRead (length (now (store .entry))) (now (store .entry)) at len in
         Placed (layoutOf (Data head) octets) (now (out .entry)) r (now (out .exit))) ⌝ }
 {
-    let written = wire::message::write_data_head(head, len, out);
+    let written = messages::message::write_data_head(head, len, out);
     match written {
         Written::Octets(n) => {
-            held::ring::ring_read(store, at, len, out, wire::message::DATA_HEAD_OCTETS);
+            held::ring::ring_read(store, at, len, out, messages::message::DATA_HEAD_OCTETS);
             Written::Octets(n)
         }
         Written::Refused(a) => Written::Refused(a),

@@ -18,7 +18,7 @@ use session::state::Settings;
 use session::state::State;
 use session::state::Stepped;
 use octets::Answer;
-use wire::message::MAX_RECORD_OCTETS;
+use messages::message::MAX_RECORD_OCTETS;
 
 // A put's answer, the place of its entries and what stands there, and what it leaves of the count and the next DSN.
 pub struct Putting {
@@ -42,11 +42,11 @@ pub struct Putting {
 fn record_answer(p: Settings, table: &[u8], id: u16, r: &[u8]) -> u8
     ensures { λ a. ⌜ a ≡ judge (recordChecks p (now (table .entry)) id (now (r .entry))) ⌝ }
 {
-    let answer = wire::record::record_answer(table, id, r);
+    let answer = records::record::record_answer(table, id, r);
     if answer == Answer::UNSOUND_TABLE {
         return Answer::UNSOUND_TABLE;
     }
-    if wire::table::configuration_id(table) != p.config {
+    if tables::table::configuration_id(table) != p.config {
         return Answer::UNSOUND_TABLE;
     }
     if answer == Answer::TEMPLATE_NOT_FOUND {

@@ -10,8 +10,8 @@ use lib.Dec.{eqb, leb}
 use Rattle.octets.specs.Answers.{_when_, judge, done, unsoundTape}
 use Rattle.octets.specs.Numbers.{Octets}
 use Rattle.octets.proofs.Numbers.{uint-below}
-use Rattle.wire.specs.Each.{every}
-use Rattle.wire.proofs.Messages.{take-rest}
+use Rattle.tables.specs.Each.{every}
+use Rattle.messages.proofs.Messages.{take-rest}
 use Rattle.tape.specs.Tape.{eventCount, bodyLength, bodyAt, octetsAt, bodyOf, eventSound, maxTapeOctets, minEvents, maxEvents, tapeSound, tapeAnswer}
 use Rattle.tape.specs.Replay.{storeLength}
 

@@ -14,7 +14,7 @@ use lib.ListN.{length, drop, length-take, length-drop}
 use Rattle.octets.specs.Answers.{done}
 use Rattle.octets.specs.Numbers.{Octets}
 use Rattle.octets.proofs.Numbers.{uint-below}
-use Rattle.wire.specs.Each.{every}
+use Rattle.tables.specs.Each.{every}
 use Rattle.session.specs.Steps.{setUp}
 use Rattle.session.specs.Claim.{Event, Put, NextData, Receive, OfferTemplates, LineDown, Tick, sessionOf32, Exporter, outcome, storeLeft, advance, begin, AllOctets}
 use Rattle.session.proofs.Demand.{demand3of32}

@@ -49,10 +49,10 @@ pub fn store_length(tape: &[u8]) -> usize
 pub(crate) fn table_answer(p: Settings, table: &[u8]) -> u8
     ensures { λ r. ⌜ r ≡ tableAnswer p (now (table .entry)) ⌝ }
 {
-    if !wire::table::table_sound(table) {
+    if !tables::table::table_sound(table) {
         return Answer::UNSOUND_TABLE;
     }
-    if wire::table::configuration_id(table) != p.config {
+    if tables::table::configuration_id(table) != p.config {
         return Answer::UNSOUND_TABLE;
     }
     Answer::DONE

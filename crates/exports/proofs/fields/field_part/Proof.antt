@@ -4,8 +4,8 @@ use Prim.Native.Nat.{ℕ}
 use mathlib.Core.List.{List, [], _∷_}
 use lib.ListN.{getD, List·getD-eq-default}
 use Rattle.octets.specs.Answers.{done}
-use Rattle.wire.specs.declared.walk.Field.{Field}
-use Rattle.wire.specs.declared.walk.Cursor.{Cursor}
+use Rattle.records.specs.declared.walk.Field.{Field}
+use Rattle.records.specs.declared.walk.Cursor.{Cursor}
 use Rattle.exports.specs.Numbers.{valueSort, valueSize, fieldParts}
 use borrow.Author.Needs.{needs}
 use Rattle.exports.proofs.fields.field_part.Statement.{statement}

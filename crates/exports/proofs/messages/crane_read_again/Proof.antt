@@ -4,10 +4,10 @@ use mathlib.Core.Path.{_≡_, sym, _∙_, ap}
 use Prim.Native.Nat.{ℕ}
 use mathlib.Core.List.{List, _∷_}
 use lib.ListN.{length, getD}
-use Rattle.wire.specs.Messages.{readingAnswer, writeOf}
-use Rattle.wire.specs.declared.message.Message.{Message}
-use Rattle.wire.specs.declared.message.Written.{Written}
-use Rattle.wire.proofs.RoundTrip.{reading-number}
+use Rattle.messages.specs.Messages.{readingAnswer, writeOf}
+use Rattle.messages.specs.declared.message.Message.{Message}
+use Rattle.messages.specs.declared.message.Written.{Written}
+use Rattle.messages.proofs.RoundTrip.{reading-number}
 use Rattle.exports.specs.Numbers.{writtenNumber, saidBy}
 use borrow.Author.Needs.{needs}
 use Rattle.exports.proofs.messages.crane_read_again.Statement.{statement}

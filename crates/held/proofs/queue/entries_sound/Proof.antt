@@ -3,9 +3,9 @@
 use mathlib.Core.Path.{_≡_, refl}
 use native.Mathlib.Omega.{arith}
 use Prim.Native.Nat.{_-_, _≤_}
-use Rattle.wire.specs.Each.{every}
+use Rattle.tables.specs.Each.{every}
 use Rattle.session.specs.Sound.{entrySound}
-use Rattle.wire.proofs.Each.{every-more}
+use Rattle.tables.proofs.Each.{every-more}
 use Rattle.session.proofs.Arrays.{one-shifted}
 use borrow.Author.Needs.{needs}
 use Rattle.held.proofs.queue.entries_sound.Statement.{statement}

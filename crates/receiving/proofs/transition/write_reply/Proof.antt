@@ -2,7 +2,7 @@
 -- table is sound; the other arms write nothing, which fits any output.
 use mathlib.Core.Path.{refl, ap}
 use mathlib.Core.Bool.{not}
-use Rattle.wire.specs.Messages.{layoutOf}
+use Rattle.messages.specs.Messages.{layoutOf}
 use Rattle.receiving.proofs.Moves.{written-placed, none-placed}
 use borrow.Author.Needs.{needs}
 use Rattle.receiving.proofs.transition.write_reply.Statement.{statement}

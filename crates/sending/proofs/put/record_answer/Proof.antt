@@ -5,8 +5,8 @@ use mathlib.Core.Bool.{true, false}
 use lib.Dec.{eqb, ltb}
 use lib.ListN.{length}
 use borrow.Author.Tests.{eq-eqb, ne-eqb, le-ltb, lt-ltb}
-use Rattle.wire.specs.Table.{tableSound, configurationId, isMissing, templateOf}
-use Rattle.wire.specs.Record.{recordValid, recordAnswer}
+use Rattle.tables.specs.Table.{tableSound, configurationId, isMissing, templateOf}
+use Rattle.records.specs.Record.{recordValid, recordAnswer}
 use Rattle.sending.proofs.Puts.{record-cases}
 use borrow.Author.Needs.{needs}
 use Rattle.sending.proofs.put.record_answer.Statement.{statement}

@@ -2,8 +2,8 @@
 use mathlib.Core.Path.{_≡_, _∙_, sym}
 use Prim.Native.Nat.{_≤_, _-_}
 use native.Mathlib.Omega.{arith}
-use Rattle.wire.specs.Each.{every}
-use Rattle.wire.proofs.Each.{every-more}
+use Rattle.tables.specs.Each.{every}
+use Rattle.tables.proofs.Each.{every-more}
 use Rattle.tape.specs.Tape.{eventSound}
 use mathlib.Core.Path.{_≡_, _∙_}
 use borrow.Author.Needs.{needs}

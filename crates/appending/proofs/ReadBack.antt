@@ -1,0 +1,296 @@
+-- What is appended is read back: where the field of a value stands in a record, whatever follows it, the field that is read there has its
+-- length, its value and its octets. A number is read back by one law for every width. Assumes nothing.
+use mathlib.Core.Path.{_≡_, refl, sym, ap, _∙_}
+use mathlib.Core.Bool.{Bool, true, false, cond, not, _&&_, false≢true}
+use mathlib.Core.List.{List, [], _∷_, _++_}
+use Prim.Native.Nat.{ℕ, zero, suc, _+_, _-_, _*_, _^_, _≤_, _<_}
+use native.Mathlib.Nat.{add-zero, zero-add, add-assoc}
+use native.Mathlib.Omega.{arith}
+use borrow.Author.Tests.{lt-leb, lt-ltb, le-ltb, eq-eqb, ne-eqb, ltb-false, eqb-true, eqb-false, not-true}
+use lib.Dec.{eqb, ltb}
+use lib.ListN.{length, getD, take, drop, length-append, length-drop, List·getD-append}
+use lib.Seq.{sets, length-sets, length-take-le, getD-append-add, getD-append-seam, getD-take, getD-drop, ext-getD}
+use Rattle.octets.specs.Answers.{done, recordInvalid, outputTooShort}
+use Rattle.octets.specs.Numbers.{uintAt, octetsOf}
+use Rattle.octets.proofs.Numbers.{uint-same, uint-front, octets-length, read-back}
+use Rattle.octets.proofs.Judging.{kept}
+use Rattle.octets.proofs.Stores.{sets-at}
+use Rattle.tables.specs.Each.{every, firstFrom}
+use Rattle.tables.specs.FieldTypes.{widthOf, isNumber, isSigned, booleanType, stringType, terminatedType, blobType}
+use Rattle.tables.specs.Table.{keyAt, keyType}
+use Rattle.records.specs.Record.{left, fixedLength, blobLength, stringLength, terminatedLength, fieldLength}
+use Rattle.records.specs.Walk.{signedAt, valueAt, nextKey, stepUnder}
+use Rattle.appending.specs.Append.{numberFits, negativeFits, valueFits, octetsField, fieldOctets, appendAnswer, appendOf, appendOut, appendedAnswer}
+use Rattle.tables.specs.declared.table.Template.{Template}
+use Rattle.records.specs.declared.walk.Value.{Value}
+use Rattle.records.specs.declared.walk.Value.the-variants.{Octets, Number, Negative}
+use Rattle.records.specs.declared.walk.Cursor.{Cursor}
+use Rattle.records.specs.declared.walk.Step.the-variants as step
+use Rattle.appending.specs.declared.append.Appended.the-variants.{Refused}
+use Rattle.tables.proofs.Each.{every-at, every-same}
+use Rattle.tables.proofs.TypeFacts.{number-width, signed-number, boolean-unsigned, boolean-width, fixed-type, no-number}
+use Rattle.appending.proofs.Appends.{octets-cases, NumberRange, number-range, negative-range, negative-signed}
+
+-- ---- octets that stand at a place of a record
+
+pub record Holds (r : List ℕ) (at : ℕ) (field : List ℕ) : Type 0 where
+  pub within : at + length field ≤ length r
+  pub octet : (i : ℕ) → i < length field → getD r (at + i) 0 ≡ getD field i 0
+
+-- octets that were stored stand at their place
+pub sets-holds : (out : List ℕ) (at : ℕ) (field : List ℕ) → at + length field ≤ length out → Holds (sets out at field) at field
+sets-holds out at field h = record { within = rw (length-sets out at field) h; octet = λ i l. sets-at out at field i h l }
+
+-- a number in front
+holds-uint : (r : List ℕ) (at : ℕ) (field : List ℕ) (w : ℕ) → Holds r at field → w ≤ length field → uintAt r at w ≡ uintAt field 0 w
+holds-uint r at field w h l = uint-same r field at 0 w (λ i k. h .octet i (omega arith) ∙ ap (λ (j : ℕ). getD field j 0) (sym (zero-add i)))
+
+-- a part of them from k on
+holds-part : (r : List ℕ) (at : ℕ) (field part : List ℕ) (k : ℕ) → Holds r at field → k + length part ≤ length field
+    → ((i : ℕ) → i < length part → getD field (k + i) 0 ≡ getD part i 0) → take (length part) (drop (at + k) r) ≡ part
+holds-part r at field part k h l same =
+    let n : length (take (length part) (drop (at + k) r)) ≡ length part =
+    length-take-le (length part) (drop (at + k) r) (rw length-drop (omega (arith, h .within))) in
+    ext-getD 0 (take (length part) (drop (at + k) r)) part n
+    (λ i b. getD-take (length part) (drop (at + k) r) i 0 (omega arith) ∙ getD-drop (at + k) r i 0
+    ∙ ap (λ (j : ℕ). getD r j 0) (add-assoc at k i) ∙ h .octet (k + i) (omega arith) ∙ same i (omega arith))
+
+-- ---- fields of a fixed width
+
+-- a field has its type's width where so many octets are left and a Boolean is 0 or 1
+fixed-field : (type : ℕ) (r : List ℕ) (at : ℕ) → 0 < widthOf type → at + widthOf type ≤ length r → (type ≡ booleanType → uintAt r at 1 ≤ 1)
+    → fieldLength type r at ≡ widthOf type
+unfolding fieldLength fixedLength
+fixed-field type r at some fits boolean =
+    rw (lt-ltb 0 (widthOf type) some, le-ltb (left r at) (widthOf type) (omega arith), test (eqb type booleanType) refl)
+  where
+    test : (b : Bool) → eqb type booleanType ≡ b → b && ltb 1 (uintAt r at 1) ≡ false
+    test true e = le-ltb 1 (uintAt r at 1) (boolean (eqb-true type booleanType e))
+    test false e = refl
+
+-- the field that holds a number v, at any width; v is 0 or 1 for a Boolean
+number-field : (type : ℕ) (r : List ℕ) (at v : ℕ) → isNumber type ≡ true → v < 256 ^ widthOf type → (type ≡ booleanType → v ≤ 1)
+    → Holds r at (octetsOf (widthOf type) v) → (fieldLength type r at ≡ widthOf type) × (uintAt r at (widthOf type) ≡ v)
+number-field type r at v number below boolean h =
+    let w = widthOf type in
+    let n : length (octetsOf w v) ≡ w = octets-length w v in
+    let u : uintAt r at w ≡ v = holds-uint r at (octetsOf w v) w h (omega arith) ∙ read-back w v below in
+    (fixed-field type r at (omega (arith, number-width type number)) (rw n at (h .within)) (λ e. rw (rw (boolean-width type e) at u) (boolean e)), u)
+
+-- ---- strings and blobs
+
+-- octets behind their length, in their field
+behind-length : (octets : List ℕ) (i : ℕ) → getD (octetsOf 4 (length octets) ++ octets) (4 + i) 0 ≡ getD octets i 0
+behind-length octets i = rw (octets-length 4 (length octets)) at (getD-append-add (octetsOf 4 (length octets)) octets i 0)
+
+counted-length : (octets : List ℕ) → length (octetsOf 4 (length octets) ++ octets) ≡ 4 + length octets
+counted-length octets = rw (length-append, octets-length)
+
+blob-field : (r : List ℕ) (at : ℕ) (octets : List ℕ) → length octets < 2 ^ 32 → Holds r at (octetsOf 4 (length octets) ++ octets)
+    → blobLength r at ≡ 4 + length octets
+unfolding blobLength
+blob-field r at octets few h =
+    let front = octetsOf 4 (length octets) in
+    let n = counted-length octets in
+    let l : length front ≡ 4 = octets-length 4 (length octets) in
+    let u : uintAt r at 4 ≡ length octets =
+    holds-uint r at (front ++ octets) 4 h (omega arith) ∙ uint-front front octets 0 4 (omega arith) ∙ read-back 4 (length octets) few in
+    rw (u, le-ltb (left r at) 4 (omega (arith, h .within)), le-ltb (left r (at + 4)) (length octets) (omega (arith, h .within)))
+
+string-field : (r : List ℕ) (at : ℕ) (octets : List ℕ) → length octets < 2 ^ 32 → every (length octets) (λ i. ltb (getD octets i 0) 128) ≡ true
+    → Holds r at (octetsOf 4 (length octets) ++ octets) → stringLength r at ≡ 4 + length octets
+unfolding stringLength
+string-field r at octets few low h =
+    let n = counted-length octets in
+    let b = blob-field r at octets few h in
+    let m : 4 + length octets - 4 ≡ length octets = omega arith in
+    let same : every (length octets) (λ i. ltb (getD r (at + 4 + i) 0) 128) ≡ every (length octets) (λ i. ltb (getD octets i 0) 128) =
+    every-same (length octets) (λ i. ltb (getD r (at + 4 + i) 0) 128) (λ i. ltb (getD octets i 0) 128)
+    (λ i l. ap (λ (x : ℕ). ltb x 128)
+    (ap (λ (j : ℕ). getD r j 0) (add-assoc at 4 i) ∙ h .octet (4 + i) (omega arith) ∙ behind-length octets i)) in
+    rw (b, m, same, low)
+
+-- ---- null terminated strings
+
+-- the first that passes, where none before it does
+first-at : (p : ℕ → Bool) (i n k : ℕ) → k < n → ((j : ℕ) → j < k → p (i + j) ≡ false) → p (i + k) ≡ true → firstFrom i n p ≡ i + k
+unfolding firstFrom
+first-at p i zero k l miss hit = absurd (omega arith)
+first-at p i (suc n) zero l miss hit = rw (rw add-zero at hit) (sym (add-zero i))
+first-at p i (suc n) (suc k) l miss hit =
+    rw (rw add-zero at (miss 0 (omega arith)))
+    (first-at p (i + 1) n k (omega arith) (λ j b. ap p (omega arith) ∙ miss (suc j) (omega arith)) (ap p (omega arith) ∙ hit) ∙ omega arith)
+
+terminated-field : (r : List ℕ) (at : ℕ) (octets : List ℕ) → every (length octets) (λ i. not (eqb (getD octets i 0) 0)) ≡ true
+    → Holds r at (octets ++ (0 ∷ [])) → terminatedLength r at ≡ length octets + 1
+unfolding terminatedLength
+terminated-field r at octets nonzero h =
+    let n : length (octets ++ (0 ∷ [])) ≡ length octets + 1 = length-append octets (0 ∷ []) in
+    let first : firstFrom at (left r at) (λ p. eqb (getD r p 0) 0) ≡ at + length octets =
+    first-at (λ p. eqb (getD r p 0) 0) at (left r at) (length octets) (omega (arith, h .within))
+    (λ j b. ap (λ (x : ℕ). eqb x 0) (h .octet j (omega arith) ∙ List·getD-append octets (0 ∷ []) 0 j b)
+    ∙ not-true (eqb (getD octets j 0) 0) (every-at (length octets) (λ i. not (eqb (getD octets i 0) 0)) nonzero j b))
+    (ap (λ (x : ℕ). eqb x 0) (h .octet (length octets) (omega arith) ∙ getD-append-seam octets 0 [] 0)) in
+    rw (first, lt-ltb (at + length octets) (length r) (omega (arith, h .within))) (omega arith)
+
+-- ---- what is read where the field of a value stands
+
+-- How many octets stand in front of a value's octets in its field: the 32-bit length of a string or blob.
+unfoldable pub prefixOctets : ℕ → ℕ
+prefixOctets type = cond (eqb type stringType) 4 (cond (eqb type blobType) 4 0)
+
+-- The field has octets, its length is that of the value's field, its value is the value, and a value's octets stand in it.
+pub record ReadsBack (type : ℕ) (value : Value) (octets r : List ℕ) (at : ℕ) : Type 0 where
+  pub some : 0 < length (fieldOctets type value octets)
+  pub len : fieldLength type r at ≡ length (fieldOctets type value octets)
+  pub same : valueAt type r at ≡ value
+  pub stands : value ≡ Octets → take (length octets) (drop (at + prefixOctets type) r) ≡ octets
+
+number-read : (type n : ℕ) (octets r : List ℕ) (at : ℕ) → numberFits type n ≡ true → Holds r at (octetsOf (widthOf type) n)
+    → ReadsBack type (Number n) octets r at
+unfolding valueAt signedAt
+number-read type n octets r at fits h =
+    let q = number-range type n fits in
+    let f = number-field type r at n (q .number) (q .below) (q .boolean) h in
+    let l = octets-length (widthOf type) n in
+    record {
+      some = omega (arith, number-width type (q .number));
+      len = f .0 ∙ sym l;
+      same = value (f .1) (isSigned type) refl q;
+      stands = λ e. let y : _≡_ {A = ℕ} 0 1 = cc in absurd (omega arith);
+    }
+  where
+    value : uintAt r at (widthOf type) ≡ n → (s : Bool) → isSigned type ≡ s → NumberRange type n → valueAt type r at ≡ Number n
+    value u true e q = rw (e, u, lt-ltb (2 * n) (256 ^ widthOf type) (q .half e))
+    value u false e q = rw (e, q .number, u)
+
+negative-read : (type n : ℕ) (octets r : List ℕ) (at : ℕ) → negativeFits type n ≡ true → Holds r at (octetsOf (widthOf type) (256 ^ widthOf type - n))
+    → ReadsBack type (Negative n) octets r at
+unfolding valueAt signedAt
+negative-read type n octets r at fits h =
+    let w = widthOf type in
+    let v = 256 ^ w - n in
+    let q = negative-range type n fits in
+    let s = negative-signed type n fits in
+    let f = number-field type r at v (signed-number type s) (omega (arith, q)) (λ e. absurd (false≢true (sym (boolean-unsigned type e .1) ∙ s))) h in
+    let l = octets-length w v in
+    record {
+      some = omega (arith, q);
+      len = f .0 ∙ sym l;
+      same = rw (s, f .1, le-ltb (2 * v) (256 ^ w) (omega (arith, q))) (ap Negative (omega (arith, q)));
+      stands = λ e. let y : _≡_ {A = ℕ} 0 1 = cc in absurd (omega arith);
+    }
+
+-- octets behind their 32-bit length
+counted-read : (type : ℕ) (octets r : List ℕ) (at : ℕ) → octetsField type octets ≡ octetsOf 4 (length octets) ++ octets
+    → fieldLength type r at ≡ 4 + length octets → valueAt type r at ≡ Octets → prefixOctets type ≡ 4
+    → Holds r at (octetsOf 4 (length octets) ++ octets) → ReadsBack type Octets octets r at
+counted-read type octets r at field len same front h =
+    let n = counted-length octets in
+    record {
+      some = rw field (omega arith);
+      len = rw field (len ∙ sym n);
+      same = same;
+      stands = λ e. rw front (holds-part r at (octetsOf 4 (length octets) ++ octets) octets 4 h (omega arith) (λ i l. behind-length octets i));
+    }
+
+string-read : (octets r : List ℕ) (at : ℕ) → length octets < 2 ^ 32 → every (length octets) (λ i. ltb (getD octets i 0) 128) ≡ true
+    → Holds r at (octetsField stringType octets) → ReadsBack stringType Octets octets r at
+unfolding octetsField widthOf isNumber isSigned fieldLength valueAt prefixOctets
+string-read octets r at few low h = counted-read stringType octets r at refl (string-field r at octets few low h) refl refl h
+
+blob-read : (octets r : List ℕ) (at : ℕ) → length octets < 2 ^ 32 → Holds r at (octetsField blobType octets) → ReadsBack blobType Octets octets r at
+unfolding octetsField widthOf isNumber isSigned fieldLength valueAt prefixOctets
+blob-read octets r at few h = counted-read blobType octets r at refl (blob-field r at octets few h) refl refl h
+
+terminated-read : (octets r : List ℕ) (at : ℕ) → every (length octets) (λ i. not (eqb (getD octets i 0) 0)) ≡ true
+    → Holds r at (octetsField terminatedType octets) → ReadsBack terminatedType Octets octets r at
+unfolding octetsField widthOf isNumber isSigned fieldLength valueAt prefixOctets
+terminated-read octets r at nonzero h =
+    let n = length-append octets (0 ∷ []) in
+    record {
+      some = omega arith;
+      len = terminated-field r at octets nonzero h ∙ sym n;
+      same = refl;
+      stands = λ e. holds-part r at (octets ++ (0 ∷ [])) octets 0 h (omega arith)
+          (λ i l. ap (λ (j : ℕ). getD (octets ++ (0 ∷ [])) j 0) (zero-add i) ∙ List·getD-append octets (0 ∷ []) 0 i l);
+    }
+
+-- octets of a type of a fixed width, which is not one of the other three
+address-read : (type : ℕ) (octets r : List ℕ) (at : ℕ) → 0 < widthOf type → isNumber type ≡ false → length octets ≡ widthOf type
+    → Holds r at (octetsField type octets) → ReadsBack type Octets octets r at
+unfolding octetsField valueAt prefixOctets
+address-read type octets r at some number size h =
+    let q = no-number type number in
+    let v = fixed-type type some in
+    let f : octetsField type octets ≡ octets = rw (v .1 .0, lt-ltb 0 (widthOf type) some) in
+    let k : Holds r at octets = rw f at h in
+    record {
+      some = rw f (omega arith);
+      len = rw f (fixed-field type r at some (rw size at (k .within)) (λ e. absurd (eqb-false type booleanType (q .1) e)) ∙ sym size);
+      same = rw (q .0, number);
+      stands = λ e. rw (v .0, v .1 .1) (holds-part r at octets octets 0 k (omega arith) (λ i l. ap (λ (j : ℕ). getD octets j 0) (zero-add i)));
+    }
+
+-- The theorem: where the field of a value that fits its type stands in a record, whatever follows it, it is read back.
+pub reads-back : (type : ℕ) (value : Value) (octets r : List ℕ) (at : ℕ) → valueFits type value octets ≡ true
+    → Holds r at (fieldOctets type value octets) → ReadsBack type value octets r at
+reads-back type (Number n) octets r at fits h = number-read type n octets r at fits h
+reads-back type (Negative n) octets r at fits h = negative-read type n octets r at fits h
+reads-back type Octets octets r at fits h =
+    octets-cases type octets fits (ReadsBack type Octets octets r at)
+    (λ e few low. rw e (string-read octets r at few low (rw e at h)))
+    (λ e nonzero. rw e (terminated-read octets r at nonzero (rw e at h)))
+    (λ e few. rw e (blob-read octets r at few (rw e at h)))
+    (λ some number size. address-read type octets r at some number size h)
+
+-- ---- after appending
+
+-- the field is read back from the output it was stored in
+pub stored-reads-back : (type : ℕ) (value : Value) (octets out : List ℕ) (at : ℕ) → valueFits type value octets ≡ true
+    → at + length (fieldOctets type value octets) ≤ length out → ReadsBack type value octets (sets out at (fieldOctets type value octets)) at
+stored-reads-back type value octets out at fits room =
+    reads-back type value octets (sets out at (fieldOctets type value octets)) at fits (sets-holds out at (fieldOctets type value octets) room)
+
+-- the answer number of appending is the number that it is judged by
+pub append-answer : (type : ℕ) (value : Value) (octets out : List ℕ) (at : ℕ)
+    → appendedAnswer (appendOf type value octets out at) ≡ appendAnswer type value octets out at
+unfolding appendOf
+append-answer type value octets out at = kept appendedAnswer _ Refused refl (λ a. refl) (appendAnswer type value octets out at)
+
+-- appending that was done: the value fits and so does its field, and it is read back from the output
+pub append-done : (type : ℕ) (value : Value) (octets out : List ℕ) (at : ℕ) → appendAnswer type value octets out at ≡ done
+    → (valueFits type value octets ≡ true) × (at + length (fieldOctets type value octets) ≤ length out)
+unfolding appendAnswer
+append-done type value octets out at h =
+    go (valueFits type value octets) refl (ltb (length out) (at + length (fieldOctets type value octets))) refl h
+  where
+    go : (v : Bool) → valueFits type value octets ≡ v → (s : Bool) → ltb (length out) (at + length (fieldOctets type value octets)) ≡ s
+        → cond (not v) recordInvalid (cond s outputTooShort done) ≡ done
+        → (v ≡ true) × (at + length (fieldOctets type value octets) ≤ length out)
+    go true e true f h = absurd (omega arith)
+    go true e false f h = (refl, ltb-false (length out) (at + length (fieldOctets type value octets)) f)
+    go false e s f h = absurd (omega arith)
+
+pub append-reads-back : (type : ℕ) (value : Value) (octets out : List ℕ) (at : ℕ) → appendAnswer type value octets out at ≡ done
+    → ReadsBack type value octets (appendOut type value octets out at) at
+unfolding appendOut
+append-reads-back type value octets out at h =
+    let d = append-done type value octets out at h in
+    rw (eq-eqb (appendAnswer type value octets out at) done h) (stored-reads-back type value octets out at (d .0) (d .1))
+
+-- a step of a walk whose next enabled key has the value's type, and that stands where the field stands, answers the field and goes past it
+pub step-reads-back : (t : List ℕ) (m : Template) (type : ℕ) (value : Value) (octets r : List ℕ) (c : Cursor)
+    → nextKey t m (c .index) < m .count → keyType t (keyAt (m .keys) (nextKey t m (c .index))) ≡ type → ReadsBack type value octets r (c .at)
+    → stepUnder t m r c
+    ≡ step.Next (record { kind = type; at = c .at; len = length (fieldOctets type value octets); value = value })
+    (record { index = nextKey t m (c .index) + 1; at = c .at + length (fieldOctets type value octets) })
+unfolding stepUnder
+step-reads-back t m type value octets r c more kind b =
+    rw (
+      lt-leb (m .count) (nextKey t m (c .index)) more,
+      kind,
+      b .len,
+      b .same,
+      ne-eqb (length (fieldOctets type value octets)) 0 (λ e. omega (arith, b .some)),
+    )

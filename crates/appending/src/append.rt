@@ -1,0 +1,188 @@
+// Appending one field to lent output.
+ghost use mathlib.Core.Path.{_≡_};
+ghost use mathlib.Core.List.{[], _∷_, _++_};
+ghost use mathlib.Core.Bool.{true, not};
+ghost use Prim.Native.Nat.{_<_};
+ghost use lib.Dec.{eqb};
+ghost use lib.ListN.{length, getD};
+ghost use Rattle.octets.specs.Numbers.{octetsOf};
+ghost use Rattle.tables.specs.Each.{every};
+ghost use Rattle.records.specs.Record.{lengthOctets};
+ghost use Rattle.appending.specs.Append.{lengthLimit, numberFits, negativeFits, octetsFit, octetsField, Stored, appendOf, appendOut};
+use tables::field_type::FieldType;
+use records::record::LENGTH_OCTETS;
+use records::walk::Value;
+use octets::Answer;
+
+// What appending answers: the place after the field, or the refusal.
+pub enum Appended {
+    Next(usize),
+    Refused(u8),
+}
+
+// A 32-bit length is below this.
+const LENGTH_LIMIT: usize = 4294967296;
+
+// Whether a number is of a type.
+fn number_fits(kind: u16, n: u64) -> bool
+    ensures { λ r. ⌜ r ≡ numberFits kind n ⌝ }
+{
+    let field_type = FieldType { number: kind };
+    if kind == FieldType::BOOLEAN {
+        return n <= 1;
+    }
+    let width = field_type.width() as usize;
+    if field_type.is_signed() {
+        return n <= records::walk::greatest(width) / 2;
+    }
+    if field_type.is_number() {
+        return n <= records::walk::greatest(width);
+    }
+    false
+}
+
+// Whether minus a number is of a type.
+fn negative_fits(kind: u16, n: u64) -> bool
+    ensures { λ r. ⌜ r ≡ negativeFits kind n ⌝ }
+{
+    let field_type = FieldType { number: kind };
+    if !field_type.is_signed() {
+        return false;
+    }
+    let most = records::walk::greatest(field_type.width() as usize);
+    (1 <= n) & (n <= most / 2 + 1)
+}
+
+// Whether no octet is 0.
+fn none_zero(octets: &[u8]) -> bool
+    ensures { λ r. ⌜ r ≡ every (length (now (octets .entry))) (λ i. not (eqb (getD (now (octets .entry)) i 0) 0)) ⌝ }
+{
+    let mut ok = true;
+    let mut i: usize = 0;
+    while i < octets.len() {
+        ok = ok & !(octets[i] == 0);
+        i += 1;
+    }
+    ok
+}
+
+// Whether octets are of a type.
+fn octets_fit(kind: u16, octets: &[u8]) -> bool
+    ensures { λ r. ⌜ r ≡ octetsFit kind (now (octets .entry)) ⌝ }
+{
+    let few = octets.len() < LENGTH_LIMIT;
+    if kind == FieldType::STRING {
+        return few & records::record::all_below_128(octets, 0, octets.len());
+    }
+    if kind == FieldType::NULL_TERMINATED_STRING {
+        return none_zero(octets);
+    }
+    if kind == FieldType::BLOB {
+        return few;
+    }
+    let field_type = FieldType { number: kind };
+    let width = field_type.width() as usize;
+    (0 < width) & (!field_type.is_number() & (octets.len() == width))
+}
+
+// Stores a number in w octets at a place: the place after it, or 12 where it does not fit.
+fn store_number(w: usize, n: u64, out: &mut [u8], at: usize) -> Appended
+    ensures { λ r. ⌜ Stored (octetsOf w n) (now (out .entry)) at r (now (out .exit)) ⌝ }
+{
+    if out.len() < at {
+        return Appended::Refused(Answer::OUTPUT_TOO_SHORT);
+    }
+    if octets::saturating_sub(out.len(), at) < w {
+        return Appended::Refused(Answer::OUTPUT_TOO_SHORT);
+    }
+    octets::put_uint(out, at, w, n);
+    Appended::Next(at + w)
+}
+
+// Stores octets at a place: the place after them, or 12 where they do not fit.
+fn store_plain(octets: &[u8], out: &mut [u8], at: usize) -> Appended
+    ensures { λ r. ⌜ Stored (now (octets .entry)) (now (out .entry)) at r (now (out .exit)) ⌝ }
+{
+    if out.len() < at {
+        return Appended::Refused(Answer::OUTPUT_TOO_SHORT);
+    }
+    if octets::saturating_sub(out.len(), at) < octets.len() {
+        return Appended::Refused(Answer::OUTPUT_TOO_SHORT);
+    }
+    octets::copy(out, at, octets);
+    Appended::Next(at + octets.len())
+}
+
+// Stores octets and a zero behind them at a place: the place after the zero, or 12 where they do not fit.
+fn store_terminated(octets: &[u8], out: &mut [u8], at: usize) -> Appended
+    ensures { λ r. ⌜ Stored (now (octets .entry) ++ (0 ∷ [])) (now (out .entry)) at r (now (out .exit)) ⌝ }
+{
+    if octets::saturating_sub(out.len(), at) <= octets.len() {
+        return Appended::Refused(Answer::OUTPUT_TOO_SHORT);
+    }
+    let end = at + octets.len();
+    octets::copy(out, at, octets);
+    octets::put_u8(out, end, 0);
+    Appended::Next(end + 1)
+}
+
+// Stores octets behind their 32-bit length at a place: the place after them, or 12 where they do not fit.
+fn store_counted(octets: &[u8], out: &mut [u8], at: usize) -> Appended
+    requires { ⌜ length (now octets) < lengthLimit ⌝ }
+    ensures { λ r. ⌜ Stored (octetsOf lengthOctets (length (now (octets .entry))) ++ now (octets .entry)) (now (out .entry)) at r (now (out .exit)) ⌝ }
+{
+    if octets::saturating_sub(out.len(), at) < LENGTH_OCTETS {
+        return Appended::Refused(Answer::OUTPUT_TOO_SHORT);
+    }
+    let start = at + LENGTH_OCTETS;
+    if octets::saturating_sub(out.len(), start) < octets.len() {
+        return Appended::Refused(Answer::OUTPUT_TOO_SHORT);
+    }
+    octets::put_u32(out, at, octets.len() as u32);
+    octets::copy(out, start, octets);
+    Appended::Next(start + octets.len())
+}
+
+// Stores the field that holds octets of a type at a place: the place after it, or 12 where it does not fit.
+fn store_octets(kind: u16, octets: &[u8], out: &mut [u8], at: usize) -> Appended
+    requires { ⌜ octetsFit kind (now octets) ≡ true ⌝ }
+    ensures { λ r. ⌜ Stored (octetsField kind (now (octets .entry))) (now (out .entry)) at r (now (out .exit)) ⌝ }
+{
+    if kind == FieldType::NULL_TERMINATED_STRING {
+        return store_terminated(octets, out, at);
+    }
+    let width = FieldType { number: kind }.width();
+    if 0 < width {
+        return store_plain(octets, out, at);
+    }
+    store_counted(octets, out, at)
+}
+
+// Appends the field of a type that holds a value, at a place of the output: the place after it, or 16 for a value that is not of the type
+// and 12 for an output that is too short. The octets count where the value is octets.
+pub fn append(kind: u16, value: Value, octets: &[u8], out: &mut [u8], at: usize) -> Appended
+    ensures { λ r. ⌜ (r ≡ appendOf kind value (now (octets .entry)) (now (out .entry)) at)
+        × (now (out .exit) ≡ appendOut kind value (now (octets .entry)) (now (out .entry)) at) ⌝ }
+{
+    let width = FieldType { number: kind }.width() as usize;
+    match value {
+        Value::Octets => {
+            if octets_fit(kind, octets) {
+                return store_octets(kind, octets, out, at);
+            }
+            Appended::Refused(Answer::RECORD_INVALID)
+        }
+        Value::Number(n) => {
+            if number_fits(kind, n) {
+                return store_number(width, n, out, at);
+            }
+            Appended::Refused(Answer::RECORD_INVALID)
+        }
+        Value::Negative(n) => {
+            if negative_fits(kind, n) {
+                return store_number(width, records::walk::greatest(width) - n + 1, out, at);
+            }
+            Appended::Refused(Answer::RECORD_INVALID)
+        }
+    }
+}

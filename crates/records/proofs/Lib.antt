@@ -1,0 +1,5 @@
+pub mod FieldsWithin
+pub mod Records
+pub mod Widths
+pub mod WalkLaws
+pub mod Readers

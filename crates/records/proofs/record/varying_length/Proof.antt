@@ -1,0 +1,44 @@
+-- `varying_length` meets its contract: the three types whose width varies are tested in the definition's order, and a type of no width that
+-- is none of them has no field. Assumes nothing.
+use borrow.Author.Tests.{eq-eqb, ne-eqb}
+use Rattle.records.specs.Record.{fieldLength}
+use borrow.Author.Needs.{needs}
+use Rattle.records.proofs.record.varying_length.Statement.{statement}
+use Rattle.records.proofs.record.varying_length.Tie as tie
+
+string-length-requires : tie.Need-string-length-requires
+string-length-requires c κs = search needs
+
+returns : tie.Need-returns
+unfolding fieldLength
+returns c = rw (c .before .before .before .pre, eq-eqb _ _ (c .before .if1 .taken), c .string-length .ensures)
+
+terminated-length-requires : tie.Need-terminated-length-requires
+terminated-length-requires c κs = search needs
+
+returns-2 : tie.Need-returns-2
+unfolding fieldLength
+returns-2 c = rw (c .before .before .before .before .pre, ne-eqb _ _ (c .before .before .if1 .left), eq-eqb _ _ (c .before .if2 .taken), c .terminated-length .ensures)
+
+blob-length-requires : tie.Need-blob-length-requires
+blob-length-requires c κs = search needs
+
+returns-3 : tie.Need-returns-3
+unfolding fieldLength
+returns-3 c = rw (c .before .before .before .before .before .pre, ne-eqb _ _ (c .before .before .before .if1 .left), ne-eqb _ _ (c .before .before .if2 .left), eq-eqb _ _ (c .before .if3 .taken), c .blob-length .ensures)
+
+returns-4 : tie.Need-returns-4
+unfolding fieldLength
+returns-4 c = rw (c .before .before .before .before .pre, ne-eqb _ _ (c .before .before .if1 .left), ne-eqb _ _ (c .before .if2 .left), ne-eqb _ _ (c .if3 .left))
+
+pub varying-length-spec : {M : Type 1} → statement M
+varying-length-spec =
+    tie.close
+    (tie.spec
+    string-length-requires
+    returns
+    terminated-length-requires
+    returns-2
+    blob-length-requires
+    returns-3
+    returns-4)

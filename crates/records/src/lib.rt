@@ -1,0 +1,3 @@
+pub mod reader;
+pub mod record;
+pub mod walk;

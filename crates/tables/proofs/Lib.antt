@@ -1,0 +1,4 @@
+pub mod Each
+pub mod FieldTypes
+pub mod Tables
+pub mod TypeFacts
