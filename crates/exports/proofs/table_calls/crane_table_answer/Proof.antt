@@ -2,8 +2,8 @@
 use mathlib.Core.Path.{sym, _∙_}
 use Rattle.exports.specs.Numbers.{tableFormAnswer}
 use borrow.Author.Needs.{needs}
-use Rattle.exports.proofs.tables.crane_table_answer.Statement.{statement}
-use Rattle.exports.proofs.tables.crane_table_answer.Tie as tie
+use Rattle.exports.proofs.table_calls.crane_table_answer.Statement.{statement}
+use Rattle.exports.proofs.table_calls.crane_table_answer.Tie as tie
 
 table-sound-requires : tie.Need-table-sound-requires
 table-sound-requires c κs = search needs

@@ -1,8 +1,8 @@
 -- `written_number` meets its contract, by the case of what writing answered: a count has 256 added to it, a refusal stays. Assumes
 -- nothing.
 use borrow.Author.Needs.{needs}
-use Rattle.exports.proofs.messages.written_number.Statement.{statement}
-use Rattle.exports.proofs.messages.written_number.Tie as tie
+use Rattle.exports.proofs.message_calls.written_number.Statement.{statement}
+use Rattle.exports.proofs.message_calls.written_number.Tie as tie
 
 enum-known-written : tie.Need-enum-known-written
 enum-known-written c = search needs

@@ -3,8 +3,8 @@ use mathlib.Core.Path.{sym}
 use lib.ListN.{List·getD-eq-default}
 use Rattle.exports.specs.Numbers.{templateParts}
 use borrow.Author.Needs.{needs}
-use Rattle.exports.proofs.tables.template_part.Statement.{statement}
-use Rattle.exports.proofs.tables.template_part.Tie as tie
+use Rattle.exports.proofs.table_calls.template_part.Statement.{statement}
+use Rattle.exports.proofs.table_calls.template_part.Tie as tie
 
 cast-t5 : tie.Need-cast-t5
 cast-t5 c = search needs

@@ -4,8 +4,8 @@ use Prim.Native.Nat.{_≤_}
 use lib.ListN.{length, List·getD-eq-default}
 use native.Mathlib.Omega.{arith}
 use borrow.Author.Needs.{needs}
-use Rattle.exports.proofs.messages.one_of.Statement.{statement}
-use Rattle.exports.proofs.messages.one_of.Tie as tie
+use Rattle.exports.proofs.message_calls.one_of.Statement.{statement}
+use Rattle.exports.proofs.message_calls.one_of.Tie as tie
 
 mul-result : tie.Need-mul-result
 mul-result c = search needs

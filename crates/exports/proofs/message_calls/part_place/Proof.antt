@@ -3,8 +3,8 @@
 use mathlib.Core.Path.{sym, _∙_}
 use Rattle.messages.proofs.Messages.{part-of-data, part-of-table, part-of-other}
 use borrow.Author.Needs.{needs}
-use Rattle.exports.proofs.messages.part_place.Statement.{statement}
-use Rattle.exports.proofs.messages.part_place.Tie as tie
+use Rattle.exports.proofs.message_calls.part_place.Statement.{statement}
+use Rattle.exports.proofs.message_calls.part_place.Tie as tie
 
 get-u8-requires : tie.Need-get-u8-requires
 get-u8-requires c κs = search needs

@@ -1,7 +1,7 @@
 -- `message_parts` meets its contract, by the case of the message: each has the parts that its row names. Assumes nothing.
 use borrow.Author.Needs.{needs}
-use Rattle.exports.proofs.messages.message_parts.Statement.{statement}
-use Rattle.exports.proofs.messages.message_parts.Tie as tie
+use Rattle.exports.proofs.message_calls.message_parts.Statement.{statement}
+use Rattle.exports.proofs.message_calls.message_parts.Tie as tie
 
 enum-known-m : tie.Need-enum-known-m
 enum-known-m c = search needs

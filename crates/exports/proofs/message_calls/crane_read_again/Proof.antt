@@ -10,8 +10,8 @@ use Rattle.messages.specs.declared.message.Written.{Written}
 use Rattle.messages.proofs.RoundTrip.{reading-number}
 use Rattle.exports.specs.Numbers.{writtenNumber, saidBy}
 use borrow.Author.Needs.{needs}
-use Rattle.exports.proofs.messages.crane_read_again.Statement.{statement}
-use Rattle.exports.proofs.messages.crane_read_again.Tie as tie
+use Rattle.exports.proofs.message_calls.crane_read_again.Statement.{statement}
+use Rattle.exports.proofs.message_calls.crane_read_again.Tie as tie
 
 read-message-requires : tie.Need-read-message-requires
 read-message-requires c κs = search needs

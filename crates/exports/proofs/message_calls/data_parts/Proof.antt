@@ -1,7 +1,7 @@
 -- `data_parts` meets its contract: the array holds what the head says, in order, its flags as `bit` gives them. Assumes nothing.
 use borrow.Author.Needs.{needs}
-use Rattle.exports.proofs.messages.data_parts.Statement.{statement}
-use Rattle.exports.proofs.messages.data_parts.Tie as tie
+use Rattle.exports.proofs.message_calls.data_parts.Statement.{statement}
+use Rattle.exports.proofs.message_calls.data_parts.Tie as tie
 
 cast-t7 : tie.Need-cast-t7
 cast-t7 c = search needs

@@ -2,8 +2,8 @@
 -- nothing.
 use mathlib.Core.Path.{sym, _∙_}
 use borrow.Author.Needs.{needs}
-use Rattle.exports.proofs.tables.crane_find_part.Statement.{statement}
-use Rattle.exports.proofs.tables.crane_find_part.Tie as tie
+use Rattle.exports.proofs.table_calls.crane_find_part.Statement.{statement}
+use Rattle.exports.proofs.table_calls.crane_find_part.Tie as tie
 
 find-template-requires : tie.Need-find-template-requires
 find-template-requires c κs = search needs
