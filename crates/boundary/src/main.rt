@@ -85,7 +85,7 @@ fn release_one(s: State, store: &[u8]) -> State {
     let started = receiving::receive::receive(s, 0, &start, &mut out);
     print(b"START: ", started.answer);
     let began = started.state;
-    let offered = receiving::offer_templates::offer_templates(began, 0, &table, &mut out);
+    let offered = turning::offer_templates::offer_templates(began, 0, &table, &mut out);
     print(b"offer templates: ", offered.answer);
     let offering = offered.state;
     let agreed = receiving::receive::receive(offering, 0, &agreement, &mut out);

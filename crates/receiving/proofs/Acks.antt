@@ -16,7 +16,7 @@ use Rattle.session.specs.Queue.{octetsTo, shifted, dropFront}
 use Rattle.session.specs.Sound.{sound}
 use Rattle.session.specs.Steps.{ackCount, ack, checks, answer, after, settled, written, step, wroteOf, outputAfter, ackCountBy, ackChecks}
 use Rattle.session.specs.Parts.{stateOf}
-use Rattle.receiving.specs.Moves.{ackChangeOf}
+use Rattle.receiving.specs.Requests.{ackChangeOf}
 use Rattle.receiving.specs.declared.acknowledge.AckChange.{AckChange}
 use Rattle.session.specs.declared.state.Queue.{Queue}
 use Rattle.session.specs.declared.state.Settings.{Settings}

@@ -1,3 +1,2 @@
-pub mod Moves
 pub mod Received
 pub mod Acks

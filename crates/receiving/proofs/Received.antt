@@ -18,7 +18,7 @@ use Rattle.messages.specs.declared.message.Reading.the-variants as reading
 use Rattle.messages.proofs.Messages.{header-passed}
 use Rattle.session.specs.Servers.{malformed}
 use Rattle.session.specs.Steps.{move, isReceived, formAnswer, callOfMessage, received}
-use Rattle.receiving.specs.Moves.{callOfReading}
+use Rattle.receiving.specs.Requests.{callOfReading}
 use Rattle.session.specs.declared.state.Settings.{Settings}
 
 -- ---- what reading a header says

@@ -9,7 +9,7 @@ ghost use Rattle.session.specs.Servers.{acknowledged};
 ghost use Rattle.session.specs.Queue.{sumOf, ringPlace, dropFront};
 ghost use Rattle.session.specs.Parts.{stateOf};
 ghost use Rattle.session.specs.Steps.{ack, step, wroteOf, ackCountBy, ackChecks};
-ghost use Rattle.receiving.specs.Moves.{ackChangeOf};
+ghost use Rattle.receiving.specs.Requests.{ackChangeOf};
 use session::state::Active;
 use session::state::Delivery;
 use session::state::Queue;

@@ -96,7 +96,7 @@ fn play(
                 total = add(total, left.answer, 0);
             }
             OFFER => {
-                let left = receiving::offer_templates::offer_templates(state, server, table, out);
+                let left = turning::offer_templates::offer_templates(state, server, table, out);
                 state = left.state;
                 total = add(total, left.answer, left.written);
             }

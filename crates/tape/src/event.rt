@@ -101,7 +101,7 @@ pub(crate) fn call<'a>(
         return receiving::receive::receive(s, server, b, out);
     }
     if kind == Kind::DOWN {
-        return wrote(receiving::line_down::line_down(s, server));
+        return wrote(turning::line_down::line_down(s, server));
     }
     if kind == Kind::TICK {
         return wrote(ticking::tick::tick(s));
@@ -109,5 +109,5 @@ pub(crate) fn call<'a>(
     if kind == Kind::NEXT {
         return sending::next_data::next_data(s, store, out);
     }
-    receiving::offer_templates::offer_templates(s, server, table, out)
+    turning::offer_templates::offer_templates(s, server, table, out)
 }

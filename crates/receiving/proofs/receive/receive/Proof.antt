@@ -1,7 +1,7 @@
 -- `receive` meets its contract. The octets are decoded to a DATA ACK or a transition, which is the call that the definition makes of them.
 -- Each arm's call has this function's contract for that call; a DATA ACK leaves the output as it was.
 use mathlib.Core.Path.{sym, ap, _∙_}
-use Rattle.receiving.specs.Moves.{callOfRequest}
+use Rattle.receiving.specs.Requests.{callOfRequest}
 use Rattle.receiving.proofs.Acks.{ack-wrote}
 use borrow.Author.Needs.{needs}
 use Rattle.receiving.proofs.receive.receive.Statement.{statement}

@@ -8,13 +8,13 @@ use borrow.Author.Tests.{le-leb, lt-leb}
 use lib.ListN.{length}
 use Rattle.session.specs.Parts.{stateOf}
 use Rattle.session.specs.Steps.{move}
-use Rattle.receiving.specs.Moves.{transitionOf}
+use Rattle.turning.specs.Moves.{transitionOf}
 use Rattle.session.proofs.SoundFacts.{passed-sound, failed-sound}
 use Rattle.choice.proofs.Changes.{move-unsound, move-unknown, refused-change, moved-change}
-use Rattle.receiving.proofs.Moves.{table-fits, move-refused, move-roomed, fitted, unfitted}
+use Rattle.turning.proofs.Moves.{table-fits, move-refused, move-roomed, fitted, unfitted}
 use borrow.Author.Needs.{needs}
-use Rattle.receiving.proofs.transition.move_change.Statement.{statement}
-use Rattle.receiving.proofs.transition.move_change.Tie as tie
+use Rattle.turning.proofs.transition.move_change.Statement.{statement}
+use Rattle.turning.proofs.transition.move_change.Tie as tie
 
 parts-sound-requires : tie.Need-parts-sound-requires
 parts-sound-requires c κs = search needs

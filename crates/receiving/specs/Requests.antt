@@ -1,42 +1,18 @@
 -- What the values of private functions stand for: transitions, requests and readings, and what an acknowledgement changes. These definitions
 -- render no rule of 01: the rules are in Steps, and every public contract cites those. Assumes nothing.
 use Prim.Native.Nat.{ℕ}
-use mathlib.Core.Bool.{Bool, true, cond}
-use mathlib.Core.List.{List}
+use mathlib.Core.Bool.{cond}
 use lib.Dec.{eqb}
 use Rattle.octets.specs.Answers.{done}
-use Rattle.tables.specs.Table.{tableSound}
 use Rattle.messages.specs.declared.message.Reading.{Reading}
 use Rattle.messages.specs.declared.message.Reading.the-variants as reading
-use Rattle.session.specs.Servers.{Transition, start, stop, negotiate, offer, down, agree, malformed}
+use Rattle.session.specs.Servers.{start, malformed}
 use Rattle.session.specs.Steps.{Call, ack, move, callOfMessage, Outcome}
 use Rattle.receiving.specs.declared.acknowledge.AckChange.{AckChange}
 use Rattle.receiving.specs.declared.decode.Request.{Request}
 use Rattle.receiving.specs.declared.decode.Request.the-variants as request
-use Rattle.receiving.specs.declared.transition.Move.{Move}
-use Rattle.receiving.specs.declared.transition.Move.the-variants as code
-
--- ---- transitions
-
--- The transition that the code's value stands for.
-abbrev pub transitionOf : Move → Transition
-transitionOf code.Start = start
-transitionOf code.Stop = stop
-transitionOf code.Negotiate = negotiate
-transitionOf code.Offer = offer
-transitionOf code.Down = down
-transitionOf (code.Agree config) = agree config
-transitionOf (code.Malformed a) = malformed a
-
--- The table that an offer writes is sound; no other transition writes one.
-abbrev pub tableFits : Transition → List ℕ → Bool
-tableFits start table = true
-tableFits stop table = true
-tableFits negotiate table = true
-tableFits offer table = tableSound table
-tableFits down table = true
-tableFits (agree config) table = true
-tableFits (malformed a) table = true
+use Rattle.turning.specs.declared.transition.Move.{Move}
+use Rattle.turning.specs.Moves.{transitionOf}
 
 -- ---- received messages
 

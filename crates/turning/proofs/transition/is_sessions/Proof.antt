@@ -1,7 +1,7 @@
 -- `is_sessions` meets its contract by its two calls: whether the table is sound, and whether its Configuration ID is the session's.
 use borrow.Author.Needs.{needs}
-use Rattle.receiving.proofs.transition.is_sessions.Statement.{statement}
-use Rattle.receiving.proofs.transition.is_sessions.Tie as tie
+use Rattle.turning.proofs.transition.is_sessions.Statement.{statement}
+use Rattle.turning.proofs.transition.is_sessions.Tie as tie
 
 table-sound-requires : tie.Need-table-sound-requires
 table-sound-requires c κs = search needs

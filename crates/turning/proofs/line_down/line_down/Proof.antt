@@ -1,8 +1,8 @@
 -- `line_down` meets its contract. It is the transition to closed, given no table and no output; that writes no message, so what is left out
 -- of the result was 0.
 use borrow.Author.Needs.{needs}
-use Rattle.receiving.proofs.line_down.line_down.Statement.{statement}
-use Rattle.receiving.proofs.line_down.line_down.Tie as tie
+use Rattle.turning.proofs.line_down.line_down.Statement.{statement}
+use Rattle.turning.proofs.line_down.line_down.Tie as tie
 
 slice-aggregate-move-server : tie.Need-slice-aggregate-move-server
 slice-aggregate-move-server c = search needs

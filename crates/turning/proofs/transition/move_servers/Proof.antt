@@ -1,8 +1,8 @@
 -- `move_servers` meets its contract. Each arm of the match is the row of `transition` for that move, by the contract of its one call.
 use Rattle.session.specs.Servers.{transition}
 use borrow.Author.Needs.{needs}
-use Rattle.receiving.proofs.transition.move_servers.Statement.{statement}
-use Rattle.receiving.proofs.transition.move_servers.Tie as tie
+use Rattle.turning.proofs.transition.move_servers.Statement.{statement}
+use Rattle.turning.proofs.transition.move_servers.Tie as tie
 
 enum-told : tie.Need-enum-told
 enum-told c = search needs

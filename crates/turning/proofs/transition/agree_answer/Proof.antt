@@ -3,8 +3,8 @@
 use borrow.Author.Tests.{not-false, eq-eqb, ne-eqb}
 use mathlib.Core.Path.{sym, _∙_}
 use borrow.Author.Needs.{needs}
-use Rattle.receiving.proofs.transition.agree_answer.Statement.{statement}
-use Rattle.receiving.proofs.transition.agree_answer.Tie as tie
+use Rattle.turning.proofs.transition.agree_answer.Statement.{statement}
+use Rattle.turning.proofs.transition.agree_answer.Tie as tie
 
 is-offered-requires : tie.Need-is-offered-requires
 is-offered-requires c κs = search needs

@@ -1,11 +1,11 @@
 -- `move_server` meets its contract. What the transition changes was computed of the parts that soundness looks at; by the law `moved-
 -- applied` it is what the transition of the whole state changes.
 use lib.ListN.{length}
-use Rattle.receiving.specs.Moves.{transitionOf}
+use Rattle.turning.specs.Moves.{transitionOf}
 use Rattle.choice.proofs.Changes.{moved-applied}
 use borrow.Author.Needs.{needs}
-use Rattle.receiving.proofs.transition.move_server.Statement.{statement}
-use Rattle.receiving.proofs.transition.move_server.Tie as tie
+use Rattle.turning.proofs.transition.move_server.Statement.{statement}
+use Rattle.turning.proofs.transition.move_server.Tie as tie
 
 move-change-requires : tie.Need-move-change-requires
 move-change-requires c κs = search needs

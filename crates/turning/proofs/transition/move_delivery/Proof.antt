@@ -1,7 +1,7 @@
 -- `move_delivery` meets its contract. Only the servers change, by the transition; every other field is copied.
 use borrow.Author.Needs.{needs}
-use Rattle.receiving.proofs.transition.move_delivery.Statement.{statement}
-use Rattle.receiving.proofs.transition.move_delivery.Tie as tie
+use Rattle.turning.proofs.transition.move_delivery.Statement.{statement}
+use Rattle.turning.proofs.transition.move_delivery.Tie as tie
 
 move-servers-requires : tie.Need-move-servers-requires
 move-servers-requires c κs = search needs

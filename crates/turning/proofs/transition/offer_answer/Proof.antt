@@ -3,8 +3,8 @@
 use borrow.Author.Tests.{not-true, not-false}
 use mathlib.Core.Path.{sym, _∙_}
 use borrow.Author.Needs.{needs}
-use Rattle.receiving.proofs.transition.offer_answer.Statement.{statement}
-use Rattle.receiving.proofs.transition.offer_answer.Tie as tie
+use Rattle.turning.proofs.transition.offer_answer.Statement.{statement}
+use Rattle.turning.proofs.transition.offer_answer.Tie as tie
 
 is-sessions-requires : tie.Need-is-sessions-requires
 is-sessions-requires c κs = search needs

@@ -9,7 +9,7 @@ ghost use Rattle.session.specs.Servers.{offer, agree, transition, withServers};
 ghost use Rattle.session.specs.Steps.{isSessions, move, step, replyTo, outputAfter, wroteOf, negotiateChecks, turnChecks};
 ghost use Rattle.choice.specs.Changes.{changeOf};
 ghost use Rattle.session.specs.Parts.{stateOf};
-ghost use Rattle.receiving.specs.Moves.{transitionOf, tableFits};
+ghost use Rattle.turning.specs.Moves.{transitionOf, tableFits};
 use choice::change::Change;
 use session::state::Delivery;
 use session::state::Phase;

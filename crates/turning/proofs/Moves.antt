@@ -25,7 +25,7 @@ use Rattle.session.specs.Steps.{move, answer, replyTo, transitionChecks, isSess
 use Rattle.session.specs.Sound.{sound}
 use Rattle.session.specs.declared.state.State.{State}
 use Rattle.choice.proofs.Changes.{move-judged}
-use Rattle.receiving.specs.Moves.{tableFits}
+use Rattle.turning.specs.Moves.{tableFits}
 use Rattle.session.specs.declared.state.Phase.{Phase}
 use Rattle.session.specs.declared.state.Settings.{Settings}
 

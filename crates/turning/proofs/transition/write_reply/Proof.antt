@@ -3,10 +3,10 @@
 use mathlib.Core.Path.{refl, ap}
 use mathlib.Core.Bool.{not}
 use Rattle.messages.specs.Messages.{layoutOf}
-use Rattle.receiving.proofs.Moves.{written-placed, none-placed}
+use Rattle.turning.proofs.Moves.{written-placed, none-placed}
 use borrow.Author.Needs.{needs}
-use Rattle.receiving.proofs.transition.write_reply.Statement.{statement}
-use Rattle.receiving.proofs.transition.write_reply.Tie as tie
+use Rattle.turning.proofs.transition.write_reply.Statement.{statement}
+use Rattle.turning.proofs.transition.write_reply.Tie as tie
 
 enum-told : tie.Need-enum-told
 enum-told c = search needs

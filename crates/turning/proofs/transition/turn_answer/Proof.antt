@@ -1,8 +1,8 @@
 -- `turn_answer` meets its contract. Each arm of the match is the row of `turnChecks` for that move: no refusal, one, or the contract of the
 -- call that judges it.
 use borrow.Author.Needs.{needs}
-use Rattle.receiving.proofs.transition.turn_answer.Statement.{statement}
-use Rattle.receiving.proofs.transition.turn_answer.Tie as tie
+use Rattle.turning.proofs.transition.turn_answer.Statement.{statement}
+use Rattle.turning.proofs.transition.turn_answer.Tie as tie
 
 enum-told : tie.Need-enum-told
 enum-told c = search needs
