@@ -9,10 +9,10 @@ ghost use Rattle.octets.specs.Numbers.{octetsOf};
 ghost use Rattle.tables.specs.Each.{every};
 ghost use Rattle.records.specs.Record.{lengthOctets};
 ghost use Rattle.appending.specs.Append.{lengthLimit, numberFits, negativeFits, octetsFit, octetsField, Stored, appendOf, appendOut};
-use tables::field_type::FieldType;
+use octets::Answer;
 use records::record::LENGTH_OCTETS;
 use records::walk::Value;
-use octets::Answer;
+use tables::field_type::FieldType;
 
 // What appending answers: the place after the field, or the refusal.
 pub enum Appended {

@@ -1,7 +1,7 @@
 // Runs the boundary examples of stores and queues, and prints what each call answers.
+use libc::STDOUT_FILENO;
 use session::state::Settings;
 use session::state::State;
-use libc::STDOUT_FILENO;
 
 // A table with one template, ID 3, of one enabled key: a number of 16 bits.
 const NUMBER_TABLE: [u8; 28] =

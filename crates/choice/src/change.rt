@@ -1,10 +1,10 @@
 // What a call changes of a state besides its queue: computed as a small value and applied once.
 ghost use mathlib.Core.Path.{_≡_};
 ghost use Rattle.choice.specs.Changes.{settledChange, refusedChange, appliedTo};
+use octets::Answer;
 use session::state::Delivery;
 use session::state::Settings;
 use session::state::State;
-use octets::Answer;
 
 // A call's answer, how many octets it wrote, and the delivery and S as it leaves them.
 pub struct Change {

@@ -10,13 +10,13 @@ ghost use Rattle.session.specs.Queue.{sumOf, ringPlace, dropFront};
 ghost use Rattle.session.specs.Parts.{stateOf};
 ghost use Rattle.session.specs.Steps.{ack, step, wroteOf, ackCountBy, ackChecks};
 ghost use Rattle.receiving.specs.Requests.{ackChangeOf};
+use octets::Answer;
 use session::state::Active;
 use session::state::Delivery;
 use session::state::Queue;
 use session::state::Settings;
 use session::state::State;
 use session::state::Wrote;
-use octets::Answer;
 
 // A DATA ACK's answer, how many records it releases, and what it leaves of the ring's start and of the delivery's counters.
 pub struct AckChange {

@@ -4,12 +4,12 @@ ghost use Prim.Native.Nat.{ℕ};
 ghost use Rattle.messages.specs.Messages.{readOf};
 ghost use Rattle.session.specs.Steps.{isReceived, callOfMessage, received};
 ghost use Rattle.receiving.specs.Requests.{callOfRequest, callOfReading};
-use session::state::Settings;
-use turning::transition::Move;
-use octets::Answer;
 use messages::message::HeaderReading;
 use messages::message::Message;
 use messages::message::Reading;
+use octets::Answer;
+use session::state::Settings;
+use turning::transition::Move;
 
 // A DATA ACK with its DSN and Configuration ID, or a transition.
 pub enum Request {

@@ -8,13 +8,13 @@ ghost use Rattle.tables.specs.Each.{every, firstFrom};
 ghost use Rattle.tables.specs.Table.{keyOctets, keyAt, isEnabled};
 ghost use Rattle.tables.specs.FieldTypes.{widthOf};
 ghost use Rattle.records.specs.Record.{asciiLimit, blobLength, stringLength, terminatedLength, fieldLength, lengthUnder, recordValid, recordAnswer};
+use octets::Answer;
 use tables::field_type::FieldType;
 use tables::table::Found;
 use tables::table::KEY_ATTRIBUTES_AT;
 use tables::table::KEY_OCTETS;
 use tables::table::KEY_TYPE_AT;
 use tables::table::Template;
-use octets::Answer;
 
 // The octets of the 32-bit length in front of a string or blob.
 pub const LENGTH_OCTETS: usize = 4;

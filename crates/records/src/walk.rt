@@ -4,10 +4,10 @@ ghost use Prim.Native.Nat.{_+_, _-_, _*_, _^_, _≤_};
 ghost use lib.ListN.{length};
 ghost use Rattle.tables.specs.Table.{keyOctets};
 ghost use Rattle.records.specs.Walk.{signedAt, valueAt, nextKey, stepUnder, stepOf, stepFrom, openOf};
+use octets::Answer;
 use tables::field_type::FieldType;
 use tables::table::Found;
 use tables::table::Template;
-use octets::Answer;
 
 // The value of a field: octets where it is no number, a number, or a number below 0 by its size.
 pub enum Value {

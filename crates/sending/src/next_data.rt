@@ -14,15 +14,15 @@ ghost use Rattle.session.specs.Sound.{sound};
 ghost use Rattle.sending.specs.Sendings.{SendFacts, sendingOf};
 ghost use Rattle.session.specs.Parts.{Below, stateOf};
 ghost use Rattle.session.specs.Steps.{dsnAtBy, isDuplicate, headOf, sendChecks, nextDataStep, wroteOf, outputAfter};
+use messages::message::DataHead;
+use messages::message::Written;
+use octets::Answer;
 use session::state::Active;
 use session::state::Delivery;
 use session::state::Queue;
 use session::state::Settings;
 use session::state::State;
 use session::state::Wrote;
-use octets::Answer;
-use messages::message::DataHead;
-use messages::message::Written;
 
 // A sending's answer, how many octets it wrote, the place of its record with the set of servers that this was sent to, and what it leaves
 // of the delivery's counters and S.

@@ -12,13 +12,13 @@ ghost use Rattle.sending.specs.Sendings.{puttingOf};
 ghost use Rattle.session.specs.Parts.{stateOf};
 ghost use Rattle.session.specs.Steps.{putStep, steppedOf, recordChecks, roomChecks};
 use held::queue::MAX_HELD;
+use messages::message::MAX_RECORD_OCTETS;
+use octets::Answer;
 use session::state::Delivery;
 use session::state::Queue;
 use session::state::Settings;
 use session::state::State;
 use session::state::Stepped;
-use octets::Answer;
-use messages::message::MAX_RECORD_OCTETS;
 
 // A put's answer, the place of its entries and what stands there, and what it leaves of the count and the next DSN.
 pub struct Putting {

@@ -2,6 +2,7 @@
 ghost use mathlib.Core.Path.{_≡_};
 ghost use lib.ListN.{length};
 ghost use Rattle.session.specs.Steps.{fresh, noSettings, setUp};
+use octets::Answer;
 use session::state::Active;
 use session::state::Delivery;
 use session::state::Made;
@@ -10,7 +11,6 @@ use session::state::Queue;
 use session::state::Server;
 use session::state::Settings;
 use session::state::State;
-use octets::Answer;
 
 // A state that holds nothing.
 fn fresh_state(p: Settings, capacity: usize) -> State

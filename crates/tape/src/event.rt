@@ -5,11 +5,11 @@ ghost use Rattle.tape.specs.Tape.{bodyOf};
 ghost use Rattle.tape.specs.Replay.{settingsOf, storeLength, tableAnswer, eventCall};
 ghost use Rattle.tape.specs.Turns.{Called};
 use crate::contents::Kind;
+use octets::Answer;
 use session::state::Settings;
 use session::state::State;
 use session::state::Stepped;
 use session::state::Wrote;
-use octets::Answer;
 
 // The settings in the body of event 0.
 pub(crate) fn settings_of(b: &[u8]) -> Settings

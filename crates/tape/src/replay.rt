@@ -6,8 +6,8 @@ ghost use lib.ListN.{length};
 ghost use lib.Seq.{sets};
 ghost use Rattle.tape.specs.Replay.{outputBufferOctets};
 ghost use Rattle.tape.specs.Turns.{opened, indexOf, nextBody, tableTurn, callTurn, played, turnOf, Turned};
-use session::state::State;
 use octets::Answer;
+use session::state::State;
 
 // How many octets the calls of a replay are lent as output.
 pub const OUTPUT_OCTETS: usize = 16392;

@@ -5,6 +5,7 @@ ghost use Prim.Native.Nat.{_<_};
 ghost use Rattle.session.specs.Steps.{tickStep, steppedOf};
 ghost use Rattle.ticking.specs.Clocks.{Steady, runningClock, clockOf, tickChangeBy};
 use choice::change::Change;
+use octets::Answer;
 use session::state::Active;
 use session::state::Delivery;
 use session::state::Phase;
@@ -12,7 +13,6 @@ use session::state::Server;
 use session::state::Settings;
 use session::state::State;
 use session::state::Stepped;
-use octets::Answer;
 
 // The timer after a tick, and whether it has run out.
 pub struct Clock {
@@ -115,7 +115,11 @@ fn tick_change(sound: bool, p: Settings, d: Delivery, due: bool, clock: Clock) -
     let priorities = p.priorities;
     let servers = d.servers;
     let active = d.active;
-    let late = choice::servers::with_phase(servers, choice::servers::number_of(active), Phase::Late);
+    let late = choice::servers::with_phase(
+        servers,
+        choice::servers::number_of(active),
+        Phase::Late,
+    );
     let choice = choice::servers::choose_server(
         priorities,
         late,

@@ -1,9 +1,9 @@
 // An offer of the session's templates to a server.
 ghost use mathlib.Core.Path.{_≡_};
 ghost use Rattle.session.specs.Steps.{offerStep, outputAfter, wroteOf};
+use crate::transition::Move;
 use session::state::State;
 use session::state::Wrote;
-use crate::transition::Move;
 
 // Writes the TMPL DATA that offers a table to server v. Refused with 1, 2, 21, 9 or 12.
 pub fn offer_templates(s: State, v: u8, table: &[u8], out: &mut [u8]) -> Wrote

@@ -11,15 +11,15 @@ ghost use Rattle.choice.specs.Changes.{changeOf};
 ghost use Rattle.session.specs.Parts.{stateOf};
 ghost use Rattle.turning.specs.Moves.{transitionOf, tableFits};
 use choice::change::Change;
+use messages::message::Message;
+use messages::message::Written;
+use octets::Answer;
 use session::state::Delivery;
 use session::state::Phase;
 use session::state::Server;
 use session::state::Settings;
 use session::state::State;
 use session::state::Wrote;
-use octets::Answer;
-use messages::message::Message;
-use messages::message::Written;
 
 // What can move a server: START, STOP, START NEGOTIATE, an offer of templates, a line that is down, and FINAL TMPL DATA ACK with its
 // Configuration ID. A message that its form refuses, with the number of that refusal, moves nothing.
