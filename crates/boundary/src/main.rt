@@ -1,7 +1,7 @@
 // Runs the boundary examples of stores and queues, and prints what each call answers.
+use exporter::state::Settings;
+use exporter::state::State;
 use libc::STDOUT_FILENO;
-use session::state::Settings;
-use session::state::State;
 
 // A table with one template, ID 3, of one enabled key: a number of 16 bits.
 const NUMBER_TABLE: [u8; 28] =
@@ -48,15 +48,15 @@ fn longest_record() {
     let mut record = [0u8; 1025];
     record[2] = 3;
     record[3] = 252;
-    let made = soundness::set_up::set_up(settings(), &store);
+    let made = exporter::set_up::set_up(settings(), &store);
     let fresh = made.state;
-    let fits = sending::put::put(fresh, &mut store, &table, 4, &record[..1024]);
+    let fits = exporter::put::put(fresh, &mut store, &table, 4, &record[..1024]);
     print(b"1,024 octets, empty store of 1,024: ", fits.answer);
     let full = fits.state;
-    let again = sending::put::put(full, &mut store, &table, 4, &record[..1024]);
+    let again = exporter::put::put(full, &mut store, &table, 4, &record[..1024]);
     print(b"1,024 octets, full store: ", again.answer);
     record[3] = 253;
-    let longer = sending::put::put(fresh, &mut store, &table, 4, &record);
+    let longer = exporter::put::put(fresh, &mut store, &table, 4, &record);
     print(b"1,025 octets, empty store: ", longer.answer);
 }
 
@@ -67,7 +67,7 @@ fn put_many(s: State, store: &mut [u8], n: u8) -> State {
     let mut state = s;
     let mut left = n;
     while 0 < left {
-        let put = sending::put::put(state, store, &table, 3, &record);
+        let put = exporter::put::put(state, store, &table, 3, &record);
         print(b"put: ", put.answer);
         state = put.state;
         left -= 1;
@@ -82,19 +82,19 @@ fn release_one(s: State, store: &[u8]) -> State {
     let start = START;
     let agreement = FINAL_TMPL_DATA_ACK;
     let ack = ACK_OF_FIRST;
-    let started = receiving::receive::receive(s, 0, &start, &mut out);
+    let started = exporter::receive::receive(s, 0, &start, &mut out);
     print(b"START: ", started.answer);
     let began = started.state;
-    let offered = turning::offer_templates::offer_templates(began, 0, &table, &mut out);
+    let offered = exporter::offer_templates::offer_templates(began, 0, &table, &mut out);
     print(b"offer templates: ", offered.answer);
     let offering = offered.state;
-    let agreed = receiving::receive::receive(offering, 0, &agreement, &mut out);
+    let agreed = exporter::receive::receive(offering, 0, &agreement, &mut out);
     print(b"FINAL TMPL DATA ACK: ", agreed.answer);
     let active = agreed.state;
-    let sent = sending::next_data::next_data(active, store, &mut out);
+    let sent = exporter::next_data::next_data(active, store, &mut out);
     print(b"next data: ", sent.answer);
     let sending = sent.state;
-    let released = receiving::receive::receive(sending, 0, &ack, &mut out);
+    let released = exporter::receive::receive(sending, 0, &ack, &mut out);
     print(b"DATA ACK of one record: ", released.answer);
     released.state
 }
@@ -102,7 +102,7 @@ fn release_one(s: State, store: &[u8]) -> State {
 // Holds 64 records and tries record 65, releases one, tries record 65 again and then record 66.
 fn fullest_queue() {
     let mut store = [0u8; 1024];
-    let made = soundness::set_up::set_up(settings(), &store);
+    let made = exporter::set_up::set_up(settings(), &store);
     let fresh = made.state;
     let full = put_many(fresh, &mut store, 65);
     let freed = release_one(full, &store);

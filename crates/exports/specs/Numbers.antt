@@ -5,8 +5,8 @@ use mathlib.Core.List.{List, [], _∷_}
 use lib.Dec.{eqb}
 use lib.ListN.{length, getD}
 use Rattle.octets.specs.Answers.{done, unsoundTable}
-use Rattle.tables.specs.Table.{tableSound}
-use Rattle.messages.specs.Messages.{start, startAck, stop, stopAck, tmplData, finalTmplDataAck, startNegotiate, startNegotiateAck, dataNumber, dataAck, writeOf, writeOut}
+use Rattle.wire.specs.Table.{tableSound}
+use Rattle.wire.specs.Messages.{start, startAck, stop, stopAck, tmplData, finalTmplDataAck, startNegotiate, startNegotiateAck, dataNumber, dataAck, writeOf, writeOut}
 use Rattle.tables.specs.declared.table.Template.{Template}
 use Rattle.tables.specs.declared.table.Found.{Found}
 use Rattle.tables.specs.declared.table.Found.the-variants as found

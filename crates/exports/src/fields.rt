@@ -1,19 +1,19 @@
 // The field walk and appending a field.
 ghost use mathlib.Core.Path.{_≡_};
 ghost use lib.ListN.{getD};
-ghost use Rattle.records.specs.Walk.{openOf, openAnswer, stepOf, countOf};
-ghost use Rattle.appending.specs.Append.{appendOf, appendOut};
+ghost use Rattle.wire.specs.Walk.{openOf, openAnswer, stepOf, countOf};
+ghost use Rattle.wire.specs.Append.{appendOf, appendOut};
 ghost use Rattle.exports.specs.Numbers.{valueSort, valueSize, fieldParts, stepPart, valueOf, countedNumber, appendedNumber};
 use crate::numbers::accepted;
 use crate::numbers::sole_part;
-use appending::append::Appended;
 use octets::Answer;
-use records::reader::Counted;
-use records::walk::Cursor;
-use records::walk::Field;
-use records::walk::Opened;
-use records::walk::Step;
-use records::walk::Value;
+use wire::append::Appended;
+use wire::reader::Counted;
+use wire::walk::Cursor;
+use wire::walk::Field;
+use wire::walk::Opened;
+use wire::walk::Step;
+use wire::walk::Value;
 
 // The answer that stands for the end of a walk.
 pub const END: u64 = 255;
@@ -30,7 +30,7 @@ pub const NEGATIVE: u8 = 2;
 pub extern "C" fn crane_open_answer(table: &[u8], id: u16, r: &[u8]) -> u8
     ensures { λ a. ⌜ a ≡ openAnswer (openOf (now (table .entry)) id (now (r .entry))) ⌝ }
 {
-    let opened = records::walk::open_walk(table, id, r);
+    let opened = wire::walk::open_walk(table, id, r);
     match opened {
         Opened::At(_) => Answer::DONE,
         Opened::Refused(a) => a,
@@ -42,7 +42,7 @@ pub extern "C" fn crane_open_answer(table: &[u8], id: u16, r: &[u8]) -> u8
 pub extern "C" fn crane_count_fields(table: &[u8], id: u16, r: &[u8]) -> u64
     ensures { λ n. ⌜ n ≡ countedNumber (countOf (now (table .entry)) id (now (r .entry))) ⌝ }
 {
-    let counted = records::reader::count_fields(table, id, r);
+    let counted = wire::reader::count_fields(table, id, r);
     match counted {
         Counted::Fields(n) => accepted(n),
         Counted::Refused(a) => a as u64,
@@ -103,7 +103,7 @@ pub extern "C" fn crane_step_part(
 ) -> u64
     ensures { λ n. ⌜ n ≡ stepPart part (stepOf (now (table .entry)) id (now (r .entry)) (record { index = index; at = at })) ⌝ }
 {
-    let step = records::walk::step_walk(table, id, r, Cursor { index, at });
+    let step = wire::walk::step_walk(table, id, r, Cursor { index, at });
     match step {
         Step::Next(f, c) => field_part(part, f, c),
         Step::End => sole_part(part, END),
@@ -147,5 +147,5 @@ pub extern "C" fn crane_append(
     ensures { λ n. ⌜ (n ≡ appendedNumber (appendOf kind (valueOf sort number) (now (octets .entry)) (now (out .entry)) at))
         × (now (out .exit) ≡ appendOut kind (valueOf sort number) (now (octets .entry)) (now (out .entry)) at) ⌝ }
 {
-    appended_number(appending::append::append(kind, value_of(sort, number), octets, out, at))
+    appended_number(wire::append::append(kind, value_of(sort, number), octets, out, at))
 }

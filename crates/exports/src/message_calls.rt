@@ -4,16 +4,16 @@ ghost use mathlib.Core.Bool.{cond};
 ghost use mathlib.Core.List.{_∷_};
 ghost use lib.ListN.{getD};
 ghost use Rattle.octets.specs.Answers.{done};
-ghost use Rattle.messages.specs.Messages.{readAnswer, readOf, partAt, partOf};
+ghost use Rattle.wire.specs.Messages.{readAnswer, readOf, partAt, partOf};
 ghost use Rattle.exports.specs.Numbers.{saying, dataSaying, saidBy, writtenNumber, againPart, againOut};
 use crate::numbers::accepted;
 use crate::numbers::sole_part;
-use messages::message::DATA_HEAD_OCTETS;
-use messages::message::DataHead;
-use messages::message::HEADER_OCTETS;
-use messages::message::Message;
-use messages::message::Reading;
-use messages::message::Written;
+use wire::message::DATA_HEAD_OCTETS;
+use wire::message::DataHead;
+use wire::message::HEADER_OCTETS;
+use wire::message::Message;
+use wire::message::Reading;
+use wire::message::Written;
 
 // 1 for a flag that is set, else 0.
 fn bit(flag: bool) -> u64
@@ -151,11 +151,11 @@ pub extern "C" fn crane_read_again(message: &[u8], out: &mut [u8], part: u8) -> 
     ensures { λ n. ⌜ (n ≡ againPart part (partAt (now (message .entry))) (partOf (now (message .entry))) (now (out .entry)) (readOf (now (message .entry))))
         × (now (out .exit) ≡ againOut (partOf (now (message .entry))) (now (out .entry)) (readOf (now (message .entry)))) ⌝ }
 {
-    let reading = messages::message::read_message(message);
+    let reading = wire::message::read_message(message);
     match reading {
         Reading::Message(m) => {
-            let carried = messages::message::message_part(message);
-            let written = written_number(messages::message::write_message(m, carried, out));
+            let carried = wire::message::message_part(message);
+            let written = written_number(wire::message::write_message(m, carried, out));
             // What benchmarks ask for comes first.
             if part == 0 {
                 return written;

@@ -1,19 +1,19 @@
 // Template tables and records, judged, and templates found.
 ghost use mathlib.Core.Path.{_≡_};
 ghost use lib.ListN.{getD};
-ghost use Rattle.tables.specs.Table.{findOf};
-ghost use Rattle.records.specs.Record.{recordAnswer};
+ghost use Rattle.wire.specs.Table.{findOf};
+ghost use Rattle.wire.specs.Record.{recordAnswer};
 ghost use Rattle.exports.specs.Numbers.{tableFormAnswer, templateParts, foundPart};
 use octets::Answer;
-use tables::table::Found;
-use tables::table::Template;
+use wire::table::Found;
+use wire::table::Template;
 
 // 0 for a sound template table, else 21.
 #[no_mangle]
 pub extern "C" fn crane_table_answer(table: &[u8]) -> u8
     ensures { λ a. ⌜ a ≡ tableFormAnswer (now (table .entry)) ⌝ }
 {
-    if tables::table::table_sound(table) {
+    if wire::table::table_sound(table) {
         return Answer::DONE;
     }
     Answer::UNSOUND_TABLE
@@ -24,7 +24,7 @@ pub extern "C" fn crane_table_answer(table: &[u8]) -> u8
 pub extern "C" fn crane_record_answer(table: &[u8], id: u16, r: &[u8]) -> u8
     ensures { λ a. ⌜ a ≡ recordAnswer (now (table .entry)) id (now (r .entry)) ⌝ }
 {
-    records::record::record_answer(table, id, r)
+    wire::record::record_answer(table, id, r)
 }
 
 // A part of a template that was found, by its number.
@@ -42,7 +42,7 @@ fn template_part(part: u8, m: Template) -> u64
 pub extern "C" fn crane_find_part(table: &[u8], id: u16, part: u8) -> u64
     ensures { λ n. ⌜ n ≡ foundPart part (findOf (now (table .entry)) id) ⌝ }
 {
-    let found = tables::table::find_template(table, id);
+    let found = wire::table::find_template(table, id);
     match found {
         Found::At(m) => template_part(part, m),
         Found::Refused(a) => crate::numbers::sole_part(part, a as u64),

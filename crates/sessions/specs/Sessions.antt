@@ -5,8 +5,8 @@ use mathlib.Core.Bool.{cond}
 use mathlib.Core.List.{List}
 use lib.Dec.{eqb}
 use lib.ListN.{length, getD, take, drop, replicate}
-use Rattle.session.specs.Steps.{setUp, noSettings, outputAfter}
-use Rattle.session.specs.Claim.{Event, Put, NextData, Receive, OfferTemplates, Tick, Session, Exporter, outcome, storeLeft, sessionOf32}
+use Rattle.exporter.specs.Steps.{setUp, noSettings, outputAfter}
+use Rattle.exporter.specs.Claim.{Event, Put, NextData, Receive, OfferTemplates, Tick, Session, Exporter, outcome, storeLeft, sessionOf32}
 use Rattle.session.specs.declared.state.Settings.{Settings}
 use Rattle.session.specs.declared.state.State.{State}
 

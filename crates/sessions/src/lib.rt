@@ -5,8 +5,8 @@ ghost use mathlib.Core.Path.{_≡_};
 ghost use Prim.Native.Nat.{_+_, _≤_};
 ghost use lib.ListN.{length};
 ghost use Rattle.sessions.specs.Sessions.{settingsOf, eventOctets, messageAt, added, eventCount, progress, played, sessionEnd, PlayedTo};
-use session::state::Made;
-use session::state::Settings;
+use exporter::state::Made;
+use exporter::state::Settings;
 
 // The octets of an event: its call, its server, the length of its message modulo 17, and 16 octets, the first of which are the message.
 const EVENT_OCTETS: usize = 19;
@@ -81,28 +81,28 @@ fn play(
         let server = events[at + 1];
         match code {
             PUT => {
-                let left = sending::put::put(state, store, table, id, r);
+                let left = exporter::put::put(state, store, table, id, r);
                 state = left.state;
                 total = add(total, left.answer, 0);
             }
             NEXT_DATA => {
-                let left = sending::next_data::next_data(state, store, out);
+                let left = exporter::next_data::next_data(state, store, out);
                 state = left.state;
                 total = add(total, left.answer, left.written);
             }
             TICK => {
-                let left = ticking::tick::tick(state);
+                let left = exporter::tick::tick(state);
                 state = left.state;
                 total = add(total, left.answer, 0);
             }
             OFFER => {
-                let left = turning::offer_templates::offer_templates(state, server, table, out);
+                let left = exporter::offer_templates::offer_templates(state, server, table, out);
                 state = left.state;
                 total = add(total, left.answer, left.written);
             }
             _ => {
                 let m = message_at(events, at);
-                let left = receiving::receive::receive(state, server, m, out);
+                let left = exporter::receive::receive(state, server, m, out);
                 state = left.state;
                 total = add(total, left.answer, left.written);
             }
@@ -130,6 +130,6 @@ pub extern "C" fn crane_session(
     ensures { λ n. ⌜ PlayedTo (sessionEnd (settingsOf servers threshold duration initial)
         (record { table = now (table .entry); template = id; octets = now (r .entry); events = now (events .entry) }) (now (store .entry)) (now (out .entry))) n (now (store .exit)) (now (out .exit)) ⌝ }
 {
-    let made = soundness::set_up::set_up(settings(servers, threshold, duration, initial), store);
+    let made = exporter::set_up::set_up(settings(servers, threshold, duration, initial), store);
     play(made, store, table, id, r, events, out)
 }

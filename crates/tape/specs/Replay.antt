@@ -6,8 +6,8 @@ use lib.Dec.{eqb}
 use lib.ListN.{length, drop, replicate}
 use Rattle.octets.specs.Answers.{_when_, judge, done, unsoundTable}
 use Rattle.octets.specs.Numbers.{uintAt}
-use Rattle.session.specs.Steps.{isSessions, setUp}
-use Rattle.session.specs.Claim.{Event, Put, NextData, Receive, OfferTemplates, LineDown, Tick, Session, sessionOf32, Exporter, outcome, advance, begin}
+use Rattle.exporter.specs.Steps.{isSessions, setUp}
+use Rattle.exporter.specs.Claim.{Event, Put, NextData, Receive, OfferTemplates, LineDown, Tick, Session, sessionOf32, Exporter, outcome, advance, begin}
 use Rattle.session.specs.declared.state.Settings.{Settings}
 use Rattle.tape.specs.Tape.{eventCount, kindAt, serverAt, bodyOf, tapeSound, putKind, messageKind, downKind, tickKind, nextKind}
 use Rattle.tape.specs.Lines.{lineOf, tapeRefused}

@@ -6,7 +6,7 @@ use lib.Dec.{eqb, leb}
 use lib.ListN.{length, take, drop}
 use Rattle.octets.specs.Answers.{_when_, judge, unsoundTape}
 use Rattle.octets.specs.Numbers.{uintAt}
-use Rattle.tables.specs.Each.{every, allOf}
+use Rattle.wire.specs.Each.{every, allOf}
 
 -- ---- the kinds of events
 

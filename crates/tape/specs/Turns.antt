@@ -10,8 +10,8 @@ use lib.ListN.{length}
 use lib.Seq.{sets}
 use Rattle.octets.specs.Answers.{done}
 use Rattle.octets.specs.Numbers.{Octets}
-use Rattle.session.specs.Steps.{Outcome, setUp, wroteOf, outputAfter}
-use Rattle.session.specs.Claim.{Event, sessionOf32, outcome, storeLeft, Claim}
+use Rattle.exporter.specs.Steps.{Outcome, setUp, wroteOf, outputAfter}
+use Rattle.exporter.specs.Claim.{Event, sessionOf32, outcome, storeLeft, Claim}
 use Rattle.session.specs.declared.state.State.{State}
 use Rattle.session.specs.declared.state.Wrote.{Wrote}
 use Rattle.tape.specs.Tape.{eventCount, kindAt, serverAt, bodyLength, bodyAt, bodyOf, octetsAt, tapeSound}

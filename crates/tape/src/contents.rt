@@ -1,7 +1,7 @@
 // The contents of a tape: how many events there are, and of each its kind, server and body; whether a tape is sound.
 ghost use mathlib.Core.Path.{_≡_};
 ghost use Prim.Native.Nat.{_≤_};
-ghost use Rattle.tables.specs.Each.{every};
+ghost use Rattle.wire.specs.Each.{every};
 ghost use Rattle.tape.specs.Tape.{eventCount, contentsAt, kindAt, serverAt, bodyLength, bodyAt, octetsAt, bodyOf, kindFits, serverFits, bodyLengthFits, eventSound, tapeAnswer};
 use octets::Answer;
 

@@ -5,11 +5,11 @@ ghost use Rattle.tape.specs.Tape.{bodyOf};
 ghost use Rattle.tape.specs.Replay.{settingsOf, storeLength, tableAnswer, eventCall};
 ghost use Rattle.tape.specs.Turns.{Called};
 use crate::contents::Kind;
+use exporter::state::Settings;
+use exporter::state::State;
+use exporter::state::Stepped;
+use exporter::state::Wrote;
 use octets::Answer;
-use session::state::Settings;
-use session::state::State;
-use session::state::Stepped;
-use session::state::Wrote;
 
 // The settings in the body of event 0.
 pub(crate) fn settings_of(b: &[u8]) -> Settings
@@ -49,10 +49,10 @@ pub fn store_length(tape: &[u8]) -> usize
 pub(crate) fn table_answer(p: Settings, table: &[u8]) -> u8
     ensures { λ r. ⌜ r ≡ tableAnswer p (now (table .entry)) ⌝ }
 {
-    if !tables::table::table_sound(table) {
+    if !wire::table::table_sound(table) {
         return Answer::UNSOUND_TABLE;
     }
-    if tables::table::configuration_id(table) != p.config {
+    if wire::table::configuration_id(table) != p.config {
         return Answer::UNSOUND_TABLE;
     }
     Answer::DONE
@@ -95,19 +95,19 @@ pub(crate) fn call<'a>(
 {
     if kind == Kind::PUT {
         let id = octets::get_u16(b, 0);
-        return wrote(sending::put::put(s, store, table, id, record_of(b)));
+        return wrote(exporter::put::put(s, store, table, id, record_of(b)));
     }
     if kind == Kind::MESSAGE {
-        return receiving::receive::receive(s, server, b, out);
+        return exporter::receive::receive(s, server, b, out);
     }
     if kind == Kind::DOWN {
-        return wrote(turning::line_down::line_down(s, server));
+        return wrote(exporter::line_down::line_down(s, server));
     }
     if kind == Kind::TICK {
-        return wrote(ticking::tick::tick(s));
+        return wrote(exporter::tick::tick(s));
     }
     if kind == Kind::NEXT {
-        return sending::next_data::next_data(s, store, out);
+        return exporter::next_data::next_data(s, store, out);
     }
-    turning::offer_templates::offer_templates(s, server, table, out)
+    exporter::offer_templates::offer_templates(s, server, table, out)
 }

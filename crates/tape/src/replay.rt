@@ -6,8 +6,8 @@ ghost use lib.ListN.{length};
 ghost use lib.Seq.{sets};
 ghost use Rattle.tape.specs.Replay.{outputBufferOctets};
 ghost use Rattle.tape.specs.Turns.{opened, indexOf, nextBody, tableTurn, callTurn, played, turnOf, Turned};
+use exporter::state::State;
 use octets::Answer;
-use session::state::State;
 
 // How many octets the calls of a replay are lent as output.
 pub const OUTPUT_OCTETS: usize = 16392;
@@ -35,7 +35,7 @@ pub fn open_tape(tape: &[u8], store: &[u8], text: &mut [u8; LINE_OCTETS]) -> Tur
     ensures { λ r. ⌜ (r ≡ turnOf (opened (now (tape .entry)) (now (store .entry)))) × (now (text .exit) ≡ sets (now (text .entry)) 0 (opened (now (tape .entry)) (now (store .entry)) .line)) ⌝ }
 {
     let settings = crate::event::settings_of(crate::contents::body(tape, 0));
-    let made = soundness::set_up::set_up(settings, store);
+    let made = exporter::set_up::set_up(settings, store);
     let state = made.state;
     let at = crate::contents::body_at(tape, 1);
     let part = &mut text[..];

@@ -1,0 +1,8 @@
+-- The definitions of messages, tables and records, in reading order, passed on from the crates that hold them. Assumes nothing.
+pub use Rattle.tables.specs.Each
+pub use Rattle.tables.specs.FieldTypes
+pub use Rattle.tables.specs.Table
+pub use Rattle.records.specs.Record
+pub use Rattle.records.specs.Walk
+pub use Rattle.appending.specs.Append
+pub use Rattle.messages.specs.Messages
