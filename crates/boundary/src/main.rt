@@ -1,4 +1,5 @@
 // Runs the boundary examples of stores and queues, and prints what each call answers.
+use exporter::limits::SERVER_ENTRIES;
 use exporter::state::Settings;
 use exporter::state::State;
 use libc::STDOUT_FILENO;
@@ -21,7 +22,7 @@ const ACK_OF_FIRST: [u8; 16] = [1, 0x21, 7, 0, 0, 0, 0, 16, 0, 0, 0, 0, 1, 0, 0,
 
 // Session 7, configuration 1, one server, the first DSN 0.
 fn settings() -> Settings {
-    let priorities = [0u8; 8];
+    let priorities = [0u8; SERVER_ENTRIES];
     Settings {
         session: 7,
         config: 1,

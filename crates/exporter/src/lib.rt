@@ -11,11 +11,12 @@
 //
 // Nothing is declared here: the types stand in `session`, with the definitions and the claim, the calls in the crates named below. A crate that
 // makes a `Settings` or holds a `State` lists `session` beside this crate: the checker asks for it.
+pub use putting::put;
 pub use receiving::receive;
 pub use sending::next_data;
-pub use sending::put;
+pub use session::limits;
 pub use session::state;
 pub use soundness::set_up;
 pub use ticking::tick;
-pub use turning::line_down;
-pub use turning::offer_templates;
+pub use transitions::line_down;
+pub use transitions::offer_templates;

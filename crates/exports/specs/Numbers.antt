@@ -23,8 +23,8 @@ use Rattle.records.specs.declared.walk.Field.{Field}
 use Rattle.records.specs.declared.walk.Cursor.{Cursor}
 use Rattle.records.specs.declared.walk.Step.{Step}
 use Rattle.records.specs.declared.walk.Step.the-variants as step
-use Rattle.records.specs.declared.reader.Counted.{Counted}
-use Rattle.records.specs.declared.reader.Counted.the-variants as counted
+use Rattle.readers.specs.declared.reader.Counted.{Counted}
+use Rattle.readers.specs.declared.reader.Counted.the-variants as counted
 use Rattle.appending.specs.declared.append.Appended.{Appended}
 use Rattle.appending.specs.declared.append.Appended.the-variants as appended
 

@@ -1,7 +1,8 @@
 // The field walk and appending a field.
 ghost use mathlib.Core.Path.{_≡_};
 ghost use lib.ListN.{getD};
-ghost use Rattle.wire.specs.Walk.{openOf, openAnswer, stepOf, countOf};
+ghost use Rattle.wire.specs.Walk.{openOf, openAnswer, stepOf};
+ghost use Rattle.wire.specs.Count.{countOf};
 ghost use Rattle.wire.specs.Append.{appendOf, appendOut};
 ghost use Rattle.exports.specs.Numbers.{valueSort, valueSize, fieldParts, stepPart, valueOf, countedNumber, appendedNumber};
 use crate::numbers::accepted;

@@ -151,11 +151,11 @@ pub extern "C" fn crane_read_again(message: &[u8], out: &mut [u8], part: u8) -> 
     ensures { λ n. ⌜ (n ≡ againPart part (partAt (now (message .entry))) (partOf (now (message .entry))) (now (out .entry)) (readOf (now (message .entry))))
         × (now (out .exit) ≡ againOut (partOf (now (message .entry))) (now (out .entry)) (readOf (now (message .entry)))) ⌝ }
 {
-    let reading = wire::message::read_message(message);
+    let reading = wire::read::read_message(message);
     match reading {
         Reading::Message(m) => {
-            let carried = wire::message::message_part(message);
-            let written = written_number(wire::message::write_message(m, carried, out));
+            let carried = wire::read::message_part(message);
+            let written = written_number(wire::write::write_message(m, carried, out));
             // What benchmarks ask for comes first.
             if part == 0 {
                 return written;

@@ -10,7 +10,7 @@ use lib.Dec.{eqb}
 use lib.ListN.{length}
 use Rattle.octets.specs.Answers.{Check, _when_, judge, done, otherSession, messageNotAccepted, bodyLengthWrong}
 use Rattle.octets.proofs.Judging.{judged-first, judged-next}
-use Rattle.messages.specs.Messages.{headerChecks, headerAnswer, headerOf, headerOctets, readAnswer, readOf, sessionOf, messageNumber, isMessage, bodyFits, meaningOf, tmplData}
+use Rattle.wire.specs.Messages.{headerChecks, headerAnswer, headerOf, headerOctets, readAnswer, readOf, sessionOf, messageNumber, isMessage, bodyFits, meaningOf, tmplData}
 use Rattle.messages.specs.declared.message.Message.{Message}
 use Rattle.messages.specs.declared.message.Header.{Header}
 use Rattle.messages.specs.declared.message.HeaderReading.the-variants as header

@@ -11,8 +11,8 @@ use Rattle.session.specs.Steps.{Call, ack, move, callOfMessage, Outcome}
 use Rattle.receiving.specs.declared.acknowledge.AckChange.{AckChange}
 use Rattle.receiving.specs.declared.decode.Request.{Request}
 use Rattle.receiving.specs.declared.decode.Request.the-variants as request
-use Rattle.turning.specs.declared.transition.Move.{Move}
-use Rattle.turning.specs.Moves.{transitionOf}
+use Rattle.transitions.specs.declared.transition.Move.{Move}
+use Rattle.transitions.specs.Moves.{transitionOf}
 
 -- ---- received messages
 

@@ -11,6 +11,7 @@ ghost use Rattle.session.specs.Parts.{stateOf};
 ghost use Rattle.session.specs.Steps.{ack, step, wroteOf, ackCountBy, ackChecks};
 ghost use Rattle.receiving.specs.Requests.{ackChangeOf};
 use octets::Answer;
+use session::limits::MAX_HELD;
 use session::state::Active;
 use session::state::Delivery;
 use session::state::Queue;
@@ -53,7 +54,7 @@ fn ack_answer(p: Settings, d: Delivery, v: u8, config: u8, n: usize) -> u8
         return Answer::NO_SUCH_SERVER;
     }
     let active = d.active;
-    if !choice::servers::same_active(active, Active::Server(v)) {
+    if !servers::same_active(active, Active::Server(v)) {
         return Answer::OUT_OF_TURN;
     }
     if config != p.config {
@@ -83,7 +84,7 @@ fn refuse_ack(answer: u8, d: Delivery, start: usize) -> AckChange
 fn accept_ack(
     capacity: usize,
     d: Delivery,
-    lengths: &[u16; 64],
+    lengths: &[u16; MAX_HELD],
     start: usize,
     n: usize,
 ) -> AckChange
@@ -98,11 +99,11 @@ fn accept_ack(
       timer = acknowledged n d .timer;
     } ⌝ }
 {
-    let moved = choice::servers::acknowledge_delivery(d, n);
+    let moved = servers::acknowledge_delivery(d, n);
     AckChange {
         answer: Answer::DONE,
         released: n,
-        start: held::queue::record_start(capacity, start, lengths, n),
+        start: queue::record_start(capacity, start, lengths, n),
         sent: moved.sent,
         reached: moved.reached,
         timer: moved.timer,
@@ -116,8 +117,8 @@ fn ack_change<'a>(
     d: Delivery,
     due: bool,
     count: usize,
-    lengths: &'a [u16; 64],
-    receivers: &'a [u16; 64],
+    lengths: &'a [u16; MAX_HELD],
+    receivers: &'a [u16; MAX_HELD],
     start: usize,
     next: u32,
     v: u8,
@@ -141,9 +142,9 @@ fn ack_change<'a>(
 // The queue without its first n records.
 fn release_queue<'a>(
     count: usize,
-    lengths: &'a [u16; 64],
-    templates: &'a [u16; 64],
-    receivers: &'a [u16; 64],
+    lengths: &'a [u16; MAX_HELD],
+    templates: &'a [u16; MAX_HELD],
+    receivers: &'a [u16; MAX_HELD],
     n: usize,
 ) -> Queue
     requires { ⌜ (n ≤ count) × (n ≤ maxHeld) ⌝ }
@@ -154,9 +155,9 @@ fn release_queue<'a>(
       receivers = now (receivers .entry);
     }) n ⌝ }
 {
-    let moved_lengths = held::queue::shift(lengths, n);
-    let moved_templates = held::queue::shift(templates, n);
-    let moved_receivers = held::queue::shift(receivers, n);
+    let moved_lengths = queue::shift(lengths, n);
+    let moved_templates = queue::shift(templates, n);
+    let moved_receivers = queue::shift(receivers, n);
     Queue {
         count: count - n,
         lengths: moved_lengths,

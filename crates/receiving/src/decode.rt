@@ -1,15 +1,15 @@
 // What a received message asks for.
 ghost use mathlib.Core.Path.{_≡_};
 ghost use Prim.Native.Nat.{ℕ};
-ghost use Rattle.messages.specs.Messages.{readOf};
+ghost use Rattle.wire.specs.Messages.{readOf};
 ghost use Rattle.session.specs.Steps.{isReceived, callOfMessage, received};
 ghost use Rattle.receiving.specs.Requests.{callOfRequest, callOfReading};
-use messages::message::HeaderReading;
-use messages::message::Message;
-use messages::message::Reading;
 use octets::Answer;
 use session::state::Settings;
-use turning::transition::Move;
+use transitions::transition::Move;
+use wire::message::HeaderReading;
+use wire::message::Message;
+use wire::message::Reading;
 
 // A DATA ACK with its DSN and Configuration ID, or a transition.
 pub enum Request {
@@ -65,7 +65,7 @@ fn decode_message(message: Message) -> Request
 fn decode_body(message: &[u8]) -> Request
     ensures { λ r. ⌜ ((v : ℕ) → callOfRequest v r ≡ callOfReading v (readOf (now (message .entry)))) ⌝ }
 {
-    let reading = messages::message::read_message(message);
+    let reading = wire::read::read_message(message);
     match reading {
         Reading::Message(m) => decode_message(m),
         Reading::Refused(a) => refuse_message(a),
@@ -76,7 +76,7 @@ fn decode_body(message: &[u8]) -> Request
 pub fn decode(p: Settings, message: &[u8]) -> Request
     ensures { λ r. ⌜ ((v : ℕ) → callOfRequest v r ≡ received p v (now (message .entry))) ⌝ }
 {
-    let header = messages::message::read_header(message);
+    let header = wire::read::read_header(message);
     match header {
         HeaderReading::Header(h) => {
             if h.session != p.session {

@@ -17,7 +17,7 @@ pub fn receive(s: State, v: u8, message: &[u8], out: &mut [u8]) -> Wrote
         // the state is copied in this arm alone, so that a DATA ACK is handed the one that came
         Request::Move(m) => {
             let before = s;
-            let left = turning::transition::move_server(before, v, m, &[], out);
+            let left = transitions::transition::move_server(before, v, m, &[], out);
             let state = left.state;
             Wrote {
                 answer: left.answer,

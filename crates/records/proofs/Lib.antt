@@ -2,4 +2,3 @@ pub mod FieldsWithin
 pub mod Records
 pub mod Widths
 pub mod WalkLaws
-pub mod Readers

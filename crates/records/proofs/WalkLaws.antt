@@ -1,6 +1,6 @@
 -- Laws of a whole walk over a valid record: it never refuses, visits the fields of the enabled keys in order, ends at the record's end, and
 -- the fields, laid end to end, are the record. From key k on the claim goes by the keys that are left: a disabled key changes nothing, and
--- an enabled one gives one field and leaves the rest of the record. Who counts the fields on the way counts the enabled keys.
+-- an enabled one gives one field and leaves the rest of the record.
 -- Assumes nothing.
 use mathlib.Core.Path.{_≡_, refl, sym, ap, _∙_, fun-ext}
 use mathlib.Core.Bool.{Bool, true, false, cond, not, _&&_}
@@ -17,9 +17,8 @@ use Rattle.octets.specs.Answers.{done, unsoundTable, templateNotFound, recordIn
 use Rattle.tables.specs.Each.{every}
 use Rattle.tables.specs.Table.{keyAt, keyType, isEnabled, tableSound, isMissing, templateOf}
 use Rattle.records.specs.Record.{fieldLength, lengthUnder, fieldAt, fieldValid, recordValid, recordAnswer}
-use Rattle.records.specs.Walk.{fieldOf, stepJudged, openAnswer, stepAnswer, countAnswer}
-use Rattle.records.specs.Walk.{nextKey, stepUnder, stepOf, walkStart, openOf, countOf, afterStep, visited, lastCursor, lastAnswer, laidOut, enabledFrom, enabledKeys, enabledTypes, fieldUnder}
-use Rattle.records.specs.declared.reader.Counted.the-variants as counted
+use Rattle.records.specs.Walk.{fieldOf, stepJudged, openAnswer, stepAnswer}
+use Rattle.records.specs.Walk.{nextKey, stepUnder, stepOf, walkStart, openOf, afterStep, visited, lastCursor, lastAnswer, laidOut, enabledFrom, enabledKeys, enabledTypes, fieldUnder}
 use Rattle.tables.specs.declared.table.Template.{Template}
 use Rattle.records.specs.declared.walk.Field.{Field}
 use Rattle.records.specs.declared.walk.Cursor.{Cursor}
@@ -28,7 +27,6 @@ use Rattle.records.specs.declared.walk.Step.{Step}
 use Rattle.records.specs.declared.walk.Step.the-variants as step
 use Rattle.octets.proofs.Judging.{kept}
 use Rattle.tables.proofs.Each.{and-left, and-right, every-at, first-here, first-on, first-none}
-use Rattle.tables.proofs.Tables.{template-few}
 
 -- ---- walks by any step function
 
@@ -39,16 +37,16 @@ module _ (walk : Cursor → Step) (n : ℕ) where
   same-visited c d e = ap (afterStep (λ f b. f ∷ visited walk n b) []) e
 
   -- a field
-  next-visited : (c d : Cursor) (f : Field) → walk c ≡ step.Next f d → visited walk (suc n) c ≡ f ∷ visited walk n d
+  pub next-visited : (c d : Cursor) (f : Field) → walk c ≡ step.Next f d → visited walk (suc n) c ≡ f ∷ visited walk n d
   unfolding visited
   next-visited c d f e = ap (afterStep (λ f b. f ∷ visited walk n b) []) e
 
-  next-last : (c d : Cursor) (f : Field) → walk c ≡ step.Next f d → lastCursor walk (suc n) c ≡ lastCursor walk n d
+  pub next-last : (c d : Cursor) (f : Field) → walk c ≡ step.Next f d → lastCursor walk (suc n) c ≡ lastCursor walk n d
   unfolding lastCursor
   next-last c d f e = ap (afterStep (λ f b. lastCursor walk n b) c) e
 
   -- the end
-  end-visited : (c : Cursor) → walk c ≡ step.End → visited walk (suc n) c ≡ []
+  pub end-visited : (c : Cursor) → walk c ≡ step.End → visited walk (suc n) c ≡ []
   unfolding visited
   end-visited c e = ap (afterStep (λ f b. f ∷ visited walk n b) []) e
 
@@ -276,103 +274,3 @@ pub opened-laid : (t : List ℕ) (id : ℕ) (r : List ℕ) (c : Cursor) → open
 opened-laid t id r c h n more =
     let w = walk-opened t id r c h n more in
     rw (w .visits) (w .laid ∙ ap (λ (c : Cursor). drop (c .at) r) (open-accepts t id r c h .start))
-
--- ---- counting the fields
-
--- no more keys are enabled than there are
-enabled-few : (t : List ℕ) (m : Template) (k n : ℕ) → length (enabledFrom t m k n) ≤ n
-unfolding enabledFrom
-enabled-few t m k zero = le-refl 0
-enabled-few t m k (suc n) = go (isEnabled t (keyAt (m .keys) k)) (enabled-few t m (k + 1) n)
-  where
-    keys : List ℕ
-    keys = enabledFrom t m (k + 1) n
-
-    go : (b : Bool) → length keys ≤ n → length (cond b (k ∷ keys) keys) ≤ suc n
-    go true h = omega arith
-    go false h = omega arith
-
--- After n fields of a valid record the walk stands at c, with one step more than are left of 32: these n and the fields that it still
--- visits are those of the enabled keys, and it ends there.
-pub record Counting (t : List ℕ) (id : ℕ) (r : List ℕ) (n : ℕ) (c : Cursor) : Type 0 where
-  pub answer : countOf t id r ≡ counted.Fields (length (enabledKeys t (templateOf t id)))
-  pub few : length (enabledKeys t (templateOf t id)) ≤ 32
-  pub fields : n + length (visited (stepOf t id r) (suc (32 - n)) c) ≡ length (enabledKeys t (templateOf t id))
-  pub ends : lastAnswer (stepOf t id r) (suc (32 - n)) c ≡ step.End
-
--- what an opening says of the answer to the whole record
-answer-accepted : (t : List ℕ) (id : ℕ) (r : List ℕ) (c : Cursor) → openOf t id r ≡ opened.At c → eqb (recordAnswer t id r) done ≡ true
-unfolding openOf
-answer-accepted t id r c = go (eqb (recordAnswer t id r) done)
-  where
-    go : (b : Bool) → cond b (opened.At walkStart) (opened.Refused (recordAnswer t id r)) ≡ opened.At c → b ≡ true
-    go true e = refl
-    go false e = let y : _≡_ {A = ℕ} 0 1 = cc in absurd (omega arith)
-
-answer-refused : (t : List ℕ) (id : ℕ) (r : List ℕ) (a : ℕ) → openOf t id r ≡ opened.Refused a
-    → (eqb (recordAnswer t id r) done ≡ false) × (a ≡ recordAnswer t id r)
-unfolding openOf
-answer-refused t id r a = go (eqb (recordAnswer t id r) done)
-  where
-    go : (b : Bool) → cond b (opened.At walkStart) (opened.Refused (recordAnswer t id r)) ≡ opened.Refused a → (b ≡ false) × (a ≡ recordAnswer t id r)
-    go true e = let y : _≡_ {A = ℕ} 0 1 = cc in absurd (omega arith)
-    go false e = (refl, cc)
-
--- An accepted opening begins to count.
-pub count-opened : (t : List ℕ) (id : ℕ) (r : List ℕ) (c : Cursor) → openOf t id r ≡ opened.At c → Counting t id r 0 c
-unfolding countOf
-count-opened t id r c h =
-    let m = templateOf t id in
-    let a = open-accepts t id r c h in
-    let l : m .count ≤ 32 = template-few t id (a .sound) (a .known) in
-    let w = walk-opened t id r c h 33 (omega arith) in
-    record {
-      answer = rw (answer-accepted t id r c h);
-      few = omega (arith, l, enabled-few t m 0 (m .count));
-      fields = zero-add _ ∙ ap length (w .visits) ∙ length-map (enabledKeys t m) (fieldUnder t m r);
-      ends = w .ends;
-    }
-
--- A refused opening is the answer.
-pub count-refused : (t : List ℕ) (id : ℕ) (r : List ℕ) (a : ℕ) → openOf t id r ≡ opened.Refused a → counted.Refused a ≡ countOf t id r
-unfolding countOf
-count-refused t id r a h =
-    let n = answer-refused t id r a h in
-    rw (n .0) (ap counted.Refused (n .1))
-
--- Its number is the one that the record is judged by.
-pub count-number : (t : List ℕ) (id : ℕ) (r : List ℕ) → countAnswer (countOf t id r) ≡ recordAnswer t id r
-unfolding countOf
-count-number t id r = go (eqb (recordAnswer t id r) done) refl
-  where
-    go : (b : Bool) → eqb (recordAnswer t id r) done ≡ b
-        → countAnswer (cond b (counted.Fields (length (enabledKeys t (templateOf t id)))) (counted.Refused (recordAnswer t id r))) ≡ recordAnswer t id r
-    go true e = sym (eqb-true (recordAnswer t id r) done e)
-    go false e = refl
-
-module _ (t : List ℕ) (id : ℕ) (r : List ℕ) (n : ℕ) (c : Cursor) (l : Counting t id r n c) where
-  -- A field is counted.
-  pub count-next : n < 32 → (f : Field) (d : Cursor) → stepOf t id r c ≡ step.Next f d → Counting t id r (n + 1) d
-  count-next h f d e =
-      let q : 32 - n ≡ suc (32 - (n + 1)) = omega arith in
-      record {
-        answer = l .answer;
-        few = l .few;
-        fields = rw (← q) (omega (arith, ap length (next-visited (stepOf t id r) (32 - n) c d f e), l .fields));
-        ends = rw (← q) (ap (stepOf t id r) (sym (next-last (stepOf t id r) (32 - n) c d f e)) ∙ l .ends);
-      }
-
-  -- At the end all are counted, and so they are after 32.
-  pub count-end : stepOf t id r c ≡ step.End → counted.Fields n ≡ countOf t id r
-  count-end e = ap counted.Fields (omega (arith, ap length (end-visited (stepOf t id r) (32 - n) c e), l .fields)) ∙ sym (l .answer)
-
-  pub count-full : 32 ≤ n → counted.Fields n ≡ countOf t id r
-  count-full h = ap counted.Fields (omega (arith, l .fields, l .few)) ∙ sym (l .answer)
-
-  -- No step refuses.
-  pub count-goes : (a : ℕ) → stepOf t id r c ≡ step.Refused a → ⊥
-  unfolding lastCursor
-  count-goes a e =
-      let z : lastCursor (stepOf t id r) (suc (32 - n)) c ≡ c = ap (afterStep (λ f b. lastCursor (stepOf t id r) (32 - n) b) c) e in
-      let s : step.Refused a ≡ step.End = sym e ∙ ap (stepOf t id r) (sym z) ∙ l .ends in
-      let y : _≡_ {A = ℕ} 0 1 = cc in absurd (omega arith)

@@ -3,15 +3,13 @@ use Prim.Native.Nat.{ℕ, zero, suc, _+_, _-_, _*_, _^_}
 use mathlib.Core.Bool.{Bool, cond, not, _&&_}
 use mathlib.Core.List.{List, [], _∷_, _++_, map}
 use lib.Dec.{eqb, leb, ltb}
-use lib.ListN.{length, take, drop}
+use lib.ListN.{take, drop}
 use Rattle.octets.specs.Answers.{_when_, judge, done, recordInvalid}
 use Rattle.octets.specs.Numbers.{uintAt}
 use Rattle.tables.specs.Each.{firstFrom}
 use Rattle.tables.specs.FieldTypes.{widthOf, isNumber, isSigned}
 use Rattle.tables.specs.Table.{keyAt, keyType, isEnabled, templateOf, templateChecks, findAnswer}
 use Rattle.records.specs.Record.{fieldLength, fieldAt, recordAnswer}
-use Rattle.records.specs.declared.reader.Counted.{Counted}
-use Rattle.records.specs.declared.reader.Counted.the-variants as counted
 use Rattle.tables.specs.declared.table.Template.{Template}
 use Rattle.records.specs.declared.walk.Value.{Value}
 use Rattle.records.specs.declared.walk.Value.the-variants.{Octets, Number, Negative}
@@ -89,7 +87,7 @@ stepAnswer (step.Next f c) = done
 stepAnswer step.End = done
 stepAnswer (step.Refused a) = a
 
--- ---- how many fields a record has
+-- ---- the enabled keys
 
 -- The enabled ones of the n keys from key k on, in order.
 unfoldable pub enabledFrom : List ℕ → Template → ℕ → ℕ → List ℕ
@@ -99,17 +97,6 @@ enabledFrom t m k (suc n) = cond (isEnabled t (keyAt (m .keys) k)) (k ∷ enable
 -- The enabled keys of a template, in order.
 abbrev pub enabledKeys : List ℕ → Template → List ℕ
 enabledKeys t m = enabledFrom t m 0 (m .count)
-
--- How many fields a record has: a valid one has the fields of the enabled keys, one each. It is judged like opening, 21, 15, 16.
-unfoldable pub countOf : List ℕ → ℕ → List ℕ → Counted
-countOf t id r =
-    cond (eqb (recordAnswer t id r) done) (counted.Fields (length (enabledKeys t (templateOf t id))))
-    (counted.Refused (recordAnswer t id r))
-
--- The answer number of a count: 0, or the refusal's.
-abbrev pub countAnswer : Counted → ℕ
-countAnswer (counted.Fields n) = done
-countAnswer (counted.Refused a) = a
 
 -- ---- a whole walk, by any step function; for theorems only: no contract cites these
 

@@ -1,3 +1,3 @@
-pub mod reader;
+// Records under a template: whether one is valid, and the walk over its fields.
 pub mod record;
 pub mod walk;

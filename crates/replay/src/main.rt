@@ -1,9 +1,10 @@
 // The replay program: a tape from standard input, its lines to standard output.
 ghost use Prim.Native.Nat.{_≤_};
 ghost use lib.ListN.{length};
+use contents::INPUT_OCTETS;
+use exporter::limits::MAX_STORE_OCTETS;
 use libc::STDIN_FILENO;
 use libc::STDOUT_FILENO;
-use tape::contents::INPUT_OCTETS;
 use tape::replay::LINE_OCTETS;
 use tape::replay::OUTPUT_OCTETS;
 
@@ -42,6 +43,6 @@ fn lend(tape: &[u8], store: &mut [u8])
 fn main() {
     let mut input = [0u8; INPUT_OCTETS];
     let n = io::read_full(STDIN_FILENO, &mut input);
-    let mut store = [0u8; 65536];
+    let mut store = [0u8; MAX_STORE_OCTETS];
     lend(&input[..n], &mut store);
 }

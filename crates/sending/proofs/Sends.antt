@@ -14,7 +14,7 @@ use Rattle.octets.specs.Answers.{Check, _when_, judge, done, unsoundState, outp
 use Rattle.octets.proofs.Judging.{passed, judged-first}
 use Rattle.octets.proofs.Stores.{put-fits, put-short}
 use Rattle.tables.proofs.Each.{and-left, and-right}
-use Rattle.messages.specs.Messages.{Placed, layoutOf, dataHeadOctets, headWriteAnswer, headWriteOf, headWriteOut}
+use Rattle.wire.specs.Messages.{Placed, layoutOf, dataHeadOctets, headWriteAnswer, headWriteOf, headWriteOut}
 use Rattle.messages.specs.declared.message.Message.the-variants.{Data}
 use Rattle.messages.specs.declared.message.DataHead.{DataHead}
 use Rattle.messages.specs.declared.message.Written.{Written}

@@ -1,4 +1,4 @@
--- What a put and a sending change, as small values. Renders no rule of 01. Assumes nothing.
+-- What a sending changes, as a small value, and what it rests on.
 use mathlib.Core.Path.{_≡_}
 use Prim.Native.Nat.{ℕ, _<_}
 use mathlib.Core.Bool.{true, false, cond}
@@ -11,7 +11,6 @@ use Rattle.session.specs.Queue.{markedSet}
 use Rattle.session.specs.Sound.{sound}
 use Rattle.session.specs.Steps.{Outcome}
 use Rattle.sending.specs.declared.next_data.Sending.{Sending}
-use Rattle.sending.specs.declared.put.Putting.{Putting}
 use Rattle.session.specs.declared.state.State.{State}
 
 -- There is a record to send and a server to send it to, and the lent store is that of the state.
@@ -20,20 +19,6 @@ pub record SendFacts (s : State) (store : List ℕ) : Type 0 where
   pub stored : length store ≡ s .capacity
   pub some : isNobody (s .delivery .active) ≡ false
   pub more : s .delivery .sent < s .queue .count
-
--- What putting a record changes, of its outcome: where it is refused, what stood in the first entries stands there still.
-abbrev pub puttingOf : State → ℕ → List ℕ → Outcome → Putting
-puttingOf s id r o =
-    let accepted = eqb (o .answer) done in
-    record {
-      answer = o .answer;
-      place = cond accepted (s .queue .count) 0;
-      len = cond accepted (length r) (getD (s .queue .lengths) 0 0);
-      template = cond accepted id (getD (s .queue .templates) 0 0);
-      set = cond accepted 0 (getD (s .queue .receivers) 0 0);
-      count = o .state .queue .count;
-      next = o .state .next;
-    }
 
 -- What sending the next record changes, of its outcome: where it is refused, the set of the first record stays.
 abbrev pub sendingOf : State → Outcome → Sending

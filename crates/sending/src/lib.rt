@@ -1,3 +1,2 @@
-// Part of the exporter.
+// Next data: the next record of the queue to the active server.
 pub mod next_data;
-pub mod put;

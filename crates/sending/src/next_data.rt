@@ -6,7 +6,7 @@ ghost use Prim.Native.Nat.{_+_, _≤_, _<_, max};
 ghost use lib.Dec.{eqb};
 ghost use lib.ListN.{length};
 ghost use Rattle.octets.specs.Answers.{_when_, judge, done, unsoundState};
-ghost use Rattle.messages.specs.Messages.{maxRecordOctets, Placed, layoutOf};
+ghost use Rattle.wire.specs.Messages.{maxRecordOctets, Placed, layoutOf};
 ghost use Rattle.messages.specs.declared.message.Message.the-variants.{Data};
 ghost use Rattle.session.specs.Limits.{maxServers, maxHeld};
 ghost use Rattle.session.specs.Queue.{markedSet, ringRead};
@@ -14,15 +14,16 @@ ghost use Rattle.session.specs.Sound.{sound};
 ghost use Rattle.sending.specs.Sendings.{SendFacts, sendingOf};
 ghost use Rattle.session.specs.Parts.{Below, stateOf};
 ghost use Rattle.session.specs.Steps.{dsnAtBy, isDuplicate, headOf, sendChecks, nextDataStep, wroteOf, outputAfter};
-use messages::message::DataHead;
-use messages::message::Written;
 use octets::Answer;
+use session::limits::MAX_HELD;
 use session::state::Active;
 use session::state::Delivery;
 use session::state::Queue;
 use session::state::Settings;
 use session::state::State;
 use session::state::Wrote;
+use wire::message::DataHead;
+use wire::message::Written;
 
 // A sending's answer, how many octets it wrote, the place of its record with the set of servers that this was sent to, and what it leaves
 // of the delivery's counters and S.
@@ -51,8 +52,8 @@ fn send_answer<'a>(
     d: Delivery,
     due: bool,
     count: usize,
-    lengths: &'a [u16; 64],
-    receivers: &'a [u16; 64],
+    lengths: &'a [u16; MAX_HELD],
+    receivers: &'a [u16; MAX_HELD],
     start: usize,
     stored: usize,
 ) -> u8
@@ -67,7 +68,7 @@ fn send_answer<'a>(
         return Answer::UNSOUND_STATE;
     }
     let active = d.active;
-    if choice::servers::is_nobody(active) {
+    if servers::is_nobody(active) {
         return Answer::NO_ACTIVE_SERVER;
     }
     if count <= d.sent {
@@ -82,7 +83,7 @@ fn is_duplicate(p: Settings, active: Active, set: u16) -> bool
 {
     match active {
         Active::Nobody => false,
-        Active::Server(v) => held::queue::has_other(set, v, p.servers),
+        Active::Server(v) => queue::has_other(set, v, p.servers),
     }
 }
 
@@ -101,8 +102,8 @@ fn next_head<'a>(
     d: Delivery,
     due: bool,
     count: usize,
-    templates: &'a [u16; 64],
-    receivers: &'a [u16; 64],
+    templates: &'a [u16; MAX_HELD],
+    receivers: &'a [u16; MAX_HELD],
     next: u32,
 ) -> DataHead
     requires { ⌜ (count ≤ maxHeld) × (d .sent < maxHeld) ⌝ }
@@ -127,10 +128,10 @@ fn write_record(head: DataHead, store: &[u8], at: usize, len: usize, out: &mut [
         (let octets = ringRead (length (now (store .entry))) (now (store .entry)) at len in
         Placed (layoutOf (Data head) octets) (now (out .entry)) r (now (out .exit))) ⌝ }
 {
-    let written = messages::message::write_data_head(head, len, out);
+    let written = wire::write::write_data_head(head, len, out);
     match written {
         Written::Octets(n) => {
-            held::ring::ring_read(store, at, len, out, messages::message::DATA_HEAD_OCTETS);
+            queue::ring::ring_read(store, at, len, out, wire::message::DATA_HEAD_OCTETS);
             Written::Octets(n)
         }
         Written::Refused(a) => Written::Refused(a),
@@ -144,7 +145,7 @@ fn marked_set(active: Active, set: u16) -> u16
 {
     match active {
         Active::Nobody => set,
-        Active::Server(v) => held::queue::with_server(set, v),
+        Active::Server(v) => queue::with_server(set, v),
     }
 }
 
@@ -213,9 +214,9 @@ fn send<'a, 'b>(
     d: Delivery,
     due: bool,
     count: usize,
-    lengths: &'a [u16; 64],
-    templates: &'a [u16; 64],
-    receivers: &'a [u16; 64],
+    lengths: &'a [u16; MAX_HELD],
+    templates: &'a [u16; MAX_HELD],
+    receivers: &'a [u16; MAX_HELD],
     start: usize,
     next: u32,
     store: &'b [u8],
@@ -228,7 +229,7 @@ fn send<'a, 'b>(
         (r ≡ sendingOf s o) × (now (out .exit) ≡ outputAfter (now (out .entry)) o)) ⌝ }
 {
     let i = d.sent;
-    let at = held::queue::record_start(capacity, start, lengths, i);
+    let at = queue::record_start(capacity, start, lengths, i);
     let len = wide(lengths[i]);
     let head = next_head(p, d, due, count, templates, receivers, next);
     let written = write_record(head, store, at, len, out);
@@ -245,9 +246,9 @@ fn next_change<'a, 'b>(
     d: Delivery,
     due: bool,
     count: usize,
-    lengths: &'a [u16; 64],
-    templates: &'a [u16; 64],
-    receivers: &'a [u16; 64],
+    lengths: &'a [u16; MAX_HELD],
+    templates: &'a [u16; MAX_HELD],
+    receivers: &'a [u16; MAX_HELD],
     start: usize,
     next: u32,
     store: &'b [u8],

@@ -15,9 +15,9 @@ use borrow.Author.Tests.{leb-false, eqb-true, eqb-false, not-true, not-false, eq
 use Rattle.octets.specs.Answers.{Check, _when_, judge, done, unsoundState}
 use Rattle.octets.proofs.Judging.{passed}
 use Rattle.tables.proofs.Each.{and-left, and-right}
-use Rattle.tables.specs.Table.{isMissing, templateOf}
-use Rattle.records.specs.Record.{recordValid}
-use Rattle.messages.specs.Messages.{maxRecordOctets}
+use Rattle.wire.specs.Table.{isMissing, templateOf}
+use Rattle.wire.specs.Record.{recordValid}
+use Rattle.wire.specs.Messages.{maxRecordOctets}
 use Rattle.session.specs.Servers.{sameActive, changed, settle, Transition, start, stop, negotiate, offer, down, agree, malformed}
 use Rattle.session.specs.Queue.{Entry, sumOf, heldOctets, held}
 use Rattle.session.specs.Limits.{maxHeld}

@@ -10,8 +10,8 @@ use lib.ListN.{length}
 use Rattle.octets.specs.Answers.{_when_, done, unsoundState, settingsOutsideLimits, otherSession, messageNotAccepted, bodyLengthWrong}
 use Rattle.octets.specs.Numbers.{uintAt, Octets}
 use Rattle.octets.proofs.Numbers.{uint-below}
-use Rattle.messages.specs.Messages.{headerChecks, sessionOf, messageNumber, headerOctets, bodyFits, dataHeadOf, meaningOf}
-use Rattle.messages.specs.Messages as wire
+use Rattle.wire.specs.Messages.{headerChecks, sessionOf, messageNumber, headerOctets, bodyFits, dataHeadOf, meaningOf}
+use Rattle.wire.specs.Messages as wire
 use Rattle.messages.specs.declared.message.Message.{Message}
 use Rattle.messages.specs.declared.message.Message.the-variants.{Start, StartAck, Stop, StopAck, TmplData, FinalTmplDataAck, StartNegotiate, StartNegotiateAck, Data, DataAck}
 use Rattle.session.specs.Servers.{start, stop, negotiate, offer, down, agree, malformed, changed, Transition}

@@ -7,11 +7,11 @@ use Prim.Native.Nat.{ℕ}
 use lib.ListN.{set, replicate}
 use Rattle.octets.specs.Answers.{done, dsnNotAcknowledgeable, recordInvalid}
 use Rattle.octets.specs.Numbers.{numberOf, uintAt, octetsOf}
-use Rattle.tables.specs.Each.{every, firstFrom}
-use Rattle.tables.specs.FieldTypes.{isType, widthOf}
-use Rattle.messages.specs.Messages.{isMessage, bodyFits, messageOf, layoutOf, readAnswer, dataHeadOf, meaningOf, readOf, partAt, partOf}
-use Rattle.tables.specs.Table.{keySound, blockEnd, headSound, paddingSound, blockSound, blockAt, tableSound, templateIndex, templateAt}
-use Rattle.records.specs.Record.{fixedLength, fieldLength, fieldAt, recordValid, recordAnswer}
+use Rattle.wire.specs.Each.{every, firstFrom}
+use Rattle.wire.specs.FieldTypes.{isType, widthOf}
+use Rattle.wire.specs.Messages.{isMessage, bodyFits, messageOf, layoutOf, readAnswer, dataHeadOf, meaningOf, readOf, partAt, partOf}
+use Rattle.wire.specs.Table.{keySound, blockEnd, headSound, paddingSound, blockSound, blockAt, tableSound, templateIndex, templateAt}
+use Rattle.wire.specs.Record.{fixedLength, fieldLength, fieldAt, recordValid, recordAnswer}
 use Rattle.messages.specs.declared.message.Message.{Message}
 use Rattle.messages.specs.declared.message.Message.the-variants.{StartAck, Data}
 use Rattle.messages.specs.declared.message.Reading.the-variants as reading

@@ -7,9 +7,9 @@ use Prim.Native.Nat.{ℕ, zero, suc, _^_, _≤_, _<_}
 use lib.Dec.{eqb, leb, ltb}
 use lib.ListN.{getD}
 use borrow.Author.Tests.{not-true, not-false, leb-true, ltb-true, eqb-true, le-leb, lt-ltb, eq-eqb}
-use Rattle.tables.specs.Each.{every, allOf}
+use Rattle.wire.specs.Each.{every, allOf}
 use Rattle.tables.proofs.Each.{and-left, and-right, every-at, every-intro, clause-first, clause-rest, cond-same}
-use Rattle.messages.specs.Messages.{maxRecordOctets}
+use Rattle.wire.specs.Messages.{maxRecordOctets}
 use Rattle.session.specs.Limits.{maxServers, maxThreshold, minStoreOctets, maxStoreOctets, maxHeld}
 use Rattle.session.specs.Servers.{sameActive, chosen}
 use Rattle.session.specs.Queue.{heldOctets, has}

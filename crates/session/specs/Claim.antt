@@ -8,9 +8,9 @@ use lib.Dec.{eqb, leb, ltb}
 use lib.ListN.{length, getD, take}
 use Rattle.octets.specs.Answers.{Check, _when_, judge, done, unsoundState, noSuchServer, outOfTurn, otherConfiguration, dsnNotAcknowledgeable, outputTooShort, noActiveServer, nothingToSend, templateNotFound, recordTooLong, recordInvalid, queueFull, storeFull, unsoundTable}
 use Rattle.octets.specs.Numbers.{Octets}
-use Rattle.tables.specs.Table.{isMissing, templateOf}
-use Rattle.records.specs.Record.{recordValid}
-use Rattle.messages.specs.Messages.{maxRecordOctets, layoutOf}
+use Rattle.wire.specs.Table.{isMissing, templateOf}
+use Rattle.wire.specs.Record.{recordValid}
+use Rattle.wire.specs.Messages.{maxRecordOctets, layoutOf}
 use Rattle.messages.specs.declared.message.DataHead.{DataHead}
 use Rattle.messages.specs.declared.message.Message.the-variants.{Data}
 use Rattle.session.specs.Servers.{sameActive, isNobody, phaseAt, offer, down}

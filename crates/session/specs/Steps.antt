@@ -9,10 +9,10 @@ use lib.Seq.{sets}
 use Rattle.octets.specs.Answers.{Check, _when_, judge, done, unsoundState, noSuchServer, otherSession, messageNotAccepted}
 use Rattle.octets.specs.Answers.{bodyLengthWrong, outOfTurn, otherConfiguration, dsnNotAcknowledgeable, outputTooShort, noActiveServer, nothingToSend}
 use Rattle.octets.specs.Answers.{templateNotFound, recordInvalid, recordTooLong, queueFull, storeFull, settingsOutsideLimits, unsoundTable}
-use Rattle.tables.specs.Table.{configurationId, tableSound, isMissing, templateOf}
-use Rattle.records.specs.Record.{recordValid}
-use Rattle.messages.specs.Messages.{maxRecordOctets, headerChecks, sessionOf, messageNumber, headerOctets, bodyFits, meaningOf, layoutOf}
-use Rattle.messages.specs.Messages as wire
+use Rattle.wire.specs.Table.{configurationId, tableSound, isMissing, templateOf}
+use Rattle.wire.specs.Record.{recordValid}
+use Rattle.wire.specs.Messages.{maxRecordOctets, headerChecks, sessionOf, messageNumber, headerOctets, bodyFits, meaningOf, layoutOf}
+use Rattle.wire.specs.Messages as wire
 use Rattle.messages.specs.declared.message.Message.{Message}
 use Rattle.messages.specs.declared.message.Message.the-variants.{Start, StartAck, Stop, StopAck, TmplData, FinalTmplDataAck}
 use Rattle.messages.specs.declared.message.Message.the-variants.{StartNegotiate, StartNegotiateAck, Data, DataAck}

@@ -5,6 +5,7 @@ ghost use mathlib.Core.Path.{_≡_};
 ghost use Prim.Native.Nat.{_+_, _≤_};
 ghost use lib.ListN.{length};
 ghost use Rattle.sessions.specs.Sessions.{settingsOf, eventOctets, messageAt, added, eventCount, progress, played, sessionEnd, PlayedTo};
+use exporter::limits::SERVER_ENTRIES;
 use exporter::state::Made;
 use exporter::state::Settings;
 
@@ -27,7 +28,7 @@ const OFFER: u8 = 3;
 fn settings(servers: u8, threshold: u8, duration: u16, initial: u32) -> Settings
     ensures { λ p. ⌜ p ≡ settingsOf servers threshold duration initial ⌝ }
 {
-    let priorities = [0u8; 8];
+    let priorities = [0u8; SERVER_ENTRIES];
     Settings {
         session: 7,
         config: 1,

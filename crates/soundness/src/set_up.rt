@@ -3,6 +3,8 @@ ghost use mathlib.Core.Path.{_≡_};
 ghost use lib.ListN.{length};
 ghost use Rattle.session.specs.Steps.{fresh, noSettings, setUp};
 use octets::Answer;
+use session::limits::MAX_HELD;
+use session::limits::SERVER_ENTRIES;
 use session::state::Active;
 use session::state::Delivery;
 use session::state::Made;
@@ -19,8 +21,8 @@ fn fresh_state(p: Settings, capacity: usize) -> State
     let closed = Server {
         phase: Phase::Closed,
     };
-    let servers = [closed; 8];
-    let empty = [0u16; 64];
+    let servers = [closed; SERVER_ENTRIES];
+    let empty = [0u16; MAX_HELD];
     let active = Active::Nobody;
     let delivery = Delivery {
         servers,
@@ -50,7 +52,7 @@ fn fresh_state(p: Settings, capacity: usize) -> State
 fn no_settings() -> Settings
     ensures { λ r. ⌜ r ≡ noSettings ⌝ }
 {
-    let priorities = [0u8; 8];
+    let priorities = [0u8; SERVER_ENTRIES];
     Settings {
         session: 0,
         config: 0,

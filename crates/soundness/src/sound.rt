@@ -5,20 +5,14 @@ ghost use mathlib.Core.List.{[]};
 ghost use Rattle.session.specs.Limits.{maxServers, maxHeld};
 ghost use Rattle.session.specs.Parts.{Below, stateOf};
 ghost use Rattle.session.specs.Sound.{settingsSound, numbersSound, activationSound, sound};
-use choice::servers::MAX_SERVERS;
-use held::queue::MAX_HELD;
+use session::limits::MAX_HELD;
+use session::limits::MAX_SERVERS;
+use session::limits::MAX_STORE_OCTETS;
+use session::limits::MAX_THRESHOLD;
+use session::limits::MIN_STORE_OCTETS;
 use session::state::Active;
 use session::state::Delivery;
 use session::state::Settings;
-
-// The greatest threshold.
-pub const MAX_THRESHOLD: u8 = 64;
-
-// The fewest octets that a store has.
-pub const MIN_STORE_OCTETS: usize = 1024;
-
-// The most octets that a store has.
-pub const MAX_STORE_OCTETS: usize = 65536;
 
 // Whether settings and a store's length are in their limits.
 pub fn settings_sound(p: Settings, room: usize) -> bool
@@ -54,14 +48,14 @@ fn numbers_sound(
 }
 
 // Whether the activation is as the records have it.
-fn activation_sound(d: Delivery, receivers: &[u16; 64]) -> bool
+fn activation_sound(d: Delivery, receivers: &[u16; MAX_HELD]) -> bool
     requires { ⌜ (d .reached ≤ maxHeld) × Below maxServers (d .active) ⌝ }
     ensures { λ r. ⌜ r ≡ activationSound d (now (receivers .entry)) (d .active) ⌝ }
 {
     let active = d.active;
     match active {
         Active::Nobody => (d.sent == 0) & (d.reached == 0) & (d.timer == 0),
-        Active::Server(v) => held::queue::all_received(receivers, d.reached, v),
+        Active::Server(v) => queue::all_received(receivers, d.reached, v),
     }
 }
 
@@ -72,8 +66,8 @@ pub fn parts_sound<'a>(
     d: Delivery,
     due: bool,
     count: usize,
-    lengths: &'a [u16; 64],
-    receivers: &'a [u16; 64],
+    lengths: &'a [u16; MAX_HELD],
+    receivers: &'a [u16; MAX_HELD],
     start: usize,
 ) -> bool
     ensures { λ r. ⌜ r ≡ sound (stateOf p room d due count (now (lengths .entry)) [] (now (receivers .entry)) start 0) ⌝ }
@@ -81,18 +75,18 @@ pub fn parts_sound<'a>(
     if !numbers_sound(p, room, d, due, count, start) {
         return false;
     }
-    if !held::queue::entries_sound(lengths, receivers, count, p.servers) {
+    if !queue::entries_sound(lengths, receivers, count, p.servers) {
         return false;
     }
-    if room < held::queue::octets_to(lengths, count) as usize {
+    if room < queue::octets_to(lengths, count) as usize {
         return false;
     }
     let priorities = p.priorities;
     let servers = d.servers;
     let active = d.active;
-    if !choice::servers::same_active(
+    if !servers::same_active(
         active,
-        choice::servers::choose_server(priorities, servers, p.servers),
+        servers::choose_server(priorities, servers, p.servers),
     ) {
         return false;
     }

@@ -3,11 +3,13 @@
 use mathlib.Core.Path.{_≡_, refl, sym, ap}
 use mathlib.Core.Bool.{Bool, true, false, cond}
 use mathlib.Core.List.{List, []}
-use Prim.Native.Nat.{ℕ}
+use Prim.Native.Nat.{ℕ, _≤_}
+use native.Mathlib.Omega.{arith}
 use lib.ListN.{length, drop}
 use lib.Dec.{eqb}
 use borrow.Author.Tests.{ne-eqb}
-use Rattle.octets.specs.Numbers.{uintAt}
+use Rattle.octets.specs.Numbers.{uintAt, Octets}
+use Rattle.octets.proofs.Numbers.{uint-below}
 use Rattle.session.specs.Servers.{down, offer}
 use Rattle.session.specs.Steps.{put, nextData, tick, move, received, step, written, Outcome, steppedOf, wroteOf, outputAfter, putStep, tickStep, lineDownStep}
 use Rattle.session.proofs.Written.{writes-nothing}
@@ -15,8 +17,9 @@ use Rattle.session.specs.Claim.{Event, Put, NextData, Receive, OfferTemplates, 
 use Rattle.session.specs.declared.state.State.{State}
 use Rattle.session.specs.declared.state.Stepped.{Stepped}
 use Rattle.session.specs.declared.state.Wrote.{Wrote}
-use Rattle.tape.specs.Tape.{putKind, messageKind, downKind, tickKind, nextKind}
-use Rattle.tape.specs.Replay.{eventCall}
+use Rattle.contents.specs.Tape.{putKind, messageKind, downKind, tickKind, nextKind, bodyLength, bodyAt, bodyOf}
+use Rattle.contents.proofs.Parts.{octets-part}
+use Rattle.tape.specs.Replay.{eventCall, storeLength}
 use Rattle.tape.specs.Turns.{effect, effectStore, Gives}
 
 -- ---- the call by the kind
@@ -118,3 +121,9 @@ pub wrote-called : (s : State) (store out : List ℕ) (e f : Event) (x : Wrote) 
     → x ≡ wroteOf (effect s store f) → after ≡ outputAfter out (effect s store f) → store ≡ effectStore s store f
     → Gives s store out e x store after
 wrote-called s store out e f x after g h k l = rw g (h, (l, k))
+
+-- the store that a tape names is no longer than the longest
+pub store-small : (t : List ℕ) → Octets t → storeLength (bodyOf t 0) ≤ 65536
+store-small t h =
+    let n = uint-below (bodyOf t 0) (octets-part t h (bodyAt t 0) (bodyLength t 0)) 6 2 in
+    omega (arith, n)

@@ -1,4 +1,3 @@
-pub mod Parts
 pub mod Events
 pub mod Lines
 pub mod Turns

@@ -14,18 +14,18 @@ use lib.ListN.{length, drop, length-take, length-drop}
 use Rattle.octets.specs.Answers.{done}
 use Rattle.octets.specs.Numbers.{Octets}
 use Rattle.octets.proofs.Numbers.{uint-below}
-use Rattle.tables.specs.Each.{every}
+use Rattle.wire.specs.Each.{every}
 use Rattle.session.specs.Steps.{setUp}
 use Rattle.session.specs.Claim.{Event, Put, NextData, Receive, OfferTemplates, LineDown, Tick, sessionOf32, Exporter, outcome, storeLeft, advance, begin, AllOctets}
 use Rattle.session.proofs.Demand.{demand3of32}
 use Rattle.session.specs.declared.state.Settings.{Settings}
 use Rattle.session.specs.declared.state.State.{State}
-use Rattle.tape.specs.Tape.{eventCount, kindAt, serverAt, bodyLength, bodyAt, octetsAt, bodyOf, eventSound, maxTapeOctets, minEvents, maxEvents, tapeSound}
+use Rattle.contents.specs.Tape.{eventCount, kindAt, serverAt, bodyLength, bodyAt, octetsAt, bodyOf, eventSound, maxTapeOctets, minEvents, maxEvents, tapeSound}
 use Rattle.tape.specs.Lines.{lineOf}
 use Rattle.tape.specs.Replay.{tableAnswer, outputBuffer, eventCall, callsFrom, linesOf, ifDone, tapeSettings, tapeSession, tapeStore, tapeCalls, replay, settingsOf}
 use Rattle.tape.specs.Turns.{Played, opened, played, turnsFrom, turns, TurnByTurn, CallsClaimed}
 use Rattle.tape.specs.declared.replay.Progress.{Progress}
-use Rattle.tape.proofs.Parts.{octets-part}
+use Rattle.contents.proofs.Parts.{octets-part}
 use Rattle.tape.proofs.Events.{by-kind}
 
 -- the settings that count are the state's

@@ -16,7 +16,7 @@ use Rattle.session.specs.Claim.{Event, Put, NextData, Receive, OfferTemplates, 
 use Rattle.session.specs.declared.state.State.{State}
 use Rattle.session.specs.declared.state.Made.{Made}
 use Rattle.session.specs.declared.state.Wrote.{Wrote}
-use Rattle.tape.specs.Tape.{eventCount, kindAt, serverAt, bodyAt, bodyOf, tapeSound}
+use Rattle.contents.specs.Tape.{eventCount, kindAt, serverAt, bodyAt, bodyOf, tapeSound}
 use Rattle.tape.specs.Lines.{lineOf, tapeRefused}
 use Rattle.tape.specs.Replay.{tableAnswer, outputBufferOctets, outputBuffer, eventCall, tapeSettings}
 use Rattle.tape.specs.Turns.{effect, Gives, Called, opened, indexOf, nextBody, tableTurn, nextCall, callTurn, played, turnOf, Turned}

@@ -1,4 +1,3 @@
-pub mod Tape
 pub mod Lines
 pub mod Replay
 pub mod Turns

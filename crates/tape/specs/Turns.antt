@@ -14,7 +14,7 @@ use Rattle.exporter.specs.Steps.{Outcome, setUp, wroteOf, outputAfter}
 use Rattle.exporter.specs.Claim.{Event, sessionOf32, outcome, storeLeft, Claim}
 use Rattle.session.specs.declared.state.State.{State}
 use Rattle.session.specs.declared.state.Wrote.{Wrote}
-use Rattle.tape.specs.Tape.{eventCount, kindAt, serverAt, bodyLength, bodyAt, bodyOf, octetsAt, tapeSound}
+use Rattle.contents.specs.Tape.{eventCount, kindAt, serverAt, bodyLength, bodyAt, bodyOf, octetsAt, tapeSound}
 use Rattle.tape.specs.Lines.{lineOf, tapeRefused}
 use Rattle.tape.specs.Replay.{tableAnswer, outputBuffer, eventCall, tapeSettings, tapeSession, tapeStore, tapeCalls, replay}
 use Rattle.tape.specs.declared.replay.Progress.{Progress}

@@ -1,10 +1,10 @@
 // The events of a tape: settings, table, and the six calls.
 ghost use mathlib.Core.Path.{_≡_};
 ghost use lib.ListN.{drop};
-ghost use Rattle.tape.specs.Tape.{bodyOf};
+ghost use Rattle.contents.specs.Tape.{bodyOf};
 ghost use Rattle.tape.specs.Replay.{settingsOf, storeLength, tableAnswer, eventCall};
 ghost use Rattle.tape.specs.Turns.{Called};
-use crate::contents::Kind;
+use contents::Kind;
 use exporter::state::Settings;
 use exporter::state::State;
 use exporter::state::Stepped;
@@ -41,7 +41,7 @@ pub(crate) fn settings_of(b: &[u8]) -> Settings
 pub fn store_length(tape: &[u8]) -> usize
     ensures { λ r. ⌜ r ≡ storeLength (bodyOf (now (tape .entry)) 0) ⌝ }
 {
-    let b = crate::contents::body(tape, 0);
+    let b = contents::body(tape, 0);
     (octets::get_u16(b, 6) as usize) + 1
 }
 

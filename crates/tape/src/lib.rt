@@ -2,7 +2,6 @@
 //
 // A tape is borrowed octets. `replay::open_tape` judges it and takes its settings, and `replay::take_event` takes one event more; each writes one line
 // of output. Every function answers any octets.
-pub mod contents;
 pub mod event;
 mod line;
 pub mod replay;

@@ -1,9 +1,10 @@
 // A replay, one line at a time: the tape is opened, then each event is taken in its turn.
 ghost use mathlib.Core.Path.{_≡_};
 ghost use mathlib.Core.List.{[]};
-ghost use Prim.Native.Nat.{_+_, _*_, _≤_};
+ghost use Prim.Native.Nat.{_+_, _-_, _*_, _≤_};
 ghost use lib.ListN.{length};
 ghost use lib.Seq.{sets};
+ghost use Rattle.contents.specs.Tape.{eventCount};
 ghost use Rattle.tape.specs.Replay.{outputBufferOctets};
 ghost use Rattle.tape.specs.Turns.{opened, indexOf, nextBody, tableTurn, callTurn, played, turnOf, Turned};
 use exporter::state::State;
@@ -34,12 +35,12 @@ pub struct Turn {
 pub fn open_tape(tape: &[u8], store: &[u8], text: &mut [u8; LINE_OCTETS]) -> Turn
     ensures { λ r. ⌜ (r ≡ turnOf (opened (now (tape .entry)) (now (store .entry)))) × (now (text .exit) ≡ sets (now (text .entry)) 0 (opened (now (tape .entry)) (now (store .entry)) .line)) ⌝ }
 {
-    let settings = crate::event::settings_of(crate::contents::body(tape, 0));
+    let settings = crate::event::settings_of(contents::body(tape, 0));
     let made = exporter::set_up::set_up(settings, store);
     let state = made.state;
-    let at = crate::contents::body_at(tape, 1);
+    let at = contents::body_at(tape, 1);
     let part = &mut text[..];
-    if crate::contents::tape_answer(tape) != Answer::DONE {
+    if contents::tape_answer(tape) != Answer::DONE {
         let len = crate::line::write_refused(part);
         return Turn {
             len,
@@ -49,7 +50,7 @@ pub fn open_tape(tape: &[u8], store: &[u8], text: &mut [u8; LINE_OCTETS]) -> Tur
     let len = crate::line::write_line(0, made.answer, &tape[..0], part);
     let mut left: usize = 0;
     if made.answer == Answer::DONE {
-        left = octets::saturating_sub(crate::contents::event_count(tape) as usize, 1);
+        left = octets::saturating_sub(contents::event_count(tape) as usize, 1);
     }
     Turn {
         len,
@@ -62,8 +63,8 @@ fn take_table(r: Progress, tape: &[u8], at: usize, text: &mut [u8]) -> Turn
     requires { ⌜ (1 ≤ r .left) × ((at ≡ r .at + length (nextBody (now tape) r)) × (9 ≤ length (now text))) ⌝ }
     ensures { λ x. ⌜ (x ≡ turnOf (tableTurn (now (tape .entry)) r [])) × (now (text .exit) ≡ sets (now (text .entry)) 0 (tableTurn (now (tape .entry)) r [] .line)) ⌝ }
 {
-    let settings = crate::event::settings_of(crate::contents::body(tape, 0));
-    let answer = crate::event::table_answer(settings, crate::contents::body(tape, 1));
+    let settings = crate::event::settings_of(contents::body(tape, 0));
+    let answer = crate::event::table_answer(settings, contents::body(tape, 1));
     let len = crate::line::write_line(1, answer, &tape[..0], text);
     let state = r.state;
     let mut left: usize = 0;
@@ -76,27 +77,38 @@ fn take_table(r: Progress, tape: &[u8], at: usize, text: &mut [u8]) -> Turn
     }
 }
 
+// The place of the next event, where `left` are left.
+fn next_index(tape: &[u8], left: usize) -> u16
+    ensures { λ i. ⌜ i ≡ eventCount (now (tape .entry)) - left ⌝ }
+{
+    let count = contents::event_count(tape);
+    if count as usize <= left {
+        return 0;
+    }
+    count - left as u16
+}
+
 // Takes the call of event i, whose body is b and ends at a place.
 fn take_call<'a>(
     r: Progress,
     tape: &'a [u8],
-    i: usize,
+    i: u16,
     b: &'a [u8],
     at: usize,
     store: &mut [u8],
     out: &mut [u8],
     text: &mut [u8],
 ) -> Turn
-    requires { ⌜ (1 ≤ r .left) × ((i ≤ 65535) × ((i ≡ indexOf (now tape) r) × ((now b ≡ nextBody (now tape) r) × ((at ≡ r .at + length (now b)) × ((length (now out) ≡ outputBufferOctets) × (9 + 2 * length (now out) ≤ length (now text))))))) ⌝ }
+    requires { ⌜ (1 ≤ r .left) × ((i ≡ indexOf (now tape) r) × ((now b ≡ nextBody (now tape) r) × ((at ≡ r .at + length (now b)) × ((length (now out) ≡ outputBufferOctets) × (9 + 2 * length (now out) ≤ length (now text)))))) ⌝ }
     ensures { λ x. ⌜ Turned (callTurn (now (tape .entry)) r (now (store .entry))) (now (out .entry)) (now (text .entry)) x (now (store .exit)) (now (out .exit)) (now (text .exit)) ⌝ }
 {
-    let table = crate::contents::body(tape, 1);
-    let kind = crate::contents::kind_at(tape, i);
-    let server = crate::contents::server_at(tape, i);
+    let table = contents::body(tape, 1);
+    let kind = contents::kind_at(tape, i);
+    let server = contents::server_at(tape, i);
     let old = r.state;
     let wrote = crate::event::call(old, kind, server, b, table, store, out);
     let written = wrote.written;
-    let len = crate::line::write_line(i, wrote.answer, &out[..written], text);
+    let len = crate::line::write_line(i as usize, wrote.answer, &out[..written], text);
     let state = wrote.state;
     Turn {
         len,
@@ -124,8 +136,8 @@ pub fn take_event(
             progress: r,
         };
     }
-    let i = octets::saturating_sub(crate::contents::event_count(tape) as usize, r.left);
-    let b = crate::contents::part(tape, r.at, crate::contents::body_length(tape, i) as usize);
+    let i = next_index(tape, r.left);
+    let b = contents::part(tape, r.at, contents::body_length(tape, i) as usize);
     let at = r.at + b.len();
     let line = &mut text[..];
     if i == 1 {

@@ -12,9 +12,9 @@ use Rattle.tables.proofs.Each.{and-left}
 use Rattle.session.specs.Servers.{choose, IsChoice, sameActive, isNobody, chosen, changed, activated, settle, withServers, withCounts, lateServers, expired, tickedFor, ticked}
 use Rattle.session.specs.Sound.{sound}
 use Rattle.session.specs.Steps.{tick, answer, checks, after, settled, tickStep, steppedOf}
-use Rattle.choice.specs.Changes.{settledChange, refusedChange, appliedTo, numberOf}
+use Rattle.servers.specs.Changes.{settledChange, refusedChange, appliedTo, numberOf}
 use Rattle.ticking.specs.Clocks.{runningClock, clockFor, clockOf, tickChangeTo, tickChangeBy}
-use Rattle.choice.specs.declared.change.Change.{Change}
+use Rattle.servers.specs.declared.change.Change.{Change}
 use Rattle.ticking.specs.declared.tick.Clock.{Clock}
 use Rattle.session.specs.declared.state.Active.{Active}
 use Rattle.session.specs.declared.state.Active.the-variants.{Nobody, Server}

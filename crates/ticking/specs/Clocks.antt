@@ -7,14 +7,14 @@ use lib.Dec.{eqb, ltb}
 use Rattle.octets.specs.Answers.{done, unsoundState}
 use Rattle.session.specs.Servers.{choose, chosen, isNobody, lateServers}
 use Rattle.session.specs.Sound.{sound}
-use Rattle.choice.specs.declared.change.Change.{Change}
+use Rattle.servers.specs.declared.change.Change.{Change}
 use Rattle.ticking.specs.declared.tick.Clock.{Clock}
 use Rattle.session.specs.declared.state.Server as serverOf
 use Rattle.session.specs.declared.state.Active.{Active}
 use Rattle.session.specs.declared.state.Active.the-variants as active
 use Rattle.session.specs.declared.state.Settings.{Settings}
 use Rattle.session.specs.declared.state.Delivery.{Delivery}
-use Rattle.choice.specs.Changes.{numberOf}
+use Rattle.servers.specs.Changes.{numberOf}
 
 -- What soundness says of a delivery: the timer is below the duration, and the active server is the chosen one.
 abbrev pub Steady : Bool → Settings → Delivery → Type 0

@@ -4,8 +4,9 @@ ghost use mathlib.Core.Bool.{cond};
 ghost use Prim.Native.Nat.{_<_};
 ghost use Rattle.session.specs.Steps.{tickStep, steppedOf};
 ghost use Rattle.ticking.specs.Clocks.{Steady, runningClock, clockOf, tickChangeBy};
-use choice::change::Change;
 use octets::Answer;
+use servers::change::Change;
+use session::limits::SERVER_ENTRIES;
 use session::state::Active;
 use session::state::Delivery;
 use session::state::Phase;
@@ -58,7 +59,7 @@ fn tick_clock(sound: bool, p: Settings, d: Delivery) -> Clock
         };
     }
     let active = d.active;
-    if choice::servers::is_nobody(active) {
+    if servers::is_nobody(active) {
         return Clock {
             timer: 0,
             expired: false,
@@ -68,7 +69,11 @@ fn tick_clock(sound: bool, p: Settings, d: Delivery) -> Clock
 }
 
 // One of two arrays of servers.
-fn pick_servers(first: bool, x: [Server; 8], y: [Server; 8]) -> [Server; 8]
+fn pick_servers(
+    first: bool,
+    x: [Server; SERVER_ENTRIES],
+    y: [Server; SERVER_ENTRIES],
+) -> [Server; SERVER_ENTRIES]
     ensures { λ r. ⌜ r ≡ cond first x y ⌝ }
 {
     if first {
@@ -115,17 +120,9 @@ fn tick_change(sound: bool, p: Settings, d: Delivery, due: bool, clock: Clock) -
     let priorities = p.priorities;
     let servers = d.servers;
     let active = d.active;
-    let late = choice::servers::with_phase(
-        servers,
-        choice::servers::number_of(active),
-        Phase::Late,
-    );
-    let choice = choice::servers::choose_server(
-        priorities,
-        late,
-        pick_number(clock.expired, p.servers, 0),
-    );
-    let switched = !choice::servers::is_nobody(choice);
+    let late = servers::with_phase(servers, servers::number_of(active), Phase::Late);
+    let choice = servers::choose_server(priorities, late, pick_number(clock.expired, p.servers, 0));
+    let switched = !servers::is_nobody(choice);
     let delivery = Delivery {
         servers: pick_servers(switched, late, servers),
         active: pick_active(switched, choice, active),
@@ -161,7 +158,7 @@ pub fn tick(s: State) -> Stepped
     );
     let clock = tick_clock(sound, p, d);
     let change = tick_change(sound, p, d, s.due, clock);
-    let state = choice::change::apply(s, change);
+    let state = servers::change::apply(s, change);
     Stepped {
         answer: change.answer,
         state,

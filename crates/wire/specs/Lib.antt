@@ -1,8 +1,9 @@
--- The definitions of messages, tables and records, in reading order, passed on from the crates that hold them. Assumes nothing.
+-- The definitions of messages, tables and records, in reading order, passed on from the crates that hold them.
 pub use Rattle.tables.specs.Each
 pub use Rattle.tables.specs.FieldTypes
 pub use Rattle.tables.specs.Table
 pub use Rattle.records.specs.Record
 pub use Rattle.records.specs.Walk
+pub use Rattle.readers.specs.Count
 pub use Rattle.appending.specs.Append
 pub use Rattle.messages.specs.Messages

@@ -7,8 +7,10 @@
 // A crate that makes, matches or passes on a struct or enum lists, beside this crate, the crate that declares it: the checker asks for it.
 pub use appending::append;
 pub use messages::message;
-pub use records::reader;
+pub use readers::reader;
+pub use reading::read;
 pub use records::record;
 pub use records::walk;
 pub use tables::field_type;
 pub use tables::table;
+pub use writing::write;

@@ -4,7 +4,7 @@ use mathlib.Core.Path.{_≡_, sym, _∙_, ap}
 use Prim.Native.Nat.{ℕ}
 use mathlib.Core.List.{List, _∷_}
 use lib.ListN.{length, getD}
-use Rattle.messages.specs.Messages.{readingAnswer, writeOf}
+use Rattle.wire.specs.Messages.{readingAnswer, writeOf}
 use Rattle.messages.specs.declared.message.Message.{Message}
 use Rattle.messages.specs.declared.message.Written.{Written}
 use Rattle.messages.proofs.RoundTrip.{reading-number}

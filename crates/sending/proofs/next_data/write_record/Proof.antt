@@ -5,7 +5,7 @@ use native.Mathlib.Omega.{arith}
 use Prim.Native.Nat.{ℕ, _+_}
 use lib.ListN.{length}
 use Rattle.octets.specs.Numbers.{octetsOf}
-use Rattle.messages.specs.Messages.{dataHeadOctets}
+use Rattle.wire.specs.Messages.{dataHeadOctets}
 use Rattle.messages.proofs.Messages.{placed-short, placed, sets-then, data-layout, data-length}
 use Rattle.session.specs.Queue.{ringRead}
 use mathlib.Core.List.{_++_}

@@ -5,7 +5,7 @@ use mathlib.Core.List.{[]}
 use mathlib.Core.Path.{refl, sym, ap, _∙_}
 use native.Mathlib.Omega.{arith}
 use borrow.Author.Tests.{eq-eqb, ne-eqb}
-use Rattle.tape.proofs.Parts.{refused-unsound, done-sound}
+use Rattle.contents.proofs.Parts.{refused-unsound, done-sound}
 use Rattle.tape.proofs.Turns.{open-turn}
 use borrow.Author.Needs.{needs}
 use Rattle.tape.proofs.replay.open_tape.Statement.{statement}

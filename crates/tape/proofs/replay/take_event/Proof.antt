@@ -6,7 +6,7 @@ use Prim.Native.Nat.{ℕ, _+_}
 use native.Mathlib.Omega.{arith}
 use lib.ListN.{length}
 use Rattle.tape.specs.Turns.{nextBody}
-use Rattle.tape.proofs.Parts.{part-end}
+use Rattle.contents.proofs.Parts.{part-end}
 use Rattle.tape.proofs.Turns.{played-none, played-table, played-call}
 use borrow.Author.Needs.{needs}
 use Rattle.tape.proofs.replay.take_event.Statement.{statement}

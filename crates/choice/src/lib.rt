@@ -1,3 +1,0 @@
-// Part of the exporter.
-pub mod change;
-pub mod servers;

@@ -1,3 +1,0 @@
-// Part of the exporter.
-pub mod queue;
-pub mod ring;

@@ -1,0 +1,201 @@
+-- wire judges table, template and record together; the first laws put the Configuration ID and the limit of octets in their turn, and the
+-- room behind them. An accepted put fills the first unused entries; a refused one stores what was there. Either is the step of the
+-- definition.
+use mathlib.Core.Path.{_≡_, refl, sym, _∙_}
+use mathlib.Core.Bool.{Bool, true, false, cond, not, _&&_}
+use mathlib.Core.List.{List, [], _∷_, _++_}
+use Prim.Native.Nat.{ℕ, _+_, _%_, _≤_, _<_}
+use native.Mathlib.Omega.{arith}
+use lib.Dec.{eqb}
+use lib.ListN.{length, getD, set}
+use lib.Seq.{set-getD}
+use borrow.Author.Tests.{not-false, ne-eqb, eqb-true, eqb-false, leb-false, ltb-false}
+use Rattle.octets.specs.Answers.{_when_, judge, done, unsoundState}
+use Rattle.octets.proofs.Judging.{passed, judged-first, judged-next}
+use Rattle.tables.proofs.Each.{and-left, and-right}
+use Rattle.session.specs.Sound.{sound}
+use Rattle.session.specs.Steps.{put, answer, checks, soundFor, after, storeAfter, putStep, steppedOf, recordChecks, roomChecks}
+use Rattle.session.specs.Queue.{heldOctets, ringWrite, pushed}
+use Rattle.putting.specs.Puttings.{puttingOf}
+use Rattle.putting.specs.declared.put.Putting.{Putting}
+use Rattle.session.specs.declared.state.Settings.{Settings}
+use Rattle.session.specs.declared.state.Stepped.{Stepped}
+use Rattle.session.specs.declared.state.State.{State}
+use Rattle.session.proofs.SoundFacts.{sound-facts, parts-of}
+use Rattle.session.specs.Parts.{partsIn}
+use Rattle.session.proofs.StepLaws.{settled-same, step-done, step-refused}
+
+-- wire's answer to a record, with the Configuration ID and the limit of 1,024 octets judged in their turn: whether the table is sound, its
+-- ID the session's, the template missing, the record too long, the record valid
+record-judged : (sound same missing long valid : Bool)
+    → let a = judge ((21 when not sound) ∷ (15 when missing) ∷ (16 when not valid) ∷ []) in
+    cond (eqb a 21) 21 (cond (not same) 21 (cond (eqb a 15) 15 (cond long 17 a)))
+    ≡ judge ((21 when not (sound && same)) ∷ (15 when missing) ∷ (17 when long) ∷ (16 when not valid) ∷ [])
+record-judged false same missing long valid = refl
+record-judged true false true long valid = refl
+record-judged true false false long true = refl
+record-judged true false false long false = refl
+record-judged true true true long valid = refl
+record-judged true true false true true = refl
+record-judged true true false true false = refl
+record-judged true true false false true = refl
+record-judged true true false false false = refl
+
+-- the same, by what the tests on the way came to
+pub record-cases : (sound same missing long valid : Bool) (b c d e : Bool)
+    → let a = judge ((21 when not sound) ∷ (15 when missing) ∷ (16 when not valid) ∷ []) in
+    eqb a 21 ≡ b → same ≡ c → eqb a 15 ≡ d → long ≡ e
+    → cond b 21 (cond (not c) 21 (cond d 15 (cond e 17 a)))
+    ≡ judge ((21 when not (sound && same)) ∷ (15 when missing) ∷ (17 when long) ∷ (16 when not valid) ∷ [])
+record-cases sound same missing long valid b c d e p q r s = rw (sym p, sym q, sym r, sym s) (record-judged sound same missing long valid)
+
+-- the record is judged, and then the room: a is what the record was judged, b the room
+module _ (p : Settings) (capacity n : ℕ) (lengths table : List ℕ) (id : ℕ) (r : List ℕ) (a : ℕ) (e : a ≡ judge (recordChecks p table id r)) where
+  pub refused-first : (a ≡ done → ⊥) → a ≡ judge (recordChecks p table id r ++ roomChecks capacity n lengths r)
+  refused-first h = e ∙ sym (judged-first (recordChecks p table id r) (roomChecks capacity n lengths r) (λ z. h (e ∙ z)))
+
+  pub passed-first : a ≡ done → (b : ℕ) → b ≡ judge (roomChecks capacity n lengths r) → b ≡ judge (recordChecks p table id r ++ roomChecks capacity n lengths r)
+  passed-first z b k = k ∙ sym (judged-next (recordChecks p table id r) (roomChecks capacity n lengths r) tt (sym e ∙ z))
+
+-- put's answer, as it is judged by parts
+abbrev putAnswer : State → List ℕ → List ℕ → ℕ → List ℕ → ℕ
+putAnswer s store table id r =
+    judge
+    ((unsoundState when not (sound (partsIn s) && eqb (length store) (s .capacity)))
+    ∷ (recordChecks (s .settings) table id r ++ roomChecks (s .capacity) (s .queue .count) (s .queue .lengths) r))
+
+put-judged : (s : State) (store table : List ℕ) (id : ℕ) (r : List ℕ) → putAnswer s store table id r ≡ answer 32 table 0 (put id r) s store
+unfolding answer checks
+put-judged s store table id r = rw (parts-of s)
+
+-- what an accepted put knows
+pub record PutFacts (s : State) (store r : List ℕ) : Type 0 where
+  pub isSound : sound s ≡ true
+  pub stored : length store ≡ s .capacity
+  pub few : s .queue .count < 64
+  pub short : length r ≤ 1024
+
+put-facts : (s : State) (store table : List ℕ) (id : ℕ) (r : List ℕ) → answer 32 table 0 (put id r) s store ≡ 0 → PutFacts s store r
+unfolding answer checks
+put-facts s store table id r e =
+    let p = passed ((unsoundState when not (soundFor (put id r) s store)) ∷ checks 32 table 0 (put id r) s store) tt e in
+    let both = not-false (sound s && eqb (length store) (s .capacity)) (p .0) in
+    record {
+      isSound = and-left (sound s) _ both;
+      stored = eqb-true (length store) (s .capacity) (and-right (sound s) _ both);
+      few = leb-false 64 (s .queue .count) (p .1 .1 .1 .1 .1 .0);
+      short = ltb-false 1024 (length r) (p .1 .1 .1 .0);
+    }
+
+-- the same, by what it was judged
+pub put-known : (s : State) (store table : List ℕ) (id : ℕ) (r : List ℕ) (a : ℕ) → a ≡ putAnswer s store table id r → a ≡ 0 → PutFacts s store r
+put-known s store table id r a j e = put-facts s store table id r (sym (put-judged s store table id r) ∙ sym j ∙ e)
+
+-- ---- what putting changes
+
+-- a refused put changes nothing
+pub putting-kept : (s : State) (store table : List ℕ) (id : ℕ) (r : List ℕ) (a : ℕ) (x : Putting) → (a ≡ done → ⊥) → a ≡ putAnswer s store table id r
+    → x ≡ record {
+      answer = a;
+      place = 0;
+      len = getD (s .queue .lengths) 0 0;
+      template = getD (s .queue .templates) 0 0;
+      set = getD (s .queue .receivers) 0 0;
+      count = s .queue .count;
+      next = s .next;
+    }
+    → (x ≡ puttingOf s id r (putStep 32 s store table id r)) × (store ≡ putStep 32 s store table id r .store)
+putting-kept s store table id r a x h j q =
+    rw (step-refused 32 table 0 (put id r) s store a h (sym (j ∙ put-judged s store table id r)), ne-eqb a done h) (q, refl)
+
+-- an accepted one fills the first unused entries
+pub putting-done : (s : State) (store table : List ℕ) (id : ℕ) (r : List ℕ) (a : ℕ) (x : Putting) (n : ℕ) (left : List ℕ)
+    → a ≡ putAnswer s store table id r → a ≡ done
+    → x ≡ record {
+      answer = a;
+      place = s .queue .count;
+      len = length r;
+      template = id;
+      set = 0;
+      count = s .queue .count + 1;
+      next = (s .next + 1) % 4294967296;
+    }
+    → n ≡ heldOctets (s .queue) → left ≡ ringWrite (length store) store (s .start + n) r
+    → (x ≡ puttingOf s id r (putStep 32 s store table id r)) × (left ≡ putStep 32 s store table id r .store)
+unfolding after pushed storeAfter
+putting-done s store table id r a x n left j z q k l =
+    let e = sym (put-judged s store table id r) ∙ sym j ∙ z in
+    let f = put-facts s store table id r e in
+    rw (
+      step-done 32 table 0 (put id r) s store e,
+      settled-same (after 32 (put id r) s) (sound-facts s (f .isSound) .choice),
+    )
+    (rw z at q, rw (k, f .stored) at l)
+
+-- the state with such a change
+abbrev withPut : State → Putting → State
+withPut s c =
+    record {
+      settings = s .settings;
+      capacity = s .capacity;
+      delivery = s .delivery;
+      due = s .due;
+      queue = record {
+        count = c .count;
+        lengths = set (s .queue .lengths) (c .place) (c .len);
+        templates = set (s .queue .templates) (c .place) (c .template);
+        receivers = set (s .queue .receivers) (c .place) (c .set);
+      };
+      start = s .start;
+      next = c .next;
+    }
+
+module _ (s : State) (store table : List ℕ) (id : ℕ) (r : List ℕ) where
+  -- an outcome's change is made to one of the 64 entries
+  putting-place : puttingOf s id r (putStep 32 s store table id r) .place < 64
+  putting-place = go (eqb (answer 32 table 0 (put id r) s store) done) refl
+    where
+      go : (b : Bool) → eqb (answer 32 table 0 (put id r) s store) done ≡ b → puttingOf s id r (putStep 32 s store table id r) .place < 64
+      go true q =
+          let e = eqb-true (answer 32 table 0 (put id r) s store) done q in
+          rw (step-done 32 table 0 (put id r) s store e) (put-facts s store table id r e .few)
+      go false q = rw (step-refused 32 table 0 (put id r) s store _ (eqb-false (answer 32 table 0 (put id r) s store) done q) refl, q) (omega arith)
+
+  pub putting-inside : (x : Putting) → x ≡ puttingOf s id r (putStep 32 s store table id r) → x .place < 64
+  putting-inside x e = rw e putting-place
+
+  -- the state with an outcome's change is the outcome's
+  putting-applied : _≡_ {A = Stepped}
+      (record {
+        answer = puttingOf s id r (putStep 32 s store table id r) .answer;
+        state = withPut s (puttingOf s id r (putStep 32 s store table id r));
+      })
+      (steppedOf (putStep 32 s store table id r))
+  unfolding after pushed
+  putting-applied = go (eqb (answer 32 table 0 (put id r) s store) done) refl
+    where
+      go : (b : Bool) → eqb (answer 32 table 0 (put id r) s store) done ≡ b → _≡_ {A = Stepped}
+          (record {
+            answer = puttingOf s id r (putStep 32 s store table id r) .answer;
+            state = withPut s (puttingOf s id r (putStep 32 s store table id r));
+          })
+          (steppedOf (putStep 32 s store table id r))
+      go true q =
+          let e = eqb-true (answer 32 table 0 (put id r) s store) done q in
+          let f = put-facts s store table id r e in
+          rw (
+            step-done 32 table 0 (put id r) s store e,
+            settled-same (after 32 (put id r) s) (sound-facts s (f .isSound) .choice),
+          )
+      go false q =
+          rw (
+            step-refused 32 table 0 (put id r) s store _ (eqb-false (answer 32 table 0 (put id r) s store) done q) refl,
+            q,
+            set-getD (s .queue .lengths) 0 0,
+            set-getD (s .queue .templates) 0 0,
+            set-getD (s .queue .receivers) 0 0,
+          )
+
+  pub put-applied : (x : Putting) → x ≡ puttingOf s id r (putStep 32 s store table id r)
+      → _≡_ {A = Stepped} (record { answer = x .answer; state = withPut s x }) (steppedOf (putStep 32 s store table id r))
+  put-applied x e = rw e putting-applied

@@ -1,0 +1,106 @@
+-- `put_change` meets its contract. A refusal changes nothing. A record that can be put finds fewer than 64 held and has at most 1,024
+-- octets, so every sum fits; it fills the first unused entries, and its octets follow the held ones.
+use native.Mathlib.Omega.{arith}
+use Rattle.session.specs.Parts.{stateOf}
+use Rattle.session.proofs.SoundFacts.{sound-facts}
+use Rattle.putting.proofs.Puts.{put-known, putting-kept, putting-done}
+use borrow.Author.Needs.{needs}
+use Rattle.putting.proofs.put.put_change.Statement.{statement}
+use Rattle.putting.proofs.put.put_change.Tie as tie
+
+put-answer-requires : tie.Need-put-answer-requires
+put-answer-requires c κs = search needs
+
+element-copy-out-refuse-put : tie.Need-element-copy-out-refuse-put
+element-copy-out-refuse-put c = search needs
+
+element-copy-out-refuse-put-2 : tie.Need-element-copy-out-refuse-put-2
+element-copy-out-refuse-put-2 c = search needs
+
+element-copy-out-refuse-put-3 : tie.Need-element-copy-out-refuse-put-3
+element-copy-out-refuse-put-3 c = search needs
+
+refuse-put-requires : tie.Need-refuse-put-requires
+refuse-put-requires c κs = search needs
+
+returns : tie.Need-returns
+returns c =
+    let a = c .before .before .before .before .before .before .before .before .before .args in
+    let s = stateOf (a .p) (a .capacity) (a .d) (a .due) (a .count) (a .lengths .now) (a .templates .now) (a .receivers .now) (a .start) (a .next) in
+    let j = c .before .before .before .before .before .put-answer in
+    putting-kept s (a .store .now) (a .table .now) (a .id) (a .r .now) (j .result) (c .refuse-put .result) (c .before .before .before .before .if1 .taken) (j .ensures) (c .refuse-put .ensures)
+
+octets-to-requires : tie.Need-octets-to-requires
+octets-to-requires c κs =
+    let a = c .before .before .before .before .before .args in
+    let s = stateOf (a .p) (a .capacity) (a .d) (a .due) (a .count) (a .lengths .now) (a .templates .now) (a .receivers .now) (a .start) (a .next) in
+    let f = put-known s (a .store .now) (a .table .now) (a .id) (a .r .now) (c .before .put-answer .result) (c .before .put-answer .ensures) (c .if1 .left) in
+    omega (arith, f .few)
+
+cast-at : tie.Need-cast-at
+cast-at c = search needs
+
+add-at : tie.Need-add-at
+add-at c =
+    let a = c .before .before .before .before .before .before .args in
+    let s = stateOf (a .p) (a .capacity) (a .d) (a .due) (a .count) (a .lengths .now) (a .templates .now) (a .receivers .now) (a .start) (a .next) in
+    let f = put-known s (a .store .now) (a .table .now) (a .id) (a .r .now) (c .before .before .put-answer .result) (c .before .before .put-answer .ensures) (c .before .if1 .left) in
+    let g = sound-facts s (f .isSound) in
+    omega (arith, g .fits, g .numbers .inside, g .numbers .settings .smallRoom)
+
+ring-write-requires : tie.Need-ring-write-requires
+ring-write-requires c κs =
+    let a = c .before .before .before .before .before .before .before .args in
+    let s = stateOf (a .p) (a .capacity) (a .d) (a .due) (a .count) (a .lengths .now) (a .templates .now) (a .receivers .now) (a .start) (a .next) in
+    let f = put-known s (a .store .now) (a .table .now) (a .id) (a .r .now) (c .before .before .before .put-answer .result) (c .before .before .before .put-answer .ensures) (c .before .before .if1 .left) in
+    let g = sound-facts s (f .isSound) in
+    (omega (arith, f .stored, g .numbers .inside), omega (arith, f .short, g .fits, g .numbers .inside, g .numbers .settings .smallRoom))
+
+cast-t33 : tie.Need-cast-t33
+cast-t33 c =
+    let a = c .before .before .before .before .before .before .before .before .before .before .args in
+    let s = stateOf (a .p) (a .capacity) (a .d) (a .due) (a .count) (a .lengths .now) (a .templates .now) (a .receivers .now) (a .start) (a .next) in
+    let f = put-known s (a .store .now) (a .table .now) (a .id) (a .r .now) (c .before .before .before .before .before .before .put-answer .result) (c .before .before .before .before .before .before .put-answer .ensures) (c .before .before .before .before .before .if1 .left) in
+    omega (arith, f .short)
+
+add-t34 : tie.Need-add-t34
+add-t34 c =
+    let a = c .before .before .before .before .before .before .before .before .before .before .args in
+    let s = stateOf (a .p) (a .capacity) (a .d) (a .due) (a .count) (a .lengths .now) (a .templates .now) (a .receivers .now) (a .start) (a .next) in
+    let f = put-known s (a .store .now) (a .table .now) (a .id) (a .r .now) (c .before .before .before .before .before .before .put-answer .result) (c .before .before .before .before .before .before .put-answer .ensures) (c .before .before .before .before .before .if1 .left) in
+    omega (arith, f .few)
+
+wrapping-add-u32-requires : tie.Need-wrapping-add-u32-requires
+wrapping-add-u32-requires c κs = search needs
+
+same-length : tie.Need-same-length
+same-length c = search needs
+
+returns-2 : tie.Need-returns-2
+returns-2 c =
+    let a = c .before .before .before .before .before .before .before .before .before .before .before .args in
+    let s = stateOf (a .p) (a .capacity) (a .d) (a .due) (a .count) (a .lengths .now) (a .templates .now) (a .receivers .now) (a .start) (a .next) in
+    let j = c .before .before .before .before .before .before .before .put-answer in
+    let n = c .before .before .before .before .before .octets-to in
+    putting-done s (a .store .now) (a .table .now) (a .id) (a .r .now) (j .result) _ (n .result) _ (j .ensures) (c .before .before .before .before .before .before .if1 .left)
+    (rw (c .wrapping-add-u32 .ensures)) (n .ensures) (c .before .before .before .ring-write .ensures)
+
+pub put-change-spec : {M : Type 1} → statement M
+put-change-spec =
+    tie.close
+    (tie.spec
+    put-answer-requires
+    element-copy-out-refuse-put
+    element-copy-out-refuse-put-2
+    element-copy-out-refuse-put-3
+    refuse-put-requires
+    returns
+    octets-to-requires
+    cast-at
+    add-at
+    ring-write-requires
+    cast-t33
+    add-t34
+    wrapping-add-u32-requires
+    same-length
+    returns-2)

@@ -1,0 +1,2 @@
+// Put: a record into the queue.
+pub mod put;

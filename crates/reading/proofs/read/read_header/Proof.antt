@@ -1,0 +1,39 @@
+-- `read_header` meets its contract: it answers what the header says where the header is not refused, and the refusal otherwise.
+-- Assumes nothing.
+use mathlib.Core.Path.{sym, _∙_}
+use native.Mathlib.Omega.{arith}
+use borrow.Author.Tests.{eq-eqb, ne-eqb}
+use Rattle.octets.proofs.Numbers.{uint-one}
+use Rattle.messages.specs.Messages.{headerOf}
+use Rattle.messages.proofs.Messages.{header-long}
+use borrow.Author.Needs.{needs}
+use Rattle.reading.proofs.read.read_header.Statement.{statement}
+use Rattle.reading.proofs.read.read_header.Tie as tie
+
+header-answer-requires : tie.Need-header-answer-requires
+header-answer-requires c κs = search needs
+
+shared-slice-read-t5 : tie.Need-shared-slice-read-t5
+shared-slice-read-t5 c =
+    let long = header-long _ (sym (c .before .before .header-answer .ensures) ∙ c .before .if1 .taken) in
+    omega arith
+
+shared-slice-read-t7 : tie.Need-shared-slice-read-t7
+shared-slice-read-t7 c =
+    let long = header-long _ (sym (c .before .before .before .header-answer .ensures) ∙ c .before .before .if1 .taken) in
+    omega arith
+
+returns : tie.Need-returns
+unfolding headerOf
+returns c =
+    let m = c .before .before .before .before .before .args .message .now in
+    rw (← c .before .before .before .header-answer .ensures, uint-one m 1, uint-one m 2, eq-eqb _ _ (c .before .before .if1 .taken))
+
+returns-2 : tie.Need-returns-2
+unfolding headerOf
+returns-2 c = rw (← c .before .header-answer .ensures, ne-eqb _ _ (c .if1 .left))
+
+pub read-header-spec : {M : Type 1} → statement M
+read-header-spec =
+    tie.close
+    (tie.spec header-answer-requires shared-slice-read-t5 shared-slice-read-t7 returns returns-2)

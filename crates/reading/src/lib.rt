@@ -1,0 +1,2 @@
+// Reading CRANE's messages.
+pub mod read;

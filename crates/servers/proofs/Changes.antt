@@ -1,0 +1,105 @@
+-- Transitions change only a state's delivery and S, and look at no template ID and no next DSN. So what they do to a state is what they do
+-- to the parts that soundness looks at, applied to that state. The first laws say what a refused and an accepted step is.
+use mathlib.Core.Path.{_≡_, refl, ap, _∙_}
+use mathlib.Core.Bool.{Bool, true, false, cond, not}
+use mathlib.Core.List.{List, []}
+use Prim.Native.Nat.{ℕ}
+use borrow.Author.Tests.{ne-eqb}
+use lib.Dec.{eqb, leb}
+use lib.ListN.{length}
+use lib.Seq.{sets}
+use Rattle.octets.specs.Answers.{judge, done, unsoundState, noSuchServer}
+use Rattle.session.specs.Servers.{chosen, settle, changed, phaseAt, withServers, Transition, transition}
+use Rattle.session.specs.Sound.{sound}
+use Rattle.session.specs.Steps.{Outcome, Call, step, answer, checks, after, settled, storeAfter, written, move, replyTo, transitionChecks, outputAfter, wroteOf}
+use Rattle.servers.specs.Changes.{changeOf, appliedTo, settledChange, refusedChange}
+use Rattle.session.specs.Parts.{stateOf, partsIn}
+use Rattle.servers.specs.declared.change.Change.{Change}
+use Rattle.session.specs.declared.state.State.{State}
+use Rattle.session.specs.declared.state.Wrote.{Wrote}
+use Rattle.session.proofs.SoundFacts.{parts-of}
+use Rattle.session.proofs.StepLaws.{settled-same, step-refused, step-done}
+
+-- ---- transitions
+
+module _ (w : ℕ) (table : List ℕ) (room v : ℕ) (t : Transition) (s : State) where
+  -- what a transition is judged by
+  pub move-unsound : sound s ≡ false → answer w table room (move v t) s [] ≡ unsoundState
+  unfolding answer
+  move-unsound e = rw e
+
+  pub move-unknown : sound s ≡ true → leb (s .settings .servers) v ≡ true → answer w table room (move v t) s [] ≡ noSuchServer
+  unfolding answer checks
+  move-unknown e f = rw (e, f)
+
+  pub move-judged : sound s ≡ true → leb (s .settings .servers) v ≡ false
+      → answer w table room (move v t) s [] ≡ judge (transitionChecks (s .settings) table room t (phaseAt (s .delivery .servers) v))
+  unfolding answer checks
+  move-judged e f = rw (e, f)
+
+  move-same : answer w table room (move v t) (partsIn s) [] ≡ answer w table room (move v t) s []
+  unfolding answer checks
+  move-same = rw (parts-of s)
+
+  -- a transition by parts
+  outcome : State → ℕ → Bool → Outcome
+  outcome s a b =
+      cond b
+      (record { answer = done; state = settled (after w (move v t) s); store = []; written = replyTo (s .settings) table t })
+      (record { answer = a; state = s; store = []; written = [] })
+
+  move-parts : _≡_ {A = Wrote}
+      (record {
+        answer = changeOf (step w table room (move v t) (partsIn s) []) .answer;
+        written = changeOf (step w table room (move v t) (partsIn s) []) .written;
+        state = appliedTo s (changeOf (step w table room (move v t) (partsIn s) []));
+      })
+      (wroteOf (step w table room (move v t) s []))
+  unfolding step after settled written storeAfter outcome
+  move-parts = rw move-same (go (answer w table room (move v t) s []) (eqb (answer w table room (move v t) s []) done))
+    where
+      go : (a : ℕ) (b : Bool) → _≡_ {A = Wrote}
+          (record {
+            answer = changeOf (outcome (partsIn s) a b) .answer;
+            written = changeOf (outcome (partsIn s) a b) .written;
+            state = appliedTo s (changeOf (outcome (partsIn s) a b));
+          })
+          (wroteOf (outcome s a b))
+      go a true = refl
+      go a false = refl
+
+  move-output : (out : List ℕ) → outputAfter out (step w table room (move v t) (partsIn s) []) ≡ outputAfter out (step w table room (move v t) s [])
+  unfolding step written storeAfter outcome
+  move-output out = rw move-same (go (answer w table room (move v t) s []) (eqb (answer w table room (move v t) s []) done))
+    where
+      go : (a : ℕ) (b : Bool) → outputAfter out (outcome (partsIn s) a b) ≡ outputAfter out (outcome s a b)
+      go a true = refl
+      go a false = refl
+
+  -- what a transition changes by parts, applied to the state
+  pub moved-applied : (out left : List ℕ) (x : Change) (s′ : State)
+      → (x ≡ changeOf (step w table room (move v t) (partsIn s) [])) × (left ≡ outputAfter out (step w table room (move v t) (partsIn s) []))
+      → s′ ≡ appliedTo s x
+      → _≡_ {A = Wrote} (record { answer = x .answer; written = x .written; state = s′ }) (wroteOf (step w table room (move v t) s []))
+      × (left ≡ outputAfter out (step w table room (move v t) s []))
+  moved-applied out left x s′ e k = (rw (k, e .0) move-parts, e .1 ∙ move-output out)
+
+-- ---- changes, and what they leave of an output
+
+-- a refused call's
+pub refused-change : (w : ℕ) (table : List ℕ) (room : ℕ) (c : Call) (s : State) (out : List ℕ) (a : ℕ) (r : Change)
+    → (a ≡ done → ⊥) → answer w table room c s [] ≡ a → r ≡ refusedChange a (s .delivery) (s .due)
+    → (r ≡ changeOf (step w table room c s [])) × (out ≡ outputAfter out (step w table room c s []))
+refused-change w table room c s out a r h e q = rw (step-refused w table room c s [] a h e) (q, refl)
+
+-- an accepted transition's
+pub moved-change : (w : ℕ) (table : List ℕ) (room v : ℕ) (t : Transition) (s : State) (out left : List ℕ) (n : ℕ) (r : Change)
+    → answer w table room (move v t) s [] ≡ done
+    → n ≡ length (replyTo (s .settings) table t)
+    → left ≡ sets out 0 (replyTo (s .settings) table t)
+    → r ≡ settledChange (s .settings) (withServers (s .delivery) (transition v t (s .delivery .servers))) (s .due) n
+    → (r ≡ changeOf (step w table room (move v t) s [])) × (left ≡ outputAfter out (step w table room (move v t) s []))
+unfolding after settled written
+moved-change w table room v t s out left n r e k l q =
+    rw (step-done w table room (move v t) s [] e)
+    (q ∙ ap (settledChange (s .settings) (withServers (s .delivery) (transition v t (s .delivery .servers))) (s .due)) k, l)

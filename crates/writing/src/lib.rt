@@ -1,0 +1,2 @@
+// Writing CRANE's messages.
+pub mod write;
