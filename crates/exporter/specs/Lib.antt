@@ -1,5 +1,6 @@
--- The definitions of `session`, in reading order, passed on: limits, servers, the queue, sound states, the calls and their steps, the history
--- and the claim. Assumes nothing.
+-- A session as a driver goes through it; and, passed on from `session`, the definitions in reading order: limits, servers, the queue, sound
+-- states, the calls and their steps, the history, the claim and the examples.
+pub mod Driving
 pub use Rattle.session.specs.Limits
 pub use Rattle.session.specs.Servers
 pub use Rattle.session.specs.Queue
@@ -7,3 +8,4 @@ pub use Rattle.session.specs.Sound
 pub use Rattle.session.specs.Steps
 pub use Rattle.session.specs.History
 pub use Rattle.session.specs.Claim
+pub use Rattle.session.specs.Examples

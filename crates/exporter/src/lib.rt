@@ -1,16 +1,34 @@
-// The exporting side of one CRANE session (RFC 3423), without sockets, clocks or memory of its own. `set_up` makes a `State`; `put`,
-// `next_data`, `receive`, `offer_templates`, `line_down` and `tick` each take a state by value and give back the next one with an answer
-// number (`octets::Answer`). The octets of the records lie in a store that the caller lends, used as a ring. A refused call changes nothing:
-// not the state, the store or the output.
+// The exporting side of one CRANE session (RFC 3423), without sockets, clocks or memory of its own: the calls of a driver, under one name.
 //
-// It does not read or write the octets of messages and tables by itself: `wire` does. It opens no line and waits for nothing: the caller
-// brings what was received, sends what was written and says when a tick has passed.
+// Which calls, and in which order:
+// 1. `set_up::set_up` makes a `state::State` from `state::Settings` and the store that will be lent; once, first. `limits` names what it
+//    allows.
+// 2. `put::put` takes a record into the queue, at any time, also while nobody is connected.
+// 3. `receive::receive` takes each message that arrives from a server and writes the answer, if it has one, to the output.
+// 4. `offer_templates::offer_templates` writes the table for a server that has started (its START was received). When its FINAL TMPL DATA
+//    ACK is received the server is agreed, and the agreed server of highest priority is the active one.
+// 5. `next_data::next_data` writes the next record as DATA for the active server, again and again until it answers 14 (nothing to send).
+//    The DATA ACKs that `receive` takes release the records.
+// 6. `line_down::line_down` says that the line to a server is down, `tick::tick` that a tick has passed; when an active server is too slow
+//    another one takes over, or all that was not acknowledged is sent again.
+// Each call may be made at any time, in any state: one that is out of turn is refused. specs/Driving.antt goes through a whole session.
 //
-// Three types matter: `state::State`; its `Delivery`, the servers and how far the active one was sent the queue; and its `Queue`, the records
-// held.
+// What is lent: the store, the same octets each time and of the length that set-up saw, to `put` and `next_data`, which keep the records'
+// octets there as a ring; the session's template table to `put` and `offer_templates` (`session_table::is_sessions` says whether a table is
+// the session's); an output to every call that writes, from its first octet on, and no octet after the message changes. The caller sends
+// what was written to the server that the call was about: the one that it names, or for `next_data` the active one.
 //
-// Nothing is declared here: the types stand in `session`, with the definitions and the claim, the calls in the crates named below. A crate that
-// makes a `Settings` or holds a `State` lists `session` beside this crate: the checker asks for it.
+// What comes back: the answer, how many octets were written, and the state, which is passed by value; the next call gets that state. An
+// answer other than 0 is a refusal (`octets::Answer` names each number) and changes nothing: not the state, the store or the output. So a
+// driver may try a call and go on. 1 says that state or store are not what the last call left.
+//
+// What it does not do: it opens no line, waits for nothing, and reads and writes no octet of a message or table by itself; `wire` does.
+//
+// Three types matter: `state::State`; its `Delivery`, the servers and how far the active one was sent the queue; and its `Queue`, the
+// records held. What holds of every list of calls is the claim in `session`, specs/Claim.antt.
+//
+// Nothing is declared here: the types stand in `session`, the calls in the crates named below. A crate that makes a `Settings` or holds a
+// `State` lists `session` beside this crate: the checker asks for it.
 pub use putting::put;
 pub use receiving::receive;
 pub use sending::next_data;

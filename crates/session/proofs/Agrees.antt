@@ -1,5 +1,5 @@
 -- What holds between the history and the exporter's state and store after every call. The state is sound by itself; beside that, the held
--- records are the accepted ones behind the released number, and sets, S and reached are what the writings say. Assumes nothing.
+-- records are the accepted ones behind the released number, and sets, S and reached are what the writings say.
 use mathlib.Core.Path.{_≡_}
 use mathlib.Core.Bool.{true, false, not}
 use mathlib.Core.List.{List}

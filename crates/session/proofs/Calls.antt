@@ -1,6 +1,6 @@
 -- What is claimed of one call follows from what holds between the history and the exporter, which the call keeps: a place in the history
 -- stands for a place of the queue, with the same record, DSN and servers, so that the checks of the state are those due by the history.
--- Assumes nothing.
+--
 use mathlib.Core.Path.{_≡_, refl, sym, ap, _∙_, subst}
 use mathlib.Core.Bool.{Bool, true, false, not, _&&_, _||_, cond}
 use mathlib.Core.List.{List, [], _∷_, _++_}

@@ -1,5 +1,5 @@
 -- Demand 3: what is claimed of every list of calls holds. History and exporter agree after set-up, each call keeps that (`Calls`), and what
--- is claimed of a call or of the list follows from it. Assumes nothing.
+-- is claimed of a call or of the list follows from it.
 use mathlib.Core.Path.{_≡_, refl, sym, ap, _∙_, subst}
 use mathlib.Core.Bool.{Bool, true, false, not, cond, false≢true}
 use mathlib.Core.List.{List, [], _∷_, _++_}

@@ -1,93 +1,16 @@
--- The starred boundary examples (01, "Boundary examples"), of the definitions: each is a row of one table, and the one claim is that every
--- row holds. Each row is shown by computing the definitions on it. Assumes nothing.
-use mathlib.Core.Path.{_≡_, refl}
-use mathlib.Core.Bool.{true, false}
-use mathlib.Core.List.{List, [], _∷_}
-use Prim.Native.Nat.{ℕ}
-use lib.ListN.{set, replicate}
-use Rattle.octets.specs.Answers.{done, dsnNotAcknowledgeable, recordInvalid}
+-- The starred boundary examples hold: each row is shown by computing the definitions on it.
+use mathlib.Core.Path.{refl}
 use Rattle.octets.specs.Numbers.{numberOf, uintAt, octetsOf}
 use Rattle.wire.specs.Each.{every, firstFrom}
 use Rattle.wire.specs.FieldTypes.{isType, widthOf}
 use Rattle.wire.specs.Messages.{isMessage, bodyFits, messageOf, layoutOf, readAnswer, dataHeadOf, meaningOf, readOf, partAt, partOf}
 use Rattle.wire.specs.Table.{keySound, blockEnd, headSound, paddingSound, blockSound, blockAt, tableSound, templateIndex, templateAt}
 use Rattle.wire.specs.Record.{fixedLength, fieldLength, fieldAt, recordValid, recordAnswer}
-use Rattle.messages.specs.declared.message.Message.{Message}
-use Rattle.messages.specs.declared.message.Message.the-variants.{StartAck, Data}
-use Rattle.messages.specs.declared.message.Reading.the-variants as reading
-use Rattle.session.specs.Servers.{server, choose, changed, settle, acknowledged}
+use Rattle.session.specs.Servers.{choose, changed, settle, acknowledged}
 use Rattle.session.specs.Queue.{sumOf, has, dropFront}
 use Rattle.session.specs.Sound.{settingsSound, numbersSound, sound}
-use Rattle.session.specs.Steps.{ack, ackCount, answer, checks, after, settled, storeAfter, written, step}
-use Rattle.session.specs.declared.state.Phase.the-variants.{Closed, Agreed}
-use Rattle.session.specs.declared.state.Active.the-variants.{Server}
-use Rattle.session.specs.declared.state.State.{State}
-
--- A row.
-pub data Star : Type 0 where
-  -- a message, its part and its octets: they are its layout and read back
-  message : Message → List ℕ → List ℕ → Star
-  -- a table that is sound
-  table : List ℕ → Star
-  -- a table, a template ID and a record, and the answer that judging it gives
-  judged : List ℕ → ℕ → List ℕ → ℕ → Star
-  -- how many records are held, the next DSN and the DSN acknowledged; the answer, how many records are held afterwards and how many of
-  -- them count as sent
-  acknowledges : ℕ → ℕ → ℕ → ℕ → ℕ → ℕ → Star
-
--- An exporter of one server, which is agreed, and which was sent all the held records.
-abbrev holding : ℕ → ℕ → State
-holding count next =
-    record {
-      settings = record { session = 7; config = 1; boot = 3600; initial = 0; servers = 1; priorities = replicate 8 0; threshold = 1; duration = 10 };
-      capacity = 1024;
-      delivery = record { servers = set (replicate 8 (server Closed)) 0 (server Agreed); active = Server 0; sent = count; reached = count; timer = 0 };
-      due = false;
-      queue = record { count = count; lengths = replicate 64 2; templates = replicate 64 3; receivers = replicate 64 1 };
-      start = 0;
-      next = next;
-    }
-
--- What a row says.
-abbrev pub Holds : Star → Type 0
-Holds (message m part octets) = (layoutOf m part ≡ octets) × ((readOf octets ≡ reading.Message m) × (partOf octets ≡ part))
-Holds (table octets) = tableSound octets ≡ true
-Holds (judged t id octets answer) = recordAnswer t id octets ≡ answer
-Holds (acknowledges count next dsn answer left sent) =
-    let o = step 32 [] 0 (ack 0 dsn 1) (holding count next) [] in
-    (o .answer ≡ answer) × ((o .state .queue .count ≡ left) × (o .state .delivery .sent ≡ sent))
-
--- Every row holds.
-abbrev pub AllHold : List Star → Type 0
-AllHold [] = Unit {0}
-AllHold (x ∷ xs) = Holds x × AllHold xs
-
--- The table of the examples: one template, ID 3, with one enabled key of type 4.
-abbrev aTable : List ℕ
-aTable =
-    0x01 ∷ 0x01 ∷ 0x00 ∷ 0x01
-    ∷ 0x00 ∷ 0x03 ∷ 0x00 ∷ 0x01 ∷ 0x00 ∷ 0x00 ∷ 0x00 ∷ 0x00 ∷ 0x00 ∷ 0x00 ∷ 0x00 ∷ 0x18
-    ∷ 0x00 ∷ 0x00 ∷ 0x00 ∷ 0x09 ∷ 0x00 ∷ 0x04 ∷ 0x00 ∷ 0x00 ∷ 0x00 ∷ 0x00 ∷ 0x00 ∷ 0x00 ∷ []
-
--- The rows, in the paper's order. Acknowledgements: of three records from DSN 4,294,967,294 on; of an empty queue and the next DSN 5.
-abbrev pub stars : List Star
-stars =
-    message (Data (record { session = 7; template = 3; config = 1; first = true; duplicate = false; dsn = 4294967295 }))
-    (0x00 ∷ 0x05 ∷ [])
-    (0x01 ∷ 0x20 ∷ 0x07 ∷ 0x00 ∷ 0x00 ∷ 0x00 ∷ 0x00 ∷ 0x12 ∷ 0x00 ∷ 0x03 ∷ 0x01 ∷ 0x01 ∷ 0xFF ∷ 0xFF ∷ 0xFF ∷ 0xFF ∷ 0x00 ∷ 0x05 ∷ [])
-    ∷ message (StartAck 7 3600)
-    []
-    (0x01 ∷ 0x02 ∷ 0x07 ∷ 0x00 ∷ 0x00 ∷ 0x00 ∷ 0x00 ∷ 0x0C ∷ 0x00 ∷ 0x00 ∷ 0x0E ∷ 0x10 ∷ [])
-    ∷ table aTable
-    ∷ judged aTable 3 (0x00 ∷ 0x05 ∷ []) done
-    ∷ judged aTable 3 (0x00 ∷ []) recordInvalid
-    ∷ judged aTable 3 (0x00 ∷ 0x05 ∷ 0x00 ∷ []) recordInvalid
-    ∷ acknowledges 3 1 0 done 0 0
-    ∷ acknowledges 3 1 4294967293 done 3 0
-    ∷ acknowledges 3 1 1 dsnNotAcknowledgeable 3 3
-    ∷ acknowledges 0 5 4 done 0 0
-    ∷ acknowledges 0 5 5 dsnNotAcknowledgeable 0 0
-    ∷ []
+use Rattle.session.specs.Steps.{ackCount, answer, checks, after, settled, storeAfter, written, step}
+use Rattle.session.specs.Examples.{stars, AllHold}
 
 pub examples : AllHold stars
 unfolding numberOf uintAt octetsOf every firstFrom isType widthOf isMessage bodyFits messageOf layoutOf readAnswer dataHeadOf meaningOf readOf partAt partOf keySound blockEnd headSound paddingSound blockSound blockAt tableSound templateIndex templateAt fixedLength fieldLength fieldAt recordValid recordAnswer choose changed settle acknowledged sumOf has dropFront settingsSound numbersSound sound ackCount answer checks after settled storeAfter written step

@@ -1,6 +1,6 @@
 -- Laws of the list of held records: what is read of it, what a put adds to it, and what a release takes from it. A put writes its octets
 -- behind all held ones, and a release moves the ring's start by the octets released, so that every other record is read as before.
--- Assumes nothing.
+--
 use mathlib.Core.Path.{_≡_, refl, sym, ap, _∙_}
 use mathlib.Core.Bool.{true}
 use mathlib.Core.List.{List, [], _∷_, _++_}

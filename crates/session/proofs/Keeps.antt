@@ -1,6 +1,6 @@
 -- Each accepted call keeps what holds between the ledger and the exporter: the laws of the held records say what a put and a release leave
 -- of them, and a set gains the server that the ledger notes of the same writing. That the state stays sound is shown for itself
--- (`SoundKept`). Assumes nothing.
+-- (`SoundKept`).
 use mathlib.Core.Path.{_≡_, refl, sym, ap, _∙_}
 use mathlib.Core.Bool.{Bool, true, false, _&&_, _||_, cond}
 use mathlib.Core.List.{List, [], _∷_, _++_}

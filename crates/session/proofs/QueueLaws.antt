@@ -1,6 +1,6 @@
 -- Laws of the queue: sums and entries after a put and after a release, sets of servers, the writings, and the list of held records. A put
 -- replaces one entry and a release moves all of them to the front, so that sums split there; a set is the bits of a number.
--- Assumes nothing.
+--
 use mathlib.Core.Path.{_≡_, refl, sym, ap, _∙_}
 use mathlib.Core.Logic.{_≢_}
 use mathlib.Core.Bool.{Bool, true, false, not, _&&_, _||_, false≢true}

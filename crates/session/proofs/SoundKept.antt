@@ -1,6 +1,6 @@
 -- Set-up gives a sound state, and every call keeps a state sound, whatever its history. A call is accepted only within the limits that
 -- soundness sets; it fills one entry, marks one, or moves all to the front, and leaves the others; then the choice is made anew.
--- Assumes nothing.
+--
 use mathlib.Core.Path.{_≡_, refl, sym, ap, _∙_}
 use mathlib.Core.Logic.{_≢_}
 use mathlib.Core.Bool.{Bool, true, false, not, _||_, cond, false≢true}

@@ -1,4 +1,4 @@
--- Demand 3: what holds of every list of calls from a fresh exporter (01, "History"). Assumes nothing.
+-- Demand 3: what holds of every list of calls from a fresh exporter (01, "History").
 use Prim.Native.Nat.{ℕ, _+_, _-_, _≤_, _<_}
 use mathlib.Core.Path.{_≡_}
 use mathlib.Core.Logic.{_≢_}

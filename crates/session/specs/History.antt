@@ -1,5 +1,5 @@
 -- The history of a session: what can be known of it from the settings, the calls' arguments and their answers (01, "History").
--- Assumes nothing.
+--
 use Prim.Native.Nat.{ℕ, zero, suc, _+_, _-_, _%_}
 use mathlib.Core.Bool.{Bool, false, _&&_, _||_, cond}
 use mathlib.Core.List.{List, [], _∷_, _++_}

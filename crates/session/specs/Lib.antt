@@ -1,4 +1,4 @@
--- The definitions, in reading order: limits, servers, the queue, sound states, the calls and their steps, the history and the claim.
+-- The definitions, in reading order: limits, servers, the queue, sound states, the calls and their steps, the history, the claim and the examples.
 pub mod Limits
 pub mod Servers
 pub mod Queue
@@ -6,4 +6,5 @@ pub mod Sound
 pub mod Steps
 pub mod History
 pub mod Claim
+pub mod Examples
 pub mod Parts

@@ -1,4 +1,4 @@
--- The limits of an exporter (01, "Exporter"), each under one name. The most octets of a record is wire's. Assumes nothing.
+-- The limits of an exporter (01, "Exporter"), each under one name. The most octets of a record is wire's.
 use Prim.Native.Nat.{ℕ}
 
 -- The most servers.

@@ -1,4 +1,4 @@
--- A state by its parts, for functions that are handed the parts. These definitions render no rule of 01. Assumes nothing.
+-- A state by its parts, for functions that are handed the parts. These definitions render no rule of 01.
 use Prim.Native.Nat.{ℕ, _<_}
 use mathlib.Core.Bool.{Bool}
 use mathlib.Core.List.{List, []}

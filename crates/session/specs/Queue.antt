@@ -1,5 +1,5 @@
 -- The queue of held records: three arrays and a ring of octets, and the list of records that they stand for (01, "Exporter").
--- Assumes nothing.
+--
 use Prim.Native.Nat.{ℕ, zero, suc, _+_, _-_, _/_, _%_, _^_}
 use mathlib.Core.Bool.{Bool, false, not, _&&_, _||_}
 use mathlib.Core.List.{List, [], _∷_, _++_}

@@ -1,5 +1,5 @@
 -- Server states, the choice of the active server, and the steps that the exporter and the history take alike (01, "Exporter").
--- Assumes nothing.
+--
 use mathlib.Core.Path.{_≡_}
 use mathlib.Core.Logic.{_≢_}
 use Prim.Native.Nat.{ℕ, zero, suc, _+_, _-_, _≤_, _<_, max}

@@ -1,4 +1,4 @@
--- The limits of the settings, and the sound states (01, "Exporter"). Assumes nothing.
+-- The limits of the settings, and the sound states (01, "Exporter").
 use Prim.Native.Nat.{ℕ, _^_}
 use mathlib.Core.Bool.{Bool, not, _&&_, _||_}
 use mathlib.Core.List.{List, [], _∷_}

@@ -1,5 +1,5 @@
 -- The calls: what each is refused for and in which order, what it leaves, and what it writes (01, "Answer numbers" and "Exporter").
--- Sequence numbers have w bits; the code's have 32. Assumes nothing.
+-- Sequence numbers have w bits; the code's have 32.
 use Prim.Native.Nat.{ℕ, _+_, _-_, _%_, _^_}
 use mathlib.Core.Bool.{Bool, true, false, not, _&&_, _||_, cond}
 use mathlib.Core.List.{List, [], _∷_, _++_}

@@ -1,6 +1,5 @@
 // The exporter's state, passed and returned by value.
-use crate::limits::MAX_HELD;
-use crate::limits::SERVER_ENTRIES;
+use crate::limits;
 
 // A server's phase: closed at first; late after it was too slow.
 pub enum Phase {
@@ -36,7 +35,7 @@ pub struct Settings {
     // how many servers there are, 1 to 8; a server's number is below it
     pub servers: u8,
     // the priority of each server, the greatest number preferred; entries from `servers` on count in no choice
-    pub priorities: [u8; SERVER_ENTRIES],
+    pub priorities: [u8; limits::SERVER_ENTRIES],
     // how many records must be reached before the timer runs, 1 to 64
     pub threshold: u8,
     // after how many ticks the timer has run out, 1 or more
@@ -46,7 +45,7 @@ pub struct Settings {
 // The servers, and how far the active one was sent the queue.
 pub struct Delivery {
     // each server's phase; entries from the server count on count in no choice and no answer
-    pub servers: [Server; SERVER_ENTRIES],
+    pub servers: [Server; limits::SERVER_ENTRIES],
     // the agreed server of highest priority, the lowest number on ties
     pub active: Active,
     // the place in the queue of the next record to send; at most `reached`
@@ -62,11 +61,11 @@ pub struct Queue {
     // how many records are held, at most 64
     pub count: usize,
     // how many octets each has, at most 1,024; together at most the store's length
-    pub lengths: [u16; MAX_HELD],
+    pub lengths: [u16; limits::MAX_HELD],
     // each one's template ID
-    pub templates: [u16; MAX_HELD],
+    pub templates: [u16; limits::MAX_HELD],
     // the set of servers that each was sent to, server k as bit k
-    pub receivers: [u16; MAX_HELD],
+    pub receivers: [u16; limits::MAX_HELD],
 }
 
 // An exporter. The octets of the held records lie in the lent store, one after the other from `start` on, modulo its length.

@@ -1,0 +1,15 @@
+-- The claim of demand 2, and the laws of the crates below, passed on.
+pub mod Demand2
+pub use Rattle.tables.proofs.Each
+pub use Rattle.tables.proofs.FieldTypes
+pub use Rattle.tables.proofs.TypeFacts
+pub use Rattle.tables.proofs.Tables
+pub use Rattle.records.proofs.FieldsWithin
+pub use Rattle.records.proofs.Records
+pub use Rattle.records.proofs.Widths
+pub use Rattle.records.proofs.WalkLaws
+pub use Rattle.readers.proofs.Counts
+pub use Rattle.appending.proofs.Appends
+pub use Rattle.appending.proofs.ReadBack
+pub use Rattle.messages.proofs.Messages
+pub use Rattle.messages.proofs.RoundTrip
