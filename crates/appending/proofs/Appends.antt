@@ -1,5 +1,5 @@
 -- Laws of appending a field: what storing answers, appending as a choice between refusing and storing, and what it says of a value that it
--- fits its type. Assumes nothing.
+-- fits its type.
 use mathlib.Core.Path.{_≡_, refl, sym, ap, _∙_}
 use mathlib.Core.Bool.{Bool, true, false, cond, not, _&&_, false≢true}
 use mathlib.Core.List.{List, _++_}

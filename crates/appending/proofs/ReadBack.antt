@@ -1,5 +1,5 @@
 -- What is appended is read back: where the field of a value stands in a record, whatever follows it, the field that is read there has its
--- length, its value and its octets. A number is read back by one law for every width. Assumes nothing.
+-- length, its value and its octets. A number is read back by one law for every width.
 use mathlib.Core.Path.{_≡_, refl, sym, ap, _∙_}
 use mathlib.Core.Bool.{Bool, true, false, cond, not, _&&_, false≢true}
 use mathlib.Core.List.{List, [], _∷_, _++_}

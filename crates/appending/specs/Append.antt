@@ -1,4 +1,4 @@
--- Writing a single field into the caller's octets (01, "Template table"). Assumes nothing.
+-- Writing a single field into the caller's octets (01, "Template table").
 use Prim.Native.Nat.{ℕ, _+_, _-_, _*_, _^_}
 use mathlib.Core.Path.{_≡_}
 use mathlib.Core.Bool.{Bool, cond, not, _&&_}
@@ -7,10 +7,10 @@ use lib.Dec.{eqb, leb, ltb}
 use lib.ListN.{length, getD}
 use lib.Seq.{sets}
 use Rattle.octets.specs.Answers.{done, _when_, judge, recordInvalid, outputTooShort}
-use Rattle.octets.specs.Numbers.{octetsOf, putAt}
+use Rattle.octets.specs.Numbers.{octetsOf, putAt, asciiLimit}
 use Rattle.tables.specs.Each.{every}
 use Rattle.tables.specs.FieldTypes.{widthOf, isNumber, isSigned, booleanType, stringType, terminatedType, blobType}
-use Rattle.records.specs.Record.{lengthOctets, asciiLimit}
+use Rattle.records.specs.Record.{lengthOctets}
 use Rattle.records.specs.declared.walk.Value.{Value}
 use Rattle.records.specs.declared.walk.Value.the-variants.{Octets, Number, Negative}
 use Rattle.appending.specs.declared.append.Appended.{Appended}

@@ -33,10 +33,10 @@ fn number_fits(kind: u16, n: u64) -> bool
     }
     let width = field_type.width() as usize;
     if field_type.is_signed() {
-        return n <= records::walk::greatest(width) / 2;
+        return n <= octets::greatest(width) / 2;
     }
     if field_type.is_number() {
-        return n <= records::walk::greatest(width);
+        return n <= octets::greatest(width);
     }
     false
 }
@@ -49,7 +49,7 @@ fn negative_fits(kind: u16, n: u64) -> bool
     if !field_type.is_signed() {
         return false;
     }
-    let most = records::walk::greatest(field_type.width() as usize);
+    let most = octets::greatest(field_type.width() as usize);
     (1 <= n) & (n <= most / 2 + 1)
 }
 
@@ -72,7 +72,7 @@ fn octets_fit(kind: u16, octets: &[u8]) -> bool
 {
     let few = octets.len() < LENGTH_LIMIT;
     if kind == FieldType::STRING {
-        return few & records::record::all_below_128(octets, 0, octets.len());
+        return few & octets::all_ascii(octets, 0, octets.len());
     }
     if kind == FieldType::NULL_TERMINATED_STRING {
         return none_zero(octets);
@@ -129,7 +129,8 @@ fn store_terminated(octets: &[u8], out: &mut [u8], at: usize) -> Appended
 // Stores octets behind their 32-bit length at a place: the place after them, or 12 where they do not fit.
 fn store_counted(octets: &[u8], out: &mut [u8], at: usize) -> Appended
     requires { ⌜ length (now octets) < lengthLimit ⌝ }
-    ensures { λ r. ⌜ Stored (octetsOf lengthOctets (length (now (octets .entry))) ++ now (octets .entry)) (now (out .entry)) at r (now (out .exit)) ⌝ }
+    ensures { λ r. ⌜ Stored (octetsOf lengthOctets (length (now (octets .entry))) ++ now (octets .entry))
+        (now (out .entry)) at r (now (out .exit)) ⌝ }
 {
     if octets::saturating_sub(out.len(), at) < LENGTH_OCTETS {
         return Appended::Refused(Answer::OUTPUT_TOO_SHORT);
@@ -180,7 +181,7 @@ pub fn append(kind: u16, value: Value, octets: &[u8], out: &mut [u8], at: usize)
         }
         Value::Negative(n) => {
             if negative_fits(kind, n) {
-                return store_number(width, records::walk::greatest(width) - n + 1, out, at);
+                return store_number(width, octets::greatest(width) - n + 1, out, at);
             }
             Appended::Refused(Answer::RECORD_INVALID)
         }

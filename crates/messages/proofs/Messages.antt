@@ -1,4 +1,4 @@
--- Laws of messages: what an answer of 0 says of a message, and what writing answers. Assumes nothing.
+-- Laws of messages: what an answer of 0 says of a message, and what writing answers.
 use mathlib.Core.Path.{_≡_, refl, sym, ap, _∙_}
 use mathlib.Core.Bool.{Bool, true, false, cond, not, _&&_}
 use mathlib.Core.List.{List, [], _∷_, _++_}

@@ -1,5 +1,5 @@
 -- What is written reads back as what was meant, what reads without refusal is the layout of what it says, and answers that are enums
--- have the answer numbers of the paper (01, "Messages" and "Answer numbers"). Assumes nothing.
+-- have the answer numbers of the paper (01, "Messages" and "Answer numbers").
 use mathlib.Core.Path.{_≡_, refl, sym, ap, subst, _∙_}
 use mathlib.Core.Bool.{Bool, true, false, cond, not}
 use mathlib.Core.List.{List, [], _∷_, _++_, append-nil}

@@ -1,4 +1,4 @@
--- Messages: their layouts, reading and writing alone (01, "Messages" and "Answer numbers"). Assumes nothing.
+-- Messages: their layouts, reading and writing alone (01, "Messages" and "Answer numbers").
 use mathlib.Core.Path.{_≡_}
 use Prim.Native.Nat.{ℕ, _+_, _-_, _%_, _/_, _^_, _<_, _≤_}
 use mathlib.Core.Bool.{Bool, true, false, cond, not, _&&_, _||_}

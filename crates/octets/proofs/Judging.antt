@@ -1,5 +1,5 @@
 -- Laws of judging: what an answer of 0 says of the checks, one list of checks behind another, and the number of an answer that is an enum.
--- Each goes by the checks in their order, or by whether the answer is 0. Assumes nothing.
+-- Each goes by the checks in their order, or by whether the answer is 0.
 use mathlib.Core.Path.{_≡_, refl, sym, _∙_}
 use mathlib.Core.Bool.{Bool, true, false, cond}
 use mathlib.Core.List.{List, [], _∷_, _++_}

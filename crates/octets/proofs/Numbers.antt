@@ -1,14 +1,15 @@
--- Laws of numbers in octets, each once for every width. Those of `numberOf` hold for either order of octets. Assumes nothing.
+-- Laws of numbers in octets, each once for every width. Those of `numberOf` hold for either order of octets.
 use mathlib.Core.Path.{_≡_, refl, sym, ap, _∙_}
 use mathlib.Core.List.{List, [], _∷_, _++_, append-nil, append-assoc}
 use Prim.Native.Nat.{ℕ, zero, suc, _+_, _-_, _*_, _/_, _%_, _^_, _≤_, _<_}
 use native.Mathlib.Nat.{add-zero, zero-add, add-suc, add-assoc, le-refl, pow-zero, pow-suc, mul-assoc, mul-comm, div-one, div-add-mod', div-lt-iff-lt-mul, div-div-eq-div-mul}
 use native.Mathlib.Numerals.{add-one}
 use native.Mathlib.Omega.{arith}
+use borrow.Author.Tests.{le-leb}
 use lib.Dec.{lit<}
 use lib.ListN.{length, getD, take, drop, length-append, length-drop, List·getD-append, List·getD-eq-default}
 use lib.Seq.{take-suc, getD-drop, getD-append-add}
-use Rattle.octets.specs.Numbers.{numberOf, uintAt, octetsOf, Octets}
+use Rattle.octets.specs.Numbers.{numberOf, uintAt, octetsOf, Octets, smaller}
 
 -- ---- the number of given digits
 
@@ -145,3 +146,7 @@ write-back s octet at (suc w) h =
     ∙ ap (λ (l : List ℕ). l ++ (x ∷ [])) (write-back s octet at w (omega arith))
     ∙ ap (λ (k : ℕ). take w (drop at s) ++ (k ∷ [])) (sym (getD-drop at s w 0))
     ∙ sym (take-suc (drop at s) w 0 (omega (arith, length-drop at s)))
+
+-- up to 8 octets, the width that `greatest` counts is the width itself
+pub greatest-of : (w : ℕ) → w ≤ 8 → {r : ℕ} → r ≡ 256 ^ smaller w 8 - 1 → r ≡ 256 ^ w - 1
+greatest-of w h e = rw (le-leb w 8 h) at e

@@ -1,5 +1,5 @@
 -- Octets stored at a place: what fits is stored and what does not changes nothing; two stores, one behind the other, are one. A number is
--- stored in two halves, or octet by octet from its last one. Assumes nothing.
+-- stored in two halves, or octet by octet from its last one.
 use mathlib.Core.Path.{_≡_, refl, sym, ap, _∙_}
 use mathlib.Core.Bool.{Bool, true, false, cond}
 use mathlib.Core.List.{List, [], _∷_, _++_, append-assoc}

@@ -1,4 +1,4 @@
--- The answer numbers by name, and how a call's refusals are judged (01, "Answer numbers"). Assumes nothing.
+-- The answer numbers by name, and how a call's refusals are judged (01, "Answer numbers").
 use Prim.Native.Nat.{ℕ}
 use mathlib.Core.Bool.{Bool, cond}
 use mathlib.Core.List.{List, [], _∷_}

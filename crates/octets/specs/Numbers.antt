@@ -1,10 +1,11 @@
--- Numbers in octets at any width, most significant octet first (01, "Messages"), and octets stored at a place. Assumes nothing.
+-- Numbers in octets at any width, most significant octet first (01, "Messages"), and octets stored at a place.
 use Prim.Native.Nat.{ℕ, zero, suc, _+_, _*_, _/_, _%_, _<_}
-use mathlib.Core.Bool.{cond}
+use mathlib.Core.Bool.{Bool, cond}
 use mathlib.Core.List.{List, [], _∷_, _++_}
-use lib.Dec.{leb}
+use lib.Dec.{leb, ltb}
 use lib.ListN.{length, getD}
 use lib.Seq.{sets}
+use Rattle.octets.specs.Every.{every}
 
 -- The number whose w digits to the base 256 are d 0, the most significant, to d (w - 1).
 -- Only d knows the order in which the octets stand, so what is shown of this number holds for either order.
@@ -28,3 +29,15 @@ putAt out at octets = cond (leb (at + length octets) (length out)) (sets out at 
 -- Every element is below 256, as in any slice of octets.
 abbrev pub Octets : List ℕ → Type 0
 Octets s = (i : ℕ) → getD s i 0 < 256
+
+-- The smaller of two numbers.
+abbrev pub smaller : ℕ → ℕ → ℕ
+smaller a b = cond (leb a b) a b
+
+-- ASCII octets are below this.
+abbrev pub asciiLimit : ℕ
+asciiLimit = 128
+
+-- Each of the n octets from place `at` on is below 128. A place past the end reads 0, which is below.
+abbrev pub allAscii : List ℕ → ℕ → ℕ → Bool
+allAscii s at n = every n (λ i. ltb (getD s (at + i) 0) asciiLimit)

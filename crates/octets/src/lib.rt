@@ -1,4 +1,4 @@
-// Unsigned numbers of 8, 16, 32 and 64 bits at a place of a slice, most significant octet first, octets copied to a place,
+// Unsigned numbers of 8, 16, 32 and 64 bits at a place of a slice, most significant octet first, octets copied to a place or judged there,
 // and the answer numbers that all crates share.
 //
 // Every function is total: a read past the end reads 0, and a write that does not fit changes nothing.
@@ -7,7 +7,7 @@ ghost use mathlib.Core.List.{[], _∷_};
 ghost use Prim.Native.Nat.{_+_, _-_, _%_, _^_};
 ghost use lib.ListN.{getD};
 ghost use Rattle.octets.specs.Answers.{answerNumbers};
-ghost use Rattle.octets.specs.Numbers.{uintAt, octetsOf, putAt};
+ghost use Rattle.octets.specs.Numbers.{uintAt, octetsOf, putAt, smaller, allAscii};
 
 // A name for the constants below, the answer numbers of every call; answers themselves are `u8`.
 pub struct Answer {
@@ -174,6 +174,26 @@ pub fn get_u64(s: &[u8], at: usize) -> u64
     (get_u32(s, at) as u64) * 4294967296 + (get_u32(s, at + 4) as u64)
 }
 
+// The greatest numbers of 0 to 8 octets.
+const GREATEST: [u64; 9] = [
+    0,
+    255,
+    65535,
+    16777215,
+    4294967295,
+    1099511627775,
+    281474976710655,
+    72057594037927935,
+    18446744073709551615,
+];
+
+// The greatest number of w octets; a width past 8 counts as 8.
+pub fn greatest(w: usize) -> u64
+    ensures { λ r. ⌜ r ≡ 256 ^ smaller w 8 - 1 ⌝ }
+{
+    if w <= 8 { GREATEST[w] } else { GREATEST[8] }
+}
+
 // The octet i past a place.
 fn octet(s: &[u8], at: usize, i: usize) -> u8
     ensures { λ r. ⌜ r ≡ getD (now (s .entry)) (at + i) 0 ⌝ }
@@ -273,4 +293,23 @@ pub fn copy(out: &mut [u8], at: usize, octets: &[u8])
         out[at + i] = octets[i];
         i += 1;
     }
+}
+
+// ASCII octets are below this.
+const ASCII_LIMIT: u8 = 128;
+
+// Whether n octets from a place on are below 128.
+pub fn all_ascii(s: &[u8], at: usize, n: usize) -> bool
+    ensures { λ r. ⌜ r ≡ allAscii (now (s .entry)) at n ⌝ }
+{
+    // What lies past the end reads 0, so the loop ends there.
+    let left = saturating_sub(s.len(), at);
+    let count = n - saturating_sub(n, left);
+    let mut ok = true;
+    let mut i: usize = 0;
+    while i < count {
+        ok = ok & (s[at + i] < ASCII_LIMIT);
+        i += 1;
+    }
+    ok
 }

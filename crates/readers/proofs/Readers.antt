@@ -1,5 +1,5 @@
 -- What the walks over a `Reader` share. A reader owns what its record and its place own, one after the other, and it is had twice, since
--- both are Copy; so are a table, an ID and a record that are passed. A place at a cursor owns nothing but facts. Assumes nothing.
+-- both are Copy; so are a table, an ID and a record that are passed. A place at a cursor owns nothing but facts.
 use mathlib.Core.Path.{_≡_, refl}
 use mathlib.Core.List.{List, [], _∷_}
 use Prim.Native.Nat.{ℕ}

@@ -1,5 +1,5 @@
 -- A field lies within its record: whatever its type, the field that begins at a place is no longer than what is left from there.
--- Every length that a definition answers was compared with what is left, or is 0. Assumes nothing.
+-- Every length that a definition answers was compared with what is left, or is 0.
 use mathlib.Core.Path.{_≡_}
 use mathlib.Core.Bool.{Bool, true, false, cond, _&&_}
 use mathlib.Core.List.{List}

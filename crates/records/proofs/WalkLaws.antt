@@ -1,17 +1,16 @@
 -- Laws of a whole walk over a valid record: it never refuses, visits the fields of the enabled keys in order, ends at the record's end, and
 -- the fields, laid end to end, are the record. From key k on the claim goes by the keys that are left: a disabled key changes nothing, and
 -- an enabled one gives one field and leaves the rest of the record.
--- Assumes nothing.
 use mathlib.Core.Path.{_≡_, refl, sym, ap, _∙_, fun-ext}
 use mathlib.Core.Bool.{Bool, true, false, cond, not, _&&_}
 use mathlib.Core.List.{List, [], _∷_, _++_, map, map-map}
 use Prim.Native.Nat.{ℕ, zero, suc, _+_, _-_, _≤_, _<_}
-use native.Mathlib.Nat.{add-zero, zero-add, le-refl}
+use native.Mathlib.Nat.{add-zero}
 use native.Mathlib.Numerals.{add-one}
 use native.Mathlib.Omega.{arith}
 use borrow.Author.Tests.{le-leb, lt-leb, ne-eqb, ltb-true, eqb-true}
 use lib.Dec.{eqb, leb, ltb}
-use lib.ListN.{length, length-map, take, drop, take-append-drop, drop-of-length-le}
+use lib.ListN.{length, take, drop, take-append-drop, drop-of-length-le}
 use lib.Seq.{drop-drop}
 use Rattle.octets.specs.Answers.{done, unsoundTable, templateNotFound, recordInvalid}
 use Rattle.tables.specs.Each.{every}

@@ -1,4 +1,4 @@
--- Numbers of at most 8 octets are numbers of 64 bits, and half of 256 to the w is a number for every w above 0. Assumes nothing.
+-- Numbers of at most 8 octets are numbers of 64 bits, and half of 256 to the w is a number for every w above 0.
 use mathlib.Core.Path.{_≡_, refl, sym}
 use mathlib.Core.Bool.{Bool, true, false}
 use mathlib.Core.List.{List}

@@ -1,12 +1,11 @@
 -- Fields and records: how long the field of a type is that begins at a place, and which octets are a valid record (01, "Template table").
--- Assumes nothing.
 use Prim.Native.Nat.{ℕ, zero, suc, _+_, _-_}
 use mathlib.Core.Bool.{Bool, cond, not, _&&_, _||_}
 use mathlib.Core.List.{List, [], _∷_, _++_}
 use lib.Dec.{eqb, ltb}
 use lib.ListN.{length, getD}
 use Rattle.octets.specs.Answers.{_when_, judge, recordInvalid}
-use Rattle.octets.specs.Numbers.{uintAt}
+use Rattle.octets.specs.Numbers.{uintAt, allAscii}
 use Rattle.tables.specs.Each.{every, firstFrom}
 use Rattle.tables.specs.FieldTypes.{widthOf, booleanType, stringType, terminatedType, blobType}
 use Rattle.tables.specs.Table.{keyAt, keyType, isEnabled, templateOf, templateChecks}
@@ -28,10 +27,6 @@ fixedLength type r at =
 abbrev pub lengthOctets : ℕ
 lengthOctets = 4
 
--- A string's octets are below this.
-abbrev pub asciiLimit : ℕ
-asciiLimit = 128
-
 -- A blob: a 32-bit length, then as many octets.
 unfoldable pub blobLength : List ℕ → ℕ → ℕ
 blobLength r at =
@@ -41,7 +36,7 @@ blobLength r at =
 -- A string: a blob whose octets after its length are below 128.
 unfoldable pub stringLength : List ℕ → ℕ → ℕ
 stringLength r at =
-    cond (every (blobLength r at - lengthOctets) (λ i. ltb (getD r (at + lengthOctets + i) 0) asciiLimit)) (blobLength r at) 0
+    cond (allAscii r (at + lengthOctets) (blobLength r at - lengthOctets)) (blobLength r at) 0
 
 -- A null terminated string ends with the first zero from its place on, and that zero counts.
 unfoldable pub terminatedLength : List ℕ → ℕ → ℕ

@@ -1,4 +1,4 @@
--- Going through a record field by field (01, "Template table"). Assumes nothing.
+-- Going through a record field by field (01, "Template table").
 use Prim.Native.Nat.{ℕ, zero, suc, _+_, _-_, _*_, _^_}
 use mathlib.Core.Bool.{Bool, cond, not, _&&_}
 use mathlib.Core.List.{List, [], _∷_, _++_, map}

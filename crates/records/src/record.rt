@@ -1,13 +1,12 @@
 // Records: the length of a field, and whether octets are a valid record under a template.
 ghost use mathlib.Core.Path.{_≡_};
-ghost use mathlib.Core.Bool.{true};
 ghost use Prim.Native.Nat.{_+_, _-_, _*_, _≤_, _<_};
-ghost use lib.Dec.{ltb, eqb};
+ghost use lib.Dec.{eqb};
 ghost use lib.ListN.{length, getD};
-ghost use Rattle.tables.specs.Each.{every, firstFrom};
+ghost use Rattle.tables.specs.Each.{firstFrom};
 ghost use Rattle.tables.specs.Table.{keyOctets, keyAt, isEnabled};
 ghost use Rattle.tables.specs.FieldTypes.{widthOf};
-ghost use Rattle.records.specs.Record.{asciiLimit, blobLength, stringLength, terminatedLength, fieldLength, lengthUnder, recordValid, recordAnswer};
+ghost use Rattle.records.specs.Record.{blobLength, stringLength, terminatedLength, fieldLength, lengthUnder, recordValid, recordAnswer};
 use octets::Answer;
 use tables::field_type::FieldType;
 use tables::table::Found;
@@ -18,9 +17,6 @@ use tables::table::Template;
 
 // The octets of the 32-bit length in front of a string or blob.
 pub const LENGTH_OCTETS: usize = 4;
-
-// A string's octets are below this.
-const ASCII_LIMIT: u8 = 128;
 
 // The length of the field of a type of a fixed width at a place, 0 where none is valid there.
 fn fixed_length(kind: u16, width: usize, r: &[u8], at: usize) -> usize
@@ -46,25 +42,11 @@ fn blob_length(r: &[u8], at: usize) -> usize
     if octets::saturating_sub(r.len(), at) < LENGTH_OCTETS {
         return 0;
     }
-    let n = tables::within::u32_at(r, at) as usize;
+    let n = crate::within::u32_at(r, at) as usize;
     if octets::saturating_sub(r.len(), at + LENGTH_OCTETS) < n {
         return 0;
     }
     LENGTH_OCTETS + n
-}
-
-// Whether n octets from a place on are below 128.
-pub fn all_below_128(r: &[u8], at: usize, n: usize) -> bool
-    requires { ⌜ at + n ≤ length (now r) ⌝ }
-    ensures { λ b. ⌜ b ≡ every n (λ i. ltb (getD (now (r .entry)) (at + i) 0) asciiLimit) ⌝ }
-{
-    let mut ok = true;
-    let mut i: usize = 0;
-    while i < n {
-        ok = ok & (r[at + i] < ASCII_LIMIT);
-        i += 1;
-    }
-    ok
 }
 
 // The length of the string at a place, 0 where none is valid there.
@@ -75,7 +57,7 @@ fn string_length(r: &[u8], at: usize) -> usize
     if n == 0 {
         return 0;
     }
-    if all_below_128(r, at + LENGTH_OCTETS, n - LENGTH_OCTETS) {
+    if octets::all_ascii(r, at + LENGTH_OCTETS, n - LENGTH_OCTETS) {
         return n;
     }
     0
@@ -124,7 +106,7 @@ fn varying_length(kind: u16, r: &[u8], at: usize) -> usize
 }
 
 // The length of the field of a type at a place of a record, 0 where none is valid there.
-pub fn field_length(kind: u16, r: &[u8], at: usize) -> usize
+pub(crate) fn field_length(kind: u16, r: &[u8], at: usize) -> usize
     ensures { λ n. ⌜ n ≡ fieldLength kind (now (r .entry)) at ⌝ }
 {
     let width = FieldType { number: kind }.width() as usize;
@@ -135,11 +117,11 @@ pub fn field_length(kind: u16, r: &[u8], at: usize) -> usize
 }
 
 // Whether key k of a template is enabled.
-pub fn is_enabled(t: &[u8], m: Template, k: usize) -> bool
+pub(crate) fn is_enabled(t: &[u8], m: Template, k: usize) -> bool
     requires { ⌜ m .keys + keyOctets * k + keyOctets ≤ length (now t) ⌝ }
     ensures { λ b. ⌜ b ≡ isEnabled (now (t .entry)) (keyAt (m .keys) k) ⌝ }
 {
-    tables::within::u32_at(t, m.keys + KEY_OCTETS * k + KEY_ATTRIBUTES_AT) == 0
+    crate::within::u32_at(t, m.keys + KEY_OCTETS * k + KEY_ATTRIBUTES_AT) == 0
 }
 
 // The length of key k's field at a place of a record; 0 for a disabled key, and where none is valid there.
@@ -149,7 +131,7 @@ fn length_under(t: &[u8], m: Template, r: &[u8], k: usize, at: usize) -> usize
 {
     // As in `field_length`, written out here: every field of every record that is judged comes this way.
     if is_enabled(t, m, k) {
-        let kind = tables::within::u16_at(t, m.keys + KEY_OCTETS * k + KEY_TYPE_AT);
+        let kind = crate::within::u16_at(t, m.keys + KEY_OCTETS * k + KEY_TYPE_AT);
         let width = FieldType { number: kind }.width() as usize;
         if 0 < width {
             return fixed_length(kind, width, r, at);
@@ -184,10 +166,7 @@ pub fn record_answer(t: &[u8], id: u16, r: &[u8]) -> u8
     ensures { λ n. ⌜ n ≡ recordAnswer (now (t .entry)) id (now (r .entry)) ⌝ }
 {
     // `&t[..]` lends the table anew: to pass the parameter on would copy it first.
-    if !tables::table::table_sound(&t[..]) {
-        return Answer::UNSOUND_TABLE;
-    }
-    match tables::table::locate(t, id) {
+    match tables::table::find_template(&t[..], id) {
         Found::At(m) => {
             if fields_valid(t, m, r) {
                 return Answer::DONE;

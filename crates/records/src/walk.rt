@@ -1,6 +1,6 @@
 // The field walk: the fields of a borrowed record, one by one, by a cursor that is passed by value.
 ghost use mathlib.Core.Path.{_≡_};
-ghost use Prim.Native.Nat.{_+_, _-_, _*_, _^_, _≤_};
+ghost use Prim.Native.Nat.{_+_, _-_, _*_, _≤_};
 ghost use lib.ListN.{length};
 ghost use Rattle.tables.specs.Table.{keyOctets};
 ghost use Rattle.records.specs.Walk.{signedAt, valueAt, nextKey, stepUnder, stepOf, stepFrom, openOf};
@@ -43,34 +43,13 @@ pub enum Step {
     Refused(u8),
 }
 
-// The greatest numbers of 0 to 8 octets.
-const GREATEST: [u64; 9] = [
-    0,
-    255,
-    65535,
-    16777215,
-    4294967295,
-    1099511627775,
-    281474976710655,
-    72057594037927935,
-    18446744073709551615,
-];
-
-// The greatest number of w octets.
-pub fn greatest(w: usize) -> u64
-    requires { ⌜ w ≤ 8 ⌝ }
-    ensures { λ r. ⌜ r ≡ 256 ^ w - 1 ⌝ }
-{
-    GREATEST[w]
-}
-
 // The two's complement number in the w octets at a place.
 fn signed_at(r: &[u8], at: usize, w: usize) -> Value
     requires { ⌜ (1 ≤ w) × (w ≤ 8) ⌝ }
     ensures { λ v. ⌜ v ≡ signedAt (now (r .entry)) at w ⌝ }
 {
     let n = octets::get_uint(r, at, w);
-    let most = greatest(w);
+    let most = octets::greatest(w);
     if n <= most / 2 {
         return Value::Number(n);
     }
@@ -118,7 +97,7 @@ fn step_under(t: &[u8], m: Template, r: &[u8], c: Cursor) -> Step
     if m.count <= k {
         return Step::End;
     }
-    let kind = tables::within::u16_at(
+    let kind = crate::within::u16_at(
         t,
         m.keys + tables::table::KEY_OCTETS * k + tables::table::KEY_TYPE_AT,
     );
@@ -158,10 +137,7 @@ pub fn step_walk(t: &[u8], id: u16, r: &[u8], c: Cursor) -> Step
     ensures { λ s. ⌜ s ≡ stepOf (now (t .entry)) id (now (r .entry)) c ⌝ }
 {
     // `&t[..]` lends the table anew: to pass the parameter on would copy it first.
-    if !tables::table::table_sound(&t[..]) {
-        return Step::Refused(Answer::UNSOUND_TABLE);
-    }
-    match tables::table::locate(t, id) {
+    match tables::table::find_template(&t[..], id) {
         Found::At(m) => step_under(t, m, r, c),
         Found::Refused(answer) => Step::Refused(answer),
     }

@@ -1,25 +1,14 @@
--- Laws of Booleans and clauses, of `every` and of `firstFrom`, which every loop's proof cites. What every number below a bound passes goes
--- by induction on the bound. Assumes nothing.
-use mathlib.Core.Path.{_≡_, refl, sym, ap, _∙_}
+-- Laws of Booleans and clauses and of `firstFrom`, which every loop's proof cites, with the laws of `every`.
+use mathlib.Core.Path.{_≡_, refl, sym, ap}
 use mathlib.Core.Bool.{Bool, true, false, cond, not, _&&_, false≢true}
 use Prim.Native.Nat.{ℕ, zero, suc, _+_, _-_, _≤_, _<_}
 use native.Mathlib.Nat.{not-suc-le-zero, le-refl}
-use native.Mathlib.Numerals.{add-one}
 use native.Mathlib.Omega.{arith}
-use borrow.Author.Tests.{ltb-true, ltb-false}
-use lib.Dec.{ltb}
 use Rattle.octets.proofs.Stores.{cond-cases}
-use Rattle.tables.specs.Each.{every, firstFrom}
+use Rattle.tables.specs.Each.{firstFrom}
+pub use Rattle.octets.proofs.Every.{and-left, and-right, every-more, every-at, every-intro, every-false, every-step, every-same, every-fewer}
 
 -- ---- bools
-
-pub and-left : (a b : Bool) → a && b ≡ true → a ≡ true
-and-left true b e = refl
-and-left false b e = e
-
-pub and-right : (a b : Bool) → a && b ≡ true → b ≡ true
-and-right true b e = e
-and-right false b e = absurd (false≢true e)
 
 pub and-false : (a : Bool) → a && false ≡ false
 and-false true = refl
@@ -50,55 +39,6 @@ pub same-true : (a b : Bool) → same a b ≡ true → a ≡ b
 same-true true b e = sym e
 same-true false true e = absurd (false≢true e)
 same-true false false e = refl
-
--- ---- every
-
--- one number more
-pub every-more : (n : ℕ) (p : ℕ → Bool) → every (n + 1) p ≡ every n p && p n
-unfolding every
-every-more n p = rw add-one refl
-
--- what every number below n passes, each does
-pub every-at : (n : ℕ) (p : ℕ → Bool) → every n p ≡ true → (i : ℕ) → i < n → p i ≡ true
-unfolding every
-every-at zero p e i l = absurd (not-suc-le-zero l)
-every-at (suc n) p e i l = go (ltb i n) refl (λ k. every-at n p (and-left (every n p) (p n) e) i k)
-  where
-    go : (b : Bool) → ltb i n ≡ b → (i < n → p i ≡ true) → p i ≡ true
-    go true t below = below (ltb-true i n t)
-    go false t below =
-        let q : n ≡ i = omega (arith, ltb-false i n t) in
-        ap p (sym q) ∙ and-right (every n p) (p n) e
-
--- what each number below n passes, every one does
-pub every-intro : (n : ℕ) (p : ℕ → Bool) → ((i : ℕ) → i < n → p i ≡ true) → every n p ≡ true
-unfolding every
-every-intro zero p h = refl
-every-intro (suc n) p h = rw (every-intro n p (λ i l. h i (omega arith))) (h n (le-refl (suc n)))
-
--- one number that fails
-pub every-false : (n : ℕ) (p : ℕ → Bool) (i : ℕ) → i < n → p i ≡ false → every n p ≡ false
-every-false n p i l e = go (every n p) refl
-  where
-    go : (b : Bool) → every n p ≡ b → every n p ≡ false
-    go true t = absurd (false≢true (sym e ∙ every-at n p t i l))
-    go false t = t
-
--- what all pass up to i, and i passes
-pub every-step : (i : ℕ) (p : ℕ → Bool) → every i p ≡ true → p i ≡ true → every (i + 1) p ≡ true
-every-step i p h e = every-more i p ∙ ap (λ (b : Bool). b && p i) h ∙ e
-
--- tests that agree below n
-pub every-same : (n : ℕ) (p q : ℕ → Bool) → ((i : ℕ) → i < n → p i ≡ q i) → every n p ≡ every n q
-unfolding every
-every-same zero p q h = refl
-every-same (suc n) p q h = rw (every-same n p q (λ i l. h i (omega arith)), h n (le-refl (suc n)))
-
--- fewer numbers
-pub every-fewer : (n : ℕ) (p : ℕ → Bool) → every n p ≡ true → (m : ℕ) → m ≤ n → every m p ≡ true
-unfolding every
-every-fewer n p e zero l = refl
-every-fewer n p e (suc m) l = rw (every-fewer n p e m (omega arith)) (every-at n p e m l)
 
 -- ---- the first that passes
 

@@ -1,4 +1,4 @@
--- The table of field types: rules that are computed over its rows, once. Assumes nothing.
+-- The table of field types: rules that are computed over its rows, once.
 use mathlib.Core.Path.{_≡_, refl, sym, _∙_}
 use mathlib.Core.Bool.{Bool, true, false, cond, _&&_, _||_}
 use mathlib.Core.List.{List, [], _∷_, _++_}

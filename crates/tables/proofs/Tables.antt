@@ -1,8 +1,8 @@
 -- Laws of template tables: IDs that rise all differ; what a sound block and a sound table say of their numbers; a found template's key
--- blocks lie within the table. The code's loops over blocks and keys cite them. Assumes nothing.
-use mathlib.Core.Path.{_≡_, refl, ap}
+-- blocks lie within the table. The code's loops over blocks and keys cite them.
+use mathlib.Core.Path.{_≡_, refl, sym, ap}
 use mathlib.Core.Bool.{Bool, true, false, cond, not, _&&_}
-use mathlib.Core.List.{List}
+use mathlib.Core.List.{List, [], _∷_, _++_}
 use Prim.Native.Nat.{ℕ, zero, suc, _+_, _-_, _*_, _≤_, _<_}
 use native.Mathlib.Nat.{le-refl}
 use native.Mathlib.Omega.{arith}
@@ -10,10 +10,10 @@ use native.Mathlib.Numerals.{add-one}
 use borrow.Author.Tests.{ltb-true, ltb-false, leb-true, leb-false, eqb-true, ne-eqb}
 use lib.Dec.{ltb, leb, eqb, lit≤}
 use lib.ListN.{length}
-use Rattle.octets.specs.Answers.{done, templateNotFound}
+use Rattle.octets.specs.Answers.{Check, _when_, judge, done, unsoundTable, templateNotFound}
 use Rattle.octets.proofs.Judging.{kept}
 use Rattle.tables.specs.Each.{every, absent, differ}
-use Rattle.tables.specs.Table.{keyOctets, blockHeadOctets, maxKeys, maxTableOctets, maxTemplates, bigEndianFlags, keyCount, blockFlags, blockLength, blockOctets, blockEnd, headSound, blockSound, blockAt, blocksSound, templatesDiffer, tableFlags, templateCount, tableSound, isMissing, templateIndex, templateAt, templateOf, findAnswer, findOf, locateOf, foundAnswer}
+use Rattle.tables.specs.Table.{keyOctets, blockHeadOctets, maxKeys, maxTableOctets, maxTemplates, bigEndianFlags, keyCount, blockFlags, blockLength, blockOctets, blockEnd, headSound, blockSound, blockAt, blocksSound, templatesDiffer, tableFlags, templateCount, tableSound, isMissing, templateIndex, templateAt, templateOf, templateChecks, findAnswer, findOf, locateOf, foundAnswer}
 use Rattle.tables.specs.declared.table.Template.{Template}
 use Rattle.tables.specs.declared.table.Found.the-variants.{At, Refused}
 use Rattle.tables.proofs.Each.{clause-first, clause-rest, every-at, every-step, every-intro, and-left, and-right}
@@ -136,23 +136,7 @@ pub template-few : (t : List ℕ) (id : ℕ) → tableSound t ≡ true → isMis
 unfolding templateAt
 template-few t id e m = found-head t id e m .few
 
--- ---- what locating a template says
-
-pub located : (t : List ℕ) (id : ℕ) (m : Template) → locateOf t id ≡ At m → (isMissing t id ≡ false) × (templateOf t id ≡ m)
-unfolding locateOf
-located t id m = go (isMissing t id)
-  where
-    go : (b : Bool) → cond b (Refused templateNotFound) (At (templateOf t id)) ≡ At m → (b ≡ false) × (templateOf t id ≡ m)
-    go true e = let z : _≡_ {A = ℕ} 0 1 = cc in absurd (omega arith)
-    go false e = (refl, cc)
-
-pub not-located : (t : List ℕ) (id a : ℕ) → locateOf t id ≡ Refused a → (isMissing t id ≡ true) × (a ≡ templateNotFound)
-unfolding locateOf
-not-located t id a = go (isMissing t id)
-  where
-    go : (b : Bool) → cond b (Refused templateNotFound) (At (templateOf t id)) ≡ Refused a → (b ≡ true) × (a ≡ templateNotFound)
-    go true e = (refl, cc)
-    go false e = let z : _≡_ {A = ℕ} 0 1 = cc in absurd (omega arith)
+-- ---- what finding a template says
 
 -- in a sound table finding is locating
 pub find-located : (t : List ℕ) (id : ℕ) → tableSound t ≡ true → findOf t id ≡ locateOf t id
@@ -169,7 +153,33 @@ pub found-number : (t : List ℕ) (id : ℕ) → foundAnswer (findOf t id) ≡ f
 unfolding findOf
 found-number t id = kept foundAnswer (At (templateOf t id)) Refused refl (λ a. refl) (findAnswer t id)
 
-pub located-within : (t : List ℕ) (id : ℕ) (m : Template) → tableSound t ≡ true → locateOf t id ≡ At m → m .keys + keyOctets * m .count ≤ length t
-located-within t id m s e =
-    let l = located t id m e in
-    rw (l .1) at (template-within t id s (l .0))
+-- a template that is found: the table is sound, and this is its template with the ID
+pub found : (t : List ℕ) (id : ℕ) (m : Template) → findOf t id ≡ At m
+    → (tableSound t ≡ true) × ((isMissing t id ≡ false) × (templateOf t id ≡ m))
+unfolding findOf
+found t id m = go (tableSound t) (isMissing t id)
+  where
+    go : (s b : Bool) → let answer = judge ((unsoundTable when not s) ∷ (templateNotFound when b) ∷ []) in
+        cond (eqb answer done) (At (templateOf t id)) (Refused answer) ≡ At m → (s ≡ true) × ((b ≡ false) × (templateOf t id ≡ m))
+    go true true e = let z : _≡_ {A = ℕ} 0 1 = cc in absurd (omega arith)
+    go true false e = (refl, (refl, cc))
+    go false b e = let z : _≡_ {A = ℕ} 0 1 = cc in absurd (omega arith)
+
+-- its key blocks lie within the table
+pub found-within : (t : List ℕ) (id : ℕ) (m : Template) → findOf t id ≡ At m → m .keys + keyOctets * m .count ≤ length t
+found-within t id m e =
+    let f = found t id m e in
+    rw (f .1 .1) at (template-within t id (f .0) (f .1 .0))
+
+-- a refusal is not 0, and is the answer of whatever is judged further
+pub not-found : (t : List ℕ) (id a : ℕ) → findOf t id ≡ Refused a
+    → (eqb a done ≡ false) × ((more : List Check) → judge (templateChecks t id ++ more) ≡ a)
+unfolding findOf
+not-found t id a = go (tableSound t) (isMissing t id)
+  where
+    go : (s b : Bool) → let checks = (unsoundTable when not s) ∷ (templateNotFound when b) ∷ [] in
+        cond (eqb (judge checks) done) (At (templateOf t id)) (Refused (judge checks)) ≡ Refused a
+        → (eqb a done ≡ false) × ((more : List Check) → judge (checks ++ more) ≡ a)
+    go true true e = let h : templateNotFound ≡ a = cc in (rw (sym h) refl, λ more. h)
+    go true false e = let z : _≡_ {A = ℕ} 0 1 = cc in absurd (omega arith)
+    go false b e = let h : unsoundTable ≡ a = cc in (rw (sym h) refl, λ more. h)

@@ -1,5 +1,4 @@
 -- Facts of the table of field types. What a test finds of every row holds of the row with any number, and the test is computed once.
--- Assumes nothing.
 use mathlib.Core.Path.{_≡_, refl, sym, ap, _∙_}
 use mathlib.Core.Bool.{Bool, true, false, cond, _&&_, false≢true}
 use mathlib.Core.List.{List, [], _∷_}

@@ -1,4 +1,4 @@
--- The field types, one row each (01, "Template table"). Assumes nothing.
+-- The field types, one row each (01, "Template table").
 use Prim.Native.Nat.{ℕ}
 use mathlib.Core.Bool.{Bool, true, false}
 use mathlib.Core.List.{List, [], _∷_, map}

@@ -1,4 +1,4 @@
--- The template table: its layout, which octets are a sound one, and the template with an ID (01, "Template table"). Assumes nothing.
+-- The template table: its layout, which octets are a sound one, and the template with an ID (01, "Template table").
 use Prim.Native.Nat.{ℕ, zero, suc, _+_, _-_, _*_, _/_}
 use mathlib.Core.Bool.{Bool, cond, not, _&&_}
 use mathlib.Core.List.{List, [], _∷_}

@@ -1,3 +1,3 @@
 pub mod field_type;
 pub mod table;
-pub mod within;
+mod within;

@@ -290,7 +290,7 @@ pub fn table_sound(t: &[u8]) -> bool
 }
 
 // The template with an ID in a table that is sound, or 15.
-pub fn locate(t: &[u8], id: u16) -> Found
+fn locate(t: &[u8], id: u16) -> Found
     requires { ⌜ tableSound (now t) ≡ true ⌝ }
     ensures { λ r. ⌜ r ≡ locateOf (now (t .entry)) id ⌝ }
 {

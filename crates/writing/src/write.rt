@@ -79,7 +79,8 @@ fn write_final_tmpl_data_ack(session: u8, config: u8, out: &mut [u8]) -> Written
 
 // Writes a DATA ACK.
 fn write_data_ack(session: u8, dsn: u32, config: u8, out: &mut [u8]) -> Written
-    ensures { λ r. ⌜ Placed (messageOf dataAck session (octetsOf 4 dsn ++ (config ∷ 0 ∷ 0 ∷ 0 ∷ []))) (now (out .entry)) r (now (out .exit)) ⌝ }
+    ensures { λ r. ⌜ Placed (messageOf dataAck session (octetsOf 4 dsn ++ (config ∷ 0 ∷ 0 ∷ 0 ∷ [])))
+        (now (out .entry)) r (now (out .exit)) ⌝ }
 {
     if out.len() < DATA_ACK_OCTETS {
         return Written::Refused(Answer::OUTPUT_TOO_SHORT);

@@ -1,5 +1,4 @@
 -- `copy` meets its contract. The loop's invariant is what is left to do: storing the octets not yet copied gives the whole put.
--- Assumes nothing.
 use mathlib.Core.Path.{_≡_, refl, sym, _∙_}
 use Prim.Native.Nat.{_+_, _-_, _≤_}
 use native.Mathlib.Nat.{add-zero}

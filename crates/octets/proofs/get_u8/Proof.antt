@@ -1,4 +1,4 @@
--- `get_u8` meets its contract: one octet is its own number, and past the end the number is 0. Assumes nothing.
+-- `get_u8` meets its contract: one octet is its own number, and past the end the number is 0.
 use mathlib.Core.Path.{sym}
 use native.Mathlib.Omega.{arith}
 use Rattle.octets.proofs.Numbers.{uint-one, uint-past}

@@ -1,4 +1,4 @@
--- `get_uint` meets its contract. The loop's invariant: the octets read so far make v, modulo 2 to the 64. Assumes nothing.
+-- `get_uint` meets its contract. The loop's invariant: the octets read so far make v, modulo 2 to the 64.
 use mathlib.Core.Path.{_≡_}
 use Prim.Native.Nat.{_-_, _%_, _^_, _≤_}
 use native.Mathlib.Omega.{arith}

@@ -1,4 +1,4 @@
--- `octet` meets its contract: past the end stands 0. Assumes nothing.
+-- `octet` meets its contract: past the end stands 0.
 use mathlib.Core.Path.{sym}
 use Prim.Native.Nat.{_+_}
 use native.Mathlib.Omega.{arith}

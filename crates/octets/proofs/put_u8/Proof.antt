@@ -1,4 +1,4 @@
--- `put_u8` meets its contract: where there is no such place nothing changes, and otherwise the one octet is stored. Assumes nothing.
+-- `put_u8` meets its contract: where there is no such place nothing changes, and otherwise the one octet is stored.
 use mathlib.Core.Path.{sym, ap, _∙_}
 use mathlib.Core.List.{[], _∷_}
 use Prim.Native.Nat.{_%_}

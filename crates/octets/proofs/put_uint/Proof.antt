@@ -1,5 +1,5 @@
 -- `put_uint` meets its contract. The loop's invariant is what is left to do: storing the octets of what is left of the number, in
--- front of those already stored, gives the whole number. Assumes nothing.
+-- front of those already stored, gives the whole number.
 use mathlib.Core.Path.{_≡_, refl, sym, ap, _∙_}
 use Prim.Native.Nat.{ℕ, _-_, _≤_}
 use native.Mathlib.Omega.{arith}

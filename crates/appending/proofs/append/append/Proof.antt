@@ -1,9 +1,10 @@
 -- `append` meets its contract: a value that does not fit is refused, and the field of any other is stored; minus n is written as 256 to the w
--- minus n. Assumes nothing.
+-- minus n.
 use mathlib.Core.Path.{_≡_, sym, ap, _∙_}
 use Prim.Native.Nat.{ℕ, _+_, _-_, _^_}
 use native.Mathlib.Omega.{arith}
 use Rattle.records.specs.declared.walk.Value.the-variants.{Octets, Number, Negative}
+use Rattle.octets.proofs.Numbers.{greatest-of}
 use Rattle.appending.proofs.Appends.{append-stored, append-refused, negative-range}
 use borrow.Author.Needs.{needs}
 use Rattle.appending.proofs.append.append.Statement.{statement}
@@ -56,14 +57,14 @@ negative-fits-requires : tie.Need-negative-fits-requires
 negative-fits-requires c κs = search needs
 
 greatest-requires : tie.Need-greatest-requires
-greatest-requires c κs =
-    let f = sym (c .before .negative-fits .ensures) ∙ c .if3 .taken in
-    omega (arith, negative-range _ _ f, c .before .before .before .before .before .width .ensures)
+greatest-requires c κs = search needs
 
 sub-store-number : tie.Need-sub-store-number
 sub-store-number c =
     let f = sym (c .before .before .negative-fits .ensures) ∙ c .before .if3 .taken in
-    omega (arith, negative-range _ _ f, ap (λ (w : ℕ). 256 ^ w) (c .before .before .before .before .before .before .width .ensures), c .greatest .ensures)
+    let w = c .before .before .before .before .before .before .width in
+    let g = greatest-of (w .result) (omega (arith, negative-range _ _ f, w .ensures)) (c .greatest .ensures) in
+    omega (arith, negative-range _ _ f, ap (λ (w : ℕ). 256 ^ w) (w .ensures), g)
 
 add-store-number : tie.Need-add-store-number
 add-store-number c =
@@ -81,7 +82,9 @@ returns-3 c =
     let n = c .before .before .before .before .before .before .before .before .value2 .given .0 .0 in
     let w = c .before .before .before .before .before .before .before .before .before .before .width in
     let f = sym (c .before .before .before .before .before .before .negative-fits .ensures) ∙ c .before .before .before .before .before .if3 .taken in
-    let e : c .before .before .before .before .greatest .result - n + 1 ≡ 256 ^ w .result - n = omega (arith, negative-range _ _ f, ap (λ (w : ℕ). 256 ^ w) (w .ensures), c .before .before .before .before .greatest .ensures) in
+    let g = greatest-of (w .result) (omega (arith, negative-range _ _ f, w .ensures)) (c .before .before .before .before .greatest .ensures) in
+    let e : c .before .before .before .before .greatest .result - n + 1 ≡ 256 ^ w .result - n =
+    omega (arith, negative-range _ _ f, ap (λ (w : ℕ). 256 ^ w) (w .ensures), g) in
     append-stored _ _ (Negative n) _ _ _ _ _ (c .before .before .before .before .before .before .before .before .value2 .given .1) f
     (rw (w .ensures) at (rw e at (c .before .before .store-number2 .ensures)))
 

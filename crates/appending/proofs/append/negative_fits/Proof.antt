@@ -1,5 +1,4 @@
 -- `negative_fits` meets its contract: half of 256 to the w is half of the greatest number of w octets plus 1.
--- Assumes nothing.
 use mathlib.Core.Path.{_≡_, sym, _∙_}
 use mathlib.Core.Bool.{true}
 use Prim.Native.Nat.{_-_, _≤_}
@@ -8,6 +7,7 @@ use borrow.Author.Tests.{not-true, not-false}
 use Rattle.tables.specs.FieldTypes.{isSigned}
 use Rattle.appending.specs.Append.{negativeFits}
 use Rattle.tables.proofs.TypeFacts.{number-width, signed-number}
+use Rattle.octets.proofs.Numbers.{greatest-of}
 use Rattle.records.proofs.Widths.{size-test}
 use borrow.Author.Needs.{needs}
 use Rattle.appending.proofs.append.negative_fits.Statement.{statement}
@@ -27,10 +27,7 @@ cast-greatest : tie.Need-cast-greatest
 cast-greatest c = search needs
 
 greatest-requires : tie.Need-greatest-requires
-greatest-requires c κs =
-    let a = c .before .before .before .args in
-    let s : isSigned (a .kind) ≡ true = sym (c .before .before .is-signed .ensures) ∙ not-false _ (c .before .if1 .left) in
-    omega (arith, number-width (a .kind) (signed-number (a .kind) s), c .width .ensures)
+greatest-requires c κs = search needs
 
 add-result : tie.Need-add-result
 add-result c = search needs
@@ -40,8 +37,9 @@ unfolding negativeFits
 returns-2 c =
     let a = c .before .before .before .before .args in
     let s : isSigned (a .kind) ≡ true = sym (c .before .before .before .is-signed .ensures) ∙ not-false _ (c .before .before .if1 .left) in
-    let w : 1 ≤ c .before .width .result = omega (arith, number-width (a .kind) (signed-number (a .kind) s), c .before .width .ensures) in
-    rw (s, ← (c .before .width .ensures), c .greatest .ensures, size-test (a .n) (c .before .width .result) w)
+    let w = c .before .width in
+    let l : (1 ≤ w .result) × (w .result ≤ 8) = omega (arith, number-width (a .kind) (signed-number (a .kind) s), w .ensures) in
+    rw (s, ← (w .ensures), greatest-of (w .result) (l .1) (c .greatest .ensures), size-test (a .n) (w .result) (l .0))
 
 pub negative-fits-spec : {M : Type 1} → statement M
 negative-fits-spec =

@@ -1,5 +1,4 @@
 -- `none_zero` meets its contract. The loop's invariant: `ok` says whether every octet passed differs from 0.
--- Assumes nothing.
 use mathlib.Core.Path.{_≡_, refl}
 use mathlib.Core.Bool.{not}
 use Prim.Native.Nat.{_-_, _≤_}

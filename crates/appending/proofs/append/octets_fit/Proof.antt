@@ -1,5 +1,5 @@
 -- `octets_fit` meets its contract: the three types whose width varies are tested in the definition's order, and any other type must be an
--- address of as many octets. Assumes nothing.
+-- address of as many octets.
 use Prim.Native.Nat.{_-_}
 use native.Mathlib.Nat.{zero-add}
 use borrow.Author.Tests.{eq-eqb, ne-eqb}
@@ -9,12 +9,12 @@ use borrow.Author.Needs.{needs}
 use Rattle.appending.proofs.append.octets_fit.Statement.{statement}
 use Rattle.appending.proofs.append.octets_fit.Tie as tie
 
-all-below-128-requires : tie.Need-all-below-128-requires
-all-below-128-requires c κs = search needs
+all-ascii-requires : tie.Need-all-ascii-requires
+all-ascii-requires c κs = search needs
 
 returns : tie.Need-returns
 unfolding octetsFit
-returns c = rw (eq-eqb _ stringType (c .before .if1 .taken), c .all-below-128 .ensures) (simp zero-add)
+returns c = rw (eq-eqb _ stringType (c .before .if1 .taken), c .all-ascii .ensures) (simp zero-add)
 
 none-zero-requires : tie.Need-none-zero-requires
 none-zero-requires c κs = search needs
@@ -45,7 +45,7 @@ pub octets-fit-spec : {M : Type 1} → statement M
 octets-fit-spec =
     tie.close
     (tie.spec
-    all-below-128-requires
+    all-ascii-requires
     returns
     none-zero-requires
     returns-2

@@ -1,5 +1,4 @@
 -- `store_counted` meets its contract: the length and the octets fit, and two stores, one behind the other, are the store of both.
--- Assumes nothing.
 use mathlib.Core.Path.{_≡_, ap, _∙_}
 use mathlib.Core.List.{List}
 use Prim.Native.Nat.{ℕ, _+_}

@@ -1,5 +1,4 @@
 -- `store_number` meets its contract: the tests for room are the definition's, and `put_uint` stores the octets.
--- Assumes nothing.
 use mathlib.Core.Path.{refl}
 use native.Mathlib.Omega.{arith}
 use Rattle.octets.proofs.Numbers.{octets-length}

@@ -1,5 +1,4 @@
 -- `store_octets` meets its contract: each kind of type has its own store, and only strings and blobs come to the last, whose length is a 32-bit one.
--- Assumes nothing.
 use Prim.Native.Nat.{_-_}
 use native.Mathlib.Omega.{arith}
 use borrow.Author.Tests.{eq-eqb, ne-eqb, lt-ltb, le-ltb}

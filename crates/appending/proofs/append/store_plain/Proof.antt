@@ -1,5 +1,4 @@
 -- `store_plain` meets its contract: the tests for room are the definition's, and `copy` stores the octets.
--- Assumes nothing.
 use mathlib.Core.Path.{refl}
 use native.Mathlib.Omega.{arith}
 use Rattle.appending.proofs.Appends.{stored-short, stored-fits}

@@ -1,5 +1,4 @@
 -- `store_terminated` meets its contract: one octet more than given fits, and two stores, one behind the other, are the store of both.
--- Assumes nothing.
 use mathlib.Core.Path.{refl, ap, _∙_}
 use mathlib.Core.List.{List, [], _∷_}
 use Prim.Native.Nat.{ℕ, _+_}

@@ -1,5 +1,5 @@
 -- `opening` meets its contract, shown by hand along its MIR. `Reader::place` is asked of the reader that `Reader::open` returns, and the
--- two contracts say together that the answer is the opening's. Assumes nothing.
+-- two contracts say together that the answer is the opening's.
 use mathlib.Core.Path.{_≡_, refl, _∙_}
 use mathlib.Core.List.{List, [], _∷_}
 use Prim.Native.Nat.{ℕ}

@@ -1,6 +1,5 @@
 -- `step_at` meets its contract, shown by hand along its MIR. A reader is made of the record and the cursor, and stepped; at a cursor a
 -- reader's step is the walk's. `Reader::step` names the two lifetimes the other way round, so their tokens change places.
--- Assumes nothing.
 use mathlib.Core.Path.{_≡_, refl, _∙_}
 use mathlib.Core.List.{List, [], _∷_}
 use Prim.Native.Nat.{ℕ}

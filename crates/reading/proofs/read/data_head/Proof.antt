@@ -1,4 +1,4 @@
--- `data_head` meets its contract: each field is read at its place, octet by octet. Assumes nothing.
+-- `data_head` meets its contract: each field is read at its place, octet by octet.
 use mathlib.Core.Path.{refl, _∙_}
 use Rattle.octets.proofs.Numbers.{uint-one, uint-two, uint-four}
 use Rattle.messages.specs.Messages.{dataHeadOf}

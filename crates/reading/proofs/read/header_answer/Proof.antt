@@ -1,5 +1,4 @@
 -- `header_answer` meets its contract: each way out is the first check that holds, and octets read one by one make the numbers tested.
--- Assumes nothing.
 use mathlib.Core.Path.{refl, _∙_}
 use borrow.Author.Tests.{lt-ltb, le-ltb, eq-eqb, ne-eqb}
 use Rattle.octets.proofs.Numbers.{uint-one, uint-four}

@@ -1,5 +1,5 @@
 -- `message_part` meets its contract: a DATA that is not refused has 16 octets and a TMPL DATA a sound table, what lies behind the head is
--- the part, and no other message has one. Assumes nothing.
+-- the part, and no other message has one.
 use mathlib.Core.Path.{refl, sym, ap, _∙_}
 use Prim.Native.Nat.{ℕ, _+_}
 use native.Mathlib.Nat.{zero-add}

@@ -1,4 +1,4 @@
--- `read_bare` meets its contract: a body of no octets gives the meaning, and any other is 8. Assumes nothing.
+-- `read_bare` meets its contract: a body of no octets gives the meaning, and any other is 8.
 use borrow.Author.Tests.{eq-eqb, ne-eqb}
 use Rattle.reading.proofs.read.read_bare.Statement.{statement}
 use Rattle.reading.proofs.read.read_bare.Tie as tie

@@ -1,5 +1,5 @@
 -- `read_body` meets its contract: by the number of the message only the length of its body is left to judge, or its table, and a number
--- without a row is refused. Assumes nothing.
+-- without a row is refused.
 use mathlib.Core.Path.{refl, sym, _∙_}
 use native.Mathlib.Omega.{arith}
 use Rattle.octets.proofs.Numbers.{uint-one}

@@ -1,4 +1,4 @@
--- `read_data` meets its contract: a body of fewer than 8 octets is 8, and otherwise the head was read within the message. Assumes nothing.
+-- `read_data` meets its contract: a body of fewer than 8 octets is 8, and otherwise the head was read within the message.
 use borrow.Author.Tests.{le-leb, lt-leb}
 use borrow.Author.Needs.{needs}
 use Rattle.reading.proofs.read.read_data.Statement.{statement}

@@ -1,5 +1,4 @@
 -- `read_data_ack` meets its contract: where the length fits, the octets read one by one are the DSN and the Configuration ID.
--- Assumes nothing.
 use mathlib.Core.Path.{refl, _∙_}
 use borrow.Author.Tests.{eq-eqb, ne-eqb}
 use Rattle.octets.proofs.Numbers.{uint-one, uint-four}

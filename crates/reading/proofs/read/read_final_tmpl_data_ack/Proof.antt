@@ -1,5 +1,4 @@
 -- `read_final_tmpl_data_ack` meets its contract: where the length fits, the octet behind the header is the Configuration ID.
--- Assumes nothing.
 use borrow.Author.Tests.{eq-eqb, ne-eqb}
 use Rattle.octets.proofs.Numbers.{uint-one}
 use borrow.Author.Needs.{needs}

@@ -1,5 +1,4 @@
 -- `read_header` meets its contract: it answers what the header says where the header is not refused, and the refusal otherwise.
--- Assumes nothing.
 use mathlib.Core.Path.{sym, _∙_}
 use native.Mathlib.Omega.{arith}
 use borrow.Author.Tests.{eq-eqb, ne-eqb}

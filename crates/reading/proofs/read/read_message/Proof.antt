@@ -1,5 +1,4 @@
 -- `read_message` meets its contract: the header's refusal is the message's, and where there is none its body is read.
--- Assumes nothing.
 use mathlib.Core.Path.{_∙_}
 use borrow.Author.Tests.{ne-eqb}
 use Rattle.messages.specs.Messages.{readOf}

@@ -1,4 +1,4 @@
--- `read_start_ack` meets its contract: where the length fits, the octets read one by one are the boot time. Assumes nothing.
+-- `read_start_ack` meets its contract: where the length fits, the octets read one by one are the boot time.
 use mathlib.Core.Path.{refl, _∙_}
 use borrow.Author.Tests.{eq-eqb, ne-eqb}
 use Rattle.octets.proofs.Numbers.{uint-one, uint-four}

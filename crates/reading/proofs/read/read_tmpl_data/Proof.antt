@@ -1,4 +1,4 @@
--- `read_tmpl_data` meets its contract: what is judged is the part behind the header. Assumes nothing.
+-- `read_tmpl_data` meets its contract: what is judged is the part behind the header.
 use mathlib.Core.Path.{sym, ap, _∙_}
 use Rattle.octets.proofs.Numbers.{uint-one}
 use Rattle.tables.specs.Table.{tableSound}

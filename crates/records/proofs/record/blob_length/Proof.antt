@@ -1,5 +1,5 @@
 -- `blob_length` meets its contract: fewer than 4 octets left, or fewer than the length says, give 0; otherwise the length was read within
--- the record. Assumes nothing.
+-- the record.
 use Prim.Native.Nat.{_-_}
 use borrow.Author.Tests.{le-ltb, lt-ltb}
 use Rattle.records.specs.Record.{blobLength}

@@ -1,4 +1,4 @@
--- `fields_valid` meets its contract. The loop's invariant: the fields of the keys passed are valid, and the next begins at `at`. Assumes nothing.
+-- `fields_valid` meets its contract. The loop's invariant: the fields of the keys passed are valid, and the next begins at `at`.
 use mathlib.Core.Path.{_≡_, refl, sym, ap, _∙_}
 use native.Mathlib.Omega.{arith}
 use Prim.Native.Nat.{_-_, _≤_}

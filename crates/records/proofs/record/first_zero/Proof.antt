@@ -1,4 +1,4 @@
--- `first_zero` meets its contract. The loop's invariant: the first zero, if any, is not before p. Assumes nothing.
+-- `first_zero` meets its contract. The loop's invariant: the first zero, if any, is not before p.
 use mathlib.Core.Path.{_≡_, refl, sym, _∙_}
 use native.Mathlib.Omega.{arith}
 use Prim.Native.Nat.{_+_, _-_}

@@ -1,5 +1,5 @@
 -- `fixed_length` meets its contract: with fewer octets left than the width the length is 0, and otherwise it is the width; only of a
--- Boolean, which has one octet, that octet is tested too. Assumes nothing.
+-- Boolean, which has one octet, that octet is tested too.
 use borrow.Author.Tests.{eq-eqb, ne-eqb, le-ltb, lt-ltb}
 use Rattle.octets.proofs.Numbers.{uint-one}
 use Rattle.records.specs.Record.{fixedLength, fieldLength}

@@ -1,4 +1,4 @@
--- `is_enabled` meets its contract: it tests the attributes that it reads. Assumes nothing.
+-- `is_enabled` meets its contract: it tests the attributes that it reads.
 use borrow.Author.Needs.{needs}
 use Rattle.records.proofs.record.is_enabled.Statement.{statement}
 use Rattle.records.proofs.record.is_enabled.Tie as tie

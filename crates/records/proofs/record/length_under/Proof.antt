@@ -1,4 +1,4 @@
--- `length_under` meets its contract: a disabled key has no field, and the field of any other has the length of its type's. Assumes nothing.
+-- `length_under` meets its contract: a disabled key has no field, and the field of any other has the length of its type's.
 use mathlib.Core.Path.{sym, _∙_}
 use borrow.Author.Needs.{needs}
 use Rattle.records.proofs.record.length_under.Statement.{statement}

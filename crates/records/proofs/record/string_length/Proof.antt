@@ -1,4 +1,4 @@
--- `string_length` meets its contract: a string is a blob whose octets pass the test. Assumes nothing.
+-- `string_length` meets its contract: a string is a blob whose octets pass the test.
 use mathlib.Core.Path.{sym, _∙_}
 use native.Mathlib.Omega.{arith}
 use Prim.Native.Nat.{_-_, _<_}
@@ -16,31 +16,31 @@ returns : tie.Need-returns
 unfolding stringLength every
 returns c = rw (← c .before .blob-length .ensures, c .if1 .taken)
 
-add-all-below-128 : tie.Need-add-all-below-128
-add-all-below-128 c =
+add-all-ascii : tie.Need-add-all-ascii
+add-all-ascii c =
     let a = c .before .before .before .args in
     let h : 0 < blobLength (a .r .now) (a .at) = omega arith in
     omega (arith, blob-within (a .r .now) (a .at), blob-counts (a .r .now) (a .at) h)
 
-sub-all-below-128 : tie.Need-sub-all-below-128
-sub-all-below-128 c =
+sub-all-ascii : tie.Need-sub-all-ascii
+sub-all-ascii c =
     let a = c .before .before .before .args in
     let h : 0 < blobLength (a .r .now) (a .at) = omega arith in
     omega (arith, blob-within (a .r .now) (a .at), blob-counts (a .r .now) (a .at) h)
 
-all-below-128-requires : tie.Need-all-below-128-requires
-all-below-128-requires c κs =
+all-ascii-requires : tie.Need-all-ascii-requires
+all-ascii-requires c κs =
     let a = c .before .before .before .args in
     let h : 0 < blobLength (a .r .now) (a .at) = omega arith in
     omega (arith, blob-within (a .r .now) (a .at), blob-counts (a .r .now) (a .at) h)
 
 returns-2 : tie.Need-returns-2
 unfolding stringLength
-returns-2 c = rw (← c .before .before .before .blob-length .ensures, sym (c .before .all-below-128 .ensures) ∙ c .if2 .taken)
+returns-2 c = rw (← c .before .before .before .blob-length .ensures, sym (c .before .all-ascii .ensures) ∙ c .if2 .taken)
 
 returns-3 : tie.Need-returns-3
 unfolding stringLength
-returns-3 c = rw (← c .before .before .before .blob-length .ensures, sym (c .before .all-below-128 .ensures) ∙ c .if2 .left)
+returns-3 c = rw (← c .before .before .before .blob-length .ensures, sym (c .before .all-ascii .ensures) ∙ c .if2 .left)
 
 pub string-length-spec : {M : Type 1} → statement M
 string-length-spec =
@@ -48,8 +48,8 @@ string-length-spec =
     (tie.spec
     blob-length-requires
     returns
-    add-all-below-128
-    sub-all-below-128
-    all-below-128-requires
+    add-all-ascii
+    sub-all-ascii
+    all-ascii-requires
     returns-2
     returns-3)

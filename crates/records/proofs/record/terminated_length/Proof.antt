@@ -1,4 +1,4 @@
--- `terminated_length` meets its contract: the string ends with the first zero, where the record has one. Assumes nothing.
+-- `terminated_length` meets its contract: the string ends with the first zero, where the record has one.
 use native.Mathlib.Omega.{arith}
 use Prim.Native.Nat.{_-_}
 use lib.Dec.{eqb}

@@ -1,5 +1,5 @@
 -- `varying_length` meets its contract: the three types whose width varies are tested in the definition's order, and a type of no width that
--- is none of them has no field. Assumes nothing.
+-- is none of them has no field.
 use borrow.Author.Tests.{eq-eqb, ne-eqb}
 use Rattle.records.specs.Record.{fieldLength}
 use borrow.Author.Needs.{needs}

@@ -1,4 +1,4 @@
--- `next_key` meets its contract. The loop's invariant: the first enabled key, if any, is not before k. Assumes nothing.
+-- `next_key` meets its contract. The loop's invariant: the first enabled key, if any, is not before k.
 use mathlib.Core.Path.{_≡_, refl, sym, _∙_}
 use native.Mathlib.Omega.{arith}
 use Prim.Native.Nat.{_+_, _-_}

@@ -1,4 +1,4 @@
--- `open_walk` meets its contract: the whole record is judged first. Assumes nothing.
+-- `open_walk` meets its contract: the whole record is judged first.
 use Prim.Native.Nat.{_-_}
 use borrow.Author.Tests.{eq-eqb, ne-eqb}
 use Rattle.records.specs.Walk.{openOf}

@@ -1,11 +1,11 @@
 -- `signed_at` meets its contract: `n <= most / 2` says that twice n is below 256 to the w, and 256 to the w minus n is `most - n + 1`.
--- Assumes nothing.
 use mathlib.Core.Path.{_≡_, ap, _∙_}
 use Prim.Native.Nat.{_-_, _*_, _^_}
 use native.Mathlib.Omega.{arith}
 use borrow.Author.Needs.{needs}
 use borrow.Author.Tests.{le-ltb, lt-ltb}
 use Rattle.octets.specs.Numbers.{uintAt}
+use Rattle.octets.proofs.Numbers.{greatest-of}
 use Rattle.records.specs.Walk.{signedAt}
 use Rattle.records.specs.declared.walk.Value.the-variants.{Number, Negative}
 use Rattle.records.proofs.Widths.{uint-u64}
@@ -22,15 +22,17 @@ returns : tie.Need-returns
 unfolding signedAt
 returns c =
     let a = c .before .before .before .before .args in
+    let g = greatest-of (a .w) (omega arith) (c .before .greatest .ensures) in
     let u = uint-u64 (a .r .now) (λ i. (c .before .before .before .shared-slice-known .given i) .fits) (a .at) (a .w) (omega arith) in
     let n : c .before .before .get-uint .result ≡ uintAt (a .r .now) (a .at) (a .w) = c .before .before .get-uint .ensures ∙ u .1 in
-    rw (lt-ltb (2 * uintAt (a .r .now) (a .at) (a .w)) (256 ^ a .w) (omega (arith, u .0, c .before .greatest .ensures))) (ap Number n)
+    rw (lt-ltb (2 * uintAt (a .r .now) (a .at) (a .w)) (256 ^ a .w) (omega (arith, u .0, g))) (ap Number n)
 
 sub-t6 : tie.Need-sub-t6
 sub-t6 c =
     let a = c .before .before .before .before .args in
+    let g = greatest-of (a .w) (omega arith) (c .before .greatest .ensures) in
     let u = uint-u64 (a .r .now) (λ i. (c .before .before .before .shared-slice-known .given i) .fits) (a .at) (a .w) (omega arith) in
-    omega (arith, u .0, u .1, c .before .greatest .ensures, c .before .before .get-uint .ensures)
+    omega (arith, u .0, u .1, g, c .before .before .get-uint .ensures)
 
 add-t8 : tie.Need-add-t8
 add-t8 c = search needs
@@ -39,10 +41,11 @@ returns-2 : tie.Need-returns-2
 unfolding signedAt
 returns-2 c =
     let a = c .before .before .before .before .args in
+    let g = greatest-of (a .w) (omega arith) (c .before .greatest .ensures) in
     let u = uint-u64 (a .r .now) (λ i. (c .before .before .before .shared-slice-known .given i) .fits) (a .at) (a .w) (omega arith) in
     let n : c .before .before .get-uint .result ≡ uintAt (a .r .now) (a .at) (a .w) = c .before .before .get-uint .ensures ∙ u .1 in
-    rw (le-ltb (2 * uintAt (a .r .now) (a .at) (a .w)) (256 ^ a .w) (omega (arith, u .0, c .before .greatest .ensures)))
-    (ap Negative (omega (arith, u .0, c .before .greatest .ensures)))
+    rw (le-ltb (2 * uintAt (a .r .now) (a .at) (a .w)) (256 ^ a .w) (omega (arith, u .0, g)))
+    (ap Negative (omega (arith, u .0, g)))
 
 pub signed-at-spec : {M : Type 1} → statement M
 signed-at-spec =

@@ -1,4 +1,4 @@
--- `step_from` meets its contract: each arm is given what the place is, and the definition has the same case for it. Assumes nothing.
+-- `step_from` meets its contract: each arm is given what the place is, and the definition has the same case for it.
 use borrow.Author.Needs.{needs}
 use Rattle.records.specs.Walk.{stepFrom}
 use Rattle.records.proofs.walk.step_from.Statement.{statement}

@@ -1,5 +1,5 @@
 -- `step_under` meets its contract: no enabled key left is the end, a length of 0 is 16, and otherwise the field and the cursor after it are
--- built from the same three numbers. Assumes nothing.
+-- built from the same three numbers.
 use native.Mathlib.Omega.{arith}
 use Prim.Native.Nat.{_-_}
 use borrow.Author.Tests.{eq-eqb, ne-eqb, le-leb, lt-leb}

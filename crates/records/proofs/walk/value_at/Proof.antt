@@ -1,5 +1,5 @@
 -- `value_at` meets its contract: signed types are tested first, then other numbers, as in the definition. A number has at most 8 octets, so
--- `get_uint` reads it whole. Assumes nothing.
+-- `get_uint` reads it whole.
 use mathlib.Core.Path.{_≡_, sym, _∙_}
 use mathlib.Core.Bool.{true, false}
 use Prim.Native.Nat.{_-_, _≤_}

@@ -1,4 +1,4 @@
--- `all_zero` meets its contract. The loop's invariant: the octets passed are 0. Assumes nothing.
+-- `all_zero` meets its contract. The loop's invariant: the octets passed are 0.
 use mathlib.Core.Path.{_≡_, refl, sym}
 use mathlib.Core.Bool.{true}
 use native.Mathlib.Omega.{arith}

@@ -1,5 +1,4 @@
 -- `block_end` meets its contract: head, padded description and key blocks are added up from the two fields that the definition names.
--- Assumes nothing.
 use Rattle.tables.specs.Table.{blockEnd}
 use borrow.Author.Needs.{needs}
 use Rattle.tables.proofs.table.block_end.Statement.{statement}

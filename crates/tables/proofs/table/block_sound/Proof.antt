@@ -1,5 +1,5 @@
 -- `block_sound` meets its contract: head, padding, keys and their IDs are judged in the definition's order, and the first that fails
--- decides. A sound head says that the key blocks lie within the table. Assumes nothing.
+-- decides. A sound head says that the key blocks lie within the table.
 use mathlib.Core.Path.{sym, _∙_}
 use native.Mathlib.Omega.{arith}
 use Prim.Native.Nat.{_-_}

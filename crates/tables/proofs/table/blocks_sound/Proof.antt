@@ -1,5 +1,4 @@
 -- `blocks_sound` meets its contract. The loop's invariant: the walk stands at block i, the blocks passed are sound and have different IDs.
--- Assumes nothing.
 use mathlib.Core.Path.{_≡_, refl, sym, ap, _∙_}
 use native.Mathlib.Omega.{arith}
 use Prim.Native.Nat.{ℕ, _-_, _≤_}

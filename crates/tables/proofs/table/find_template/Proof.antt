@@ -1,4 +1,4 @@
--- `find_template` meets its contract: the table is judged first, then the template is located. Assumes nothing.
+-- `find_template` meets its contract: the table is judged first, then the template is located.
 use mathlib.Core.Path.{sym, _∙_}
 use Prim.Native.Nat.{_-_}
 use Rattle.tables.specs.Table.{findOf}

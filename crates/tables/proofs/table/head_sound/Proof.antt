@@ -1,5 +1,5 @@
 -- `head_sound` meets its contract: a head that does not lie within the table is unsound, and of any other the numbers that the definition
--- names are read and tested. Assumes nothing.
+-- names are read and tested.
 use mathlib.Core.Path.{_≡_}
 use native.Mathlib.Omega.{arith}
 use Prim.Native.Nat.{_-_}

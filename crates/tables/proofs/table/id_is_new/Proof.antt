@@ -1,4 +1,4 @@
--- `id_is_new` meets its contract. The loop's invariant: the walk stands at block i, and the templates passed have other IDs. Assumes nothing.
+-- `id_is_new` meets its contract. The loop's invariant: the walk stands at block i, and the templates passed have other IDs.
 use mathlib.Core.Path.{_≡_, refl, sym, ap, _∙_}
 use native.Mathlib.Omega.{arith}
 use Prim.Native.Nat.{ℕ, _-_, _≤_}

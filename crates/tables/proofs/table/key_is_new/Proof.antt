@@ -1,4 +1,4 @@
--- `key_is_new` meets its contract. The loop's invariant: the key blocks passed have other IDs. Assumes nothing.
+-- `key_is_new` meets its contract. The loop's invariant: the key blocks passed have other IDs.
 use mathlib.Core.Path.{_≡_, refl, sym, ap, _∙_}
 use native.Mathlib.Omega.{arith}
 use Prim.Native.Nat.{_-_, _≤_}

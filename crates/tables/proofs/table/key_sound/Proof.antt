@@ -1,4 +1,4 @@
--- `key_sound` meets its contract: octets read one by one make the numbers that the definition tests. Assumes nothing.
+-- `key_sound` meets its contract: octets read one by one make the numbers that the definition tests.
 use mathlib.Core.Path.{refl, _∙_}
 use native.Mathlib.Omega.{arith}
 use Prim.Native.Nat.{_+_, _-_}

@@ -1,4 +1,4 @@
--- `keys_differ` meets its contract: IDs that rise differ; else the loop's invariant is that the key blocks passed differ. Assumes nothing.
+-- `keys_differ` meets its contract: IDs that rise differ; else the loop's invariant is that the key blocks passed differ.
 use mathlib.Core.Path.{_≡_, refl, sym, _∙_}
 use native.Mathlib.Omega.{arith}
 use Prim.Native.Nat.{_-_, _≤_}

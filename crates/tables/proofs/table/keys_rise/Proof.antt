@@ -1,4 +1,4 @@
--- `keys_rise` meets its contract. The loop's invariant: the IDs passed differ, and none is above the last. Assumes nothing.
+-- `keys_rise` meets its contract. The loop's invariant: the IDs passed differ, and none is above the last.
 use native.Mathlib.Omega.{arith}
 use Prim.Native.Nat.{_-_, _≤_}
 use mathlib.Core.Bool.{true, false}

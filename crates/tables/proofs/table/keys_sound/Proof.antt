@@ -1,4 +1,4 @@
--- `keys_sound` meets its contract. The loop's invariant: the key blocks passed are sound. Assumes nothing.
+-- `keys_sound` meets its contract. The loop's invariant: the key blocks passed are sound.
 use mathlib.Core.Path.{_≡_, refl, sym, _∙_}
 use mathlib.Core.Bool.{true}
 use native.Mathlib.Omega.{arith}

@@ -1,5 +1,4 @@
 -- `locate` meets its contract. The loop's invariant: the walk stands at block i, and the first template with the ID, if any, is not before it.
--- Assumes nothing.
 use mathlib.Core.Path.{_≡_, refl, sym, ap, _∙_}
 use native.Mathlib.Omega.{arith}
 use Prim.Native.Nat.{ℕ, _+_, _-_, _≤_, _<_}

@@ -1,5 +1,4 @@
 -- `padding_sound` meets its contract: the octets between the description's end and its padded end are those that the definition tests.
--- Assumes nothing.
 use Prim.Native.Nat.{_-_}
 use Rattle.tables.specs.Table.{paddingSound}
 use borrow.Author.Needs.{needs}

@@ -1,5 +1,5 @@
 -- `table_sound` meets its contract: size, flags and count are tested in the definition's order, so the first that fails decides; then
--- `blocks_sound` gives the last three clauses at once. Assumes nothing.
+-- `blocks_sound` gives the last three clauses at once.
 use mathlib.Core.Path.{sym, _∙_}
 use native.Mathlib.Omega.{arith}
 use Prim.Native.Nat.{_-_, _≤_, _<_}

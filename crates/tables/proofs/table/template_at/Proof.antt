@@ -1,5 +1,5 @@
 -- `template_at` meets its contract: it reads the key count and the description's length, and the key blocks begin behind the padded
--- description. Assumes nothing.
+-- description.
 use Rattle.tables.specs.Table.{templateAt}
 use borrow.Author.Needs.{needs}
 use Rattle.tables.proofs.table.template_at.Statement.{statement}

@@ -1,4 +1,4 @@
--- `u16_at` meets its contract: two octets read one by one make the number at their place. Assumes nothing.
+-- `u16_at` meets its contract: two octets read one by one make the number at their place.
 use mathlib.Core.Path.{refl, _∙_}
 use Prim.Native.Nat.{_+_}
 use Rattle.octets.proofs.Numbers.{uint-two}

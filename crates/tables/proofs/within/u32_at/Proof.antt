@@ -1,4 +1,4 @@
--- `u32_at` meets its contract: four octets read one by one make the number at their place. Assumes nothing.
+-- `u32_at` meets its contract: four octets read one by one make the number at their place.
 use mathlib.Core.Path.{refl, _∙_}
 use Prim.Native.Nat.{_+_}
 use Rattle.octets.proofs.Numbers.{uint-four}

@@ -1,4 +1,4 @@
--- `flags` meets its contract: each way out is the sum of the two flags that the tests on the way to it say are set. Assumes nothing.
+-- `flags` meets its contract: each way out is the sum of the two flags that the tests on the way to it say are set.
 use borrow.Author.Needs.{needs}
 use Rattle.writing.proofs.write.flags.Statement.{statement}
 use Rattle.writing.proofs.write.flags.Tie as tie

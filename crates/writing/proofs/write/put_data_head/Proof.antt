@@ -1,5 +1,4 @@
 -- `put_data_head` meets its contract: each field follows the one before it, from the header on.
--- Assumes nothing.
 use mathlib.Core.List.{[], _∷_, _++_}
 use mathlib.Core.Path.{refl, ap, _∙_}
 use Prim.Native.Nat.{ℕ, _+_}

@@ -1,5 +1,4 @@
 -- `put_header` meets its contract: four octets are stored, and behind them the length, which has room.
--- Assumes nothing.
 use mathlib.Core.Path.{_∙_}
 use native.Mathlib.Omega.{arith}
 use borrow.Author.Needs.{needs}

@@ -1,5 +1,4 @@
 -- `write_bare` meets its contract: a message with no body is its header.
--- Assumes nothing.
 use mathlib.Core.Path.{refl}
 use borrow.Author.Needs.{needs}
 use Rattle.octets.specs.Numbers.{octetsOf}

@@ -1,5 +1,4 @@
 -- `write_data` meets its contract: a record of at most 1,024 octets is written behind the 16 octets of its head.
--- Assumes nothing.
 use mathlib.Core.Path.{refl, sym, ap, _∙_}
 use Prim.Native.Nat.{_+_}
 use native.Mathlib.Omega.{arith}

@@ -1,5 +1,4 @@
 -- `write_data_ack` meets its contract: the DSN follows the header, the Configuration ID and three zeros follow the DSN.
--- Assumes nothing.
 use mathlib.Core.List.{[], _∷_, _++_}
 use mathlib.Core.Path.{refl, _∙_}
 use native.Mathlib.Omega.{arith}

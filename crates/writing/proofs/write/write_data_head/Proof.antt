@@ -1,5 +1,5 @@
 -- `write_data_head` meets its contract: 1,024 is tested first, then the room for the whole message, and what is stored are the 16 octets in
--- front. Assumes nothing.
+-- front.
 use borrow.Author.Tests.{lt-ltb, le-ltb}
 use Rattle.messages.specs.Messages.{headWriteAnswer, headWriteOf, headWriteOut}
 use borrow.Author.Needs.{needs}

@@ -1,5 +1,4 @@
 -- `write_final_tmpl_data_ack` meets its contract: the Configuration ID and three zeros follow the header.
--- Assumes nothing.
 use mathlib.Core.List.{[], _∷_}
 use mathlib.Core.Path.{refl}
 use native.Mathlib.Omega.{arith}

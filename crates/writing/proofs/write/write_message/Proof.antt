@@ -1,5 +1,4 @@
 -- `write_message` meets its contract: each arm writes the layout of its message, and for messages without a part only the room decides.
--- Assumes nothing.
 use mathlib.Core.Path.{refl}
 use borrow.Author.Needs.{needs}
 use Rattle.messages.specs.Messages.{layoutOf}

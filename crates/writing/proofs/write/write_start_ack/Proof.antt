@@ -1,5 +1,4 @@
 -- `write_start_ack` meets its contract: the boot time follows the header.
--- Assumes nothing.
 use mathlib.Core.Path.{refl, _∙_}
 use borrow.Author.Needs.{needs}
 use Rattle.octets.specs.Numbers.{octetsOf}

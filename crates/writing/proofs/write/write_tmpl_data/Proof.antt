@@ -1,5 +1,4 @@
 -- `write_tmpl_data` meets its contract: only a sound table is written, which has at most 16,384 octets, and it follows the header.
--- Assumes nothing.
 use mathlib.Core.Bool.{not}
 use mathlib.Core.Path.{refl, sym, ap, _∙_}
 use Prim.Native.Nat.{_+_}

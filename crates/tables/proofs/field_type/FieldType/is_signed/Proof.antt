@@ -1,5 +1,5 @@
 -- `is_signed` meets its contract: the four numbers tested are those of the signed integers, and the law of the table of types says that no
--- other row is signed. Assumes nothing.
+-- other row is signed.
 use Rattle.tables.proofs.FieldTypes.{signed-code}
 use Rattle.tables.proofs.field_type.FieldType.is_signed.Statement.{statement}
 use Rattle.tables.proofs.field_type.FieldType.is_signed.Tie as tie

@@ -1,5 +1,4 @@
 -- `is_type` meets its contract: the law of the table of types says that the two ranges and the three numbers tested are those of its rows.
--- Assumes nothing.
 use Rattle.tables.proofs.FieldTypes.{type-code}
 use Rattle.tables.proofs.field_type.FieldType.is_type.Statement.{statement}
 use Rattle.tables.proofs.field_type.FieldType.is_type.Tie as tie

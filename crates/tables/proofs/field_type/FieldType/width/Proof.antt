@@ -1,5 +1,4 @@
 -- `width` meets its contract: the widths are those of the rows, by a test over the table, and past it no type has a fixed width.
--- Assumes nothing.
 use native.Mathlib.Omega.{arith}
 use Rattle.tables.proofs.FieldTypes.{width-low, width-high}
 use borrow.Author.Needs.{needs}
