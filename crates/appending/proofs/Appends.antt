@@ -11,14 +11,14 @@ use lib.ListN.{length, getD, length-append}
 use Rattle.octets.specs.Answers.{recordInvalid, outputTooShort}
 use Rattle.octets.specs.Numbers.{putAt}
 use Rattle.octets.proofs.Stores.{put-short, put-join}
-use Rattle.tables.specs.Each.{every}
-use Rattle.tables.specs.FieldTypes.{widthOf, isNumber, isSigned, booleanType, stringType, terminatedType, blobType}
+use Rattle.octets.specs.Each.{every}
+use Rattle.field_types.specs.FieldTypes.{widthOf, isNumber, isSigned, booleanType, stringType, terminatedType, blobType}
 use Rattle.appending.specs.Append.{valueFits, numberFits, negativeFits, octetsFit, fieldOctets, appendAnswer, appendOf, appendOut, storedOf, Stored}
 use Rattle.records.specs.declared.walk.Value.{Value}
 use Rattle.appending.specs.declared.append.Appended.{Appended}
 use Rattle.appending.specs.declared.append.Appended.the-variants.{Next, Refused}
-use Rattle.tables.proofs.Each.{and-left, and-right}
-use Rattle.tables.proofs.TypeFacts.{number-width, signed-number, boolean-unsigned, boolean-width}
+use Rattle.octets.proofs.Each.{and-left, and-right}
+use Rattle.field_types.proofs.TypeFacts.{number-width, signed-number, boolean-unsigned, boolean-width}
 
 -- a field that does not fit, and one that does
 pub stored-short : (field out : List ℕ) (at : ℕ) → length out < at + length field → Stored field out at (Refused outputTooShort) out

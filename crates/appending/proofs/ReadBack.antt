@@ -15,8 +15,8 @@ use Rattle.octets.specs.Numbers.{uintAt, octetsOf}
 use Rattle.octets.proofs.Numbers.{uint-same, uint-front, octets-length, read-back}
 use Rattle.octets.proofs.Judging.{kept}
 use Rattle.octets.proofs.Stores.{sets-at}
-use Rattle.tables.specs.Each.{every, firstFrom}
-use Rattle.tables.specs.FieldTypes.{widthOf, isNumber, isSigned, booleanType, stringType, terminatedType, blobType}
+use Rattle.octets.specs.Each.{every, firstFrom}
+use Rattle.field_types.specs.FieldTypes.{widthOf, isNumber, isSigned, booleanType, stringType, terminatedType, blobType}
 use Rattle.tables.specs.Table.{keyAt, keyType}
 use Rattle.records.specs.Record.{left, fixedLength, blobLength, stringLength, terminatedLength, fieldLength}
 use Rattle.records.specs.Walk.{signedAt, valueAt, nextKey, stepUnder}
@@ -27,8 +27,8 @@ use Rattle.records.specs.declared.walk.Value.the-variants.{Octets, Number, Nega
 use Rattle.records.specs.declared.walk.Cursor.{Cursor}
 use Rattle.records.specs.declared.walk.Step.the-variants as step
 use Rattle.appending.specs.declared.append.Appended.the-variants.{Refused}
-use Rattle.tables.proofs.Each.{every-at, every-same}
-use Rattle.tables.proofs.TypeFacts.{number-width, signed-number, boolean-unsigned, boolean-width, fixed-type, no-number}
+use Rattle.octets.proofs.Each.{every-at, every-same}
+use Rattle.field_types.proofs.TypeFacts.{number-width, signed-number, boolean-unsigned, boolean-width, fixed-type, no-number}
 use Rattle.appending.proofs.Appends.{octets-cases, NumberRange, number-range, negative-range, negative-signed}
 
 -- ---- octets that stand at a place of a record

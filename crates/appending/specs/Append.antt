@@ -8,8 +8,8 @@ use lib.ListN.{length, getD}
 use lib.Seq.{sets}
 use Rattle.octets.specs.Answers.{done, _when_, judge, recordInvalid, outputTooShort}
 use Rattle.octets.specs.Numbers.{octetsOf, putAt, asciiLimit}
-use Rattle.tables.specs.Each.{every}
-use Rattle.tables.specs.FieldTypes.{widthOf, isNumber, isSigned, booleanType, stringType, terminatedType, blobType}
+use Rattle.octets.specs.Each.{every}
+use Rattle.field_types.specs.FieldTypes.{widthOf, isNumber, isSigned, booleanType, stringType, terminatedType, blobType}
 use Rattle.records.specs.Record.{lengthOctets}
 use Rattle.records.specs.declared.walk.Value.{Value}
 use Rattle.records.specs.declared.walk.Value.the-variants.{Octets, Number, Negative}

@@ -6,13 +6,13 @@ ghost use Prim.Native.Nat.{_<_};
 ghost use lib.Dec.{eqb};
 ghost use lib.ListN.{length, getD};
 ghost use Rattle.octets.specs.Numbers.{octetsOf};
-ghost use Rattle.tables.specs.Each.{every};
+ghost use Rattle.octets.specs.Each.{every};
 ghost use Rattle.records.specs.Record.{lengthOctets};
 ghost use Rattle.appending.specs.Append.{lengthLimit, numberFits, negativeFits, octetsFit, octetsField, Stored, appendOf, appendOut};
+use field_types::field_type::FieldType;
 use octets::Answer;
 use records::record::LENGTH_OCTETS;
 use records::walk::Value;
-use tables::field_type::FieldType;
 
 // What appending answers: the place after the field, or the refusal.
 pub enum Appended {

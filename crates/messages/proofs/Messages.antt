@@ -22,7 +22,7 @@ use Rattle.messages.specs.declared.message.Reading.the-variants as readi
 use Rattle.messages.specs.declared.message.Written.{Written}
 use Rattle.messages.specs.declared.message.Written.the-variants as written
 use Rattle.octets.proofs.Judging.{passed, judged-done, judged-first, judged-next}
-use Rattle.tables.proofs.Each.{and-false}
+use Rattle.octets.proofs.Each.{and-false}
 
 -- what is left behind the first n octets
 pub take-rest : (m : List ℕ) (n : ℕ) → take (length m - n) (drop n m) ≡ drop n m

@@ -8,7 +8,7 @@ use lib.ListN.{length, drop}
 use lib.Seq.{sets}
 use Rattle.octets.specs.Answers.{Check, _when_, judge, done, shortMessage, otherVersion, lengthDiffers, messageNotAccepted, bodyLengthWrong, outputTooShort, recordTooLong, unsoundTable}
 use Rattle.octets.specs.Numbers.{uintAt, octetsOf, putAt}
-use Rattle.tables.specs.Each.{lookUp}
+use Rattle.octets.specs.Each.{lookUp}
 use Rattle.tables.specs.Table.{tableSound}
 use Rattle.messages.specs.declared.message.DataHead.{DataHead}
 use Rattle.messages.specs.declared.message.Message.{Message}

@@ -1,3 +1,3 @@
 pub mod Answers
-pub mod Every
+pub mod Each
 pub mod Numbers

@@ -5,7 +5,7 @@ use mathlib.Core.List.{List, [], _∷_, _++_}
 use lib.Dec.{leb, ltb}
 use lib.ListN.{length, getD}
 use lib.Seq.{sets}
-use Rattle.octets.specs.Every.{every}
+use Rattle.octets.specs.Each.{every}
 
 -- The number whose w digits to the base 256 are d 0, the most significant, to d (w - 1).
 -- Only d knows the order in which the octets stand, so what is shown of this number holds for either order.

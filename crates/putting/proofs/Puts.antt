@@ -12,7 +12,7 @@ use lib.Seq.{set-getD}
 use borrow.Author.Tests.{not-false, ne-eqb, eqb-true, eqb-false, leb-false, ltb-false}
 use Rattle.octets.specs.Answers.{_when_, judge, done, unsoundState}
 use Rattle.octets.proofs.Judging.{passed, judged-first, judged-next}
-use Rattle.tables.proofs.Each.{and-left, and-right}
+use Rattle.octets.proofs.Each.{and-left, and-right}
 use Rattle.session.specs.Sound.{sound}
 use Rattle.session.specs.Steps.{put, answer, checks, soundFor, after, storeAfter, putStep, steppedOf, recordChecks, roomChecks}
 use Rattle.session.specs.Queue.{heldOctets, ringWrite, pushed}

@@ -15,7 +15,7 @@ use Rattle.messages.specs.declared.message.Message.{Message}
 use Rattle.messages.specs.declared.message.Header.{Header}
 use Rattle.messages.specs.declared.message.HeaderReading.the-variants as header
 use Rattle.messages.specs.declared.message.Reading.the-variants as reading
-use Rattle.messages.proofs.Messages.{header-passed}
+use Rattle.wire.proofs.Messages.{header-passed}
 use Rattle.session.specs.Servers.{malformed}
 use Rattle.session.specs.Steps.{move, isReceived, formAnswer, callOfMessage, received}
 use Rattle.receiving.specs.Requests.{callOfReading}

@@ -10,8 +10,8 @@ use lib.Dec.{eqb, ltb}
 use lib.ListN.{length, getD}
 use Rattle.octets.specs.Numbers.{uintAt}
 use Rattle.octets.proofs.Stores.{cond-cases}
-use Rattle.tables.specs.Each.{every, firstFrom}
-use Rattle.tables.specs.FieldTypes.{widthOf, booleanType, stringType, terminatedType, blobType}
+use Rattle.octets.specs.Each.{every, firstFrom}
+use Rattle.field_types.specs.FieldTypes.{widthOf, booleanType, stringType, terminatedType, blobType}
 use Rattle.records.specs.Record.{left, fixedLength, blobLength, stringLength, terminatedLength, fieldLength}
 
 -- a choice of two lengths

@@ -13,7 +13,7 @@ use lib.Dec.{eqb, leb, ltb}
 use lib.ListN.{length, take, drop, take-append-drop, drop-of-length-le}
 use lib.Seq.{drop-drop}
 use Rattle.octets.specs.Answers.{done, unsoundTable, templateNotFound, recordInvalid}
-use Rattle.tables.specs.Each.{every}
+use Rattle.octets.specs.Each.{every}
 use Rattle.tables.specs.Table.{keyAt, keyType, isEnabled, tableSound, isMissing, templateOf}
 use Rattle.records.specs.Record.{fieldLength, lengthUnder, fieldAt, fieldValid, recordValid, recordAnswer}
 use Rattle.records.specs.Walk.{fieldOf, stepJudged, openAnswer, stepAnswer}
@@ -25,7 +25,7 @@ use Rattle.records.specs.declared.walk.Opened.the-variants as opened
 use Rattle.records.specs.declared.walk.Step.{Step}
 use Rattle.records.specs.declared.walk.Step.the-variants as step
 use Rattle.octets.proofs.Judging.{kept}
-use Rattle.tables.proofs.Each.{and-left, and-right, every-at, first-here, first-on, first-none}
+use Rattle.octets.proofs.Each.{and-left, and-right, every-at, first-here, first-on, first-none}
 
 -- ---- walks by any step function
 

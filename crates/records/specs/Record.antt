@@ -6,8 +6,8 @@ use lib.Dec.{eqb, ltb}
 use lib.ListN.{length, getD}
 use Rattle.octets.specs.Answers.{_when_, judge, recordInvalid}
 use Rattle.octets.specs.Numbers.{uintAt, allAscii}
-use Rattle.tables.specs.Each.{every, firstFrom}
-use Rattle.tables.specs.FieldTypes.{widthOf, booleanType, stringType, terminatedType, blobType}
+use Rattle.octets.specs.Each.{every, firstFrom}
+use Rattle.field_types.specs.FieldTypes.{widthOf, booleanType, stringType, terminatedType, blobType}
 use Rattle.tables.specs.Table.{keyAt, keyType, isEnabled, templateOf, templateChecks}
 use Rattle.tables.specs.declared.table.Template.{Template}
 

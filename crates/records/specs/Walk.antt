@@ -6,8 +6,8 @@ use lib.Dec.{eqb, leb, ltb}
 use lib.ListN.{take, drop}
 use Rattle.octets.specs.Answers.{_when_, judge, done, recordInvalid}
 use Rattle.octets.specs.Numbers.{uintAt}
-use Rattle.tables.specs.Each.{firstFrom}
-use Rattle.tables.specs.FieldTypes.{widthOf, isNumber, isSigned}
+use Rattle.octets.specs.Each.{firstFrom}
+use Rattle.field_types.specs.FieldTypes.{widthOf, isNumber, isSigned}
 use Rattle.tables.specs.Table.{keyAt, keyType, isEnabled, templateOf, templateChecks, findAnswer}
 use Rattle.records.specs.Record.{fieldLength, fieldAt, recordAnswer}
 use Rattle.tables.specs.declared.table.Template.{Template}

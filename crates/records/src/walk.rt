@@ -4,8 +4,8 @@ ghost use Prim.Native.Nat.{_+_, _-_, _*_, _≤_};
 ghost use lib.ListN.{length};
 ghost use Rattle.tables.specs.Table.{keyOctets};
 ghost use Rattle.records.specs.Walk.{signedAt, valueAt, nextKey, stepUnder, stepOf, stepFrom, openOf};
+use field_types::field_type::FieldType;
 use octets::Answer;
-use tables::field_type::FieldType;
 use tables::table::Found;
 use tables::table::Template;
 

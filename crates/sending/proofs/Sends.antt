@@ -13,7 +13,7 @@ use lib.Seq.{sets, set-getD}
 use Rattle.octets.specs.Answers.{Check, _when_, judge, done, unsoundState, outputTooShort}
 use Rattle.octets.proofs.Judging.{passed, judged-first}
 use Rattle.octets.proofs.Stores.{put-fits, put-short}
-use Rattle.tables.proofs.Each.{and-left, and-right}
+use Rattle.octets.proofs.Each.{and-left, and-right}
 use Rattle.wire.specs.Messages.{Placed, layoutOf, dataHeadOctets, headWriteAnswer, headWriteOf, headWriteOut}
 use Rattle.messages.specs.declared.message.Message.the-variants.{Data}
 use Rattle.messages.specs.declared.message.DataHead.{DataHead}

@@ -14,7 +14,7 @@ use lib.Seq.{getD-drop}
 use borrow.Author.Tests.{leb-false, eqb-true, eqb-false, not-true, not-false, eq-eqb, le-leb, lt-leb, lt-ltb, le-ltb}
 use Rattle.octets.specs.Answers.{Check, _when_, judge, done, unsoundState}
 use Rattle.octets.proofs.Judging.{passed}
-use Rattle.tables.proofs.Each.{and-left, and-right}
+use Rattle.octets.proofs.Each.{and-left, and-right}
 use Rattle.wire.specs.Table.{isMissing, templateOf}
 use Rattle.wire.specs.Record.{recordValid}
 use Rattle.wire.specs.Messages.{maxRecordOctets}

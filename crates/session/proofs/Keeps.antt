@@ -14,7 +14,7 @@ use lib.Seq.{drop-append-le, drop-drop}
 use borrow.Author.Tests.{ltb-false, leb-false, eqb-true, eq-eqb, ne-eqb}
 use Rattle.octets.specs.Answers.{judge, done}
 use Rattle.octets.proofs.Judging.{passed}
-use Rattle.tables.proofs.Each.{and-right}
+use Rattle.octets.proofs.Each.{and-right}
 use Rattle.session.specs.Servers.{chosen, changed, settle, withServers, transition, sentOne, acknowledged, ticked}
 use Rattle.session.specs.Queue.{Entry, heldOctets, recordAt, has, with, pushed, dropFront, marked}
 use Rattle.session.specs.Sound.{sound}

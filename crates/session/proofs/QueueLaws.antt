@@ -15,7 +15,7 @@ use lib.ListN.{length, getD, set, take, drop, replicate, length-append, length-d
 use lib.Pow.{pow-pos, pow-lt, pow-add}
 use lib.Seq.{getD-set-same, getD-set-other, getD-drop, take-append-le, take-add, take-set-le}
 use borrow.Author.Tests.{eqb-true, eqb-false, eq-eqb, ne-eqb, not-true}
-use Rattle.tables.proofs.Each.{and-left, and-right}
+use Rattle.octets.proofs.Each.{and-left, and-right}
 use Rattle.session.specs.Queue.{Entry, sumOf, has, with, hasOther, shifted, recordAt, heldFrom}
 use Rattle.session.specs.History.{Writing, anyWriting}
 use Rattle.session.specs.Claim.{writtenToOther, octetsIn}

@@ -1,4 +1,1 @@
-pub mod Each
-pub mod FieldTypes
 pub mod Tables
-pub mod TypeFacts

@@ -12,11 +12,11 @@ use lib.Dec.{ltb, leb, eqb, lit≤}
 use lib.ListN.{length}
 use Rattle.octets.specs.Answers.{Check, _when_, judge, done, unsoundTable, templateNotFound}
 use Rattle.octets.proofs.Judging.{kept}
-use Rattle.tables.specs.Each.{every, absent, differ}
+use Rattle.octets.specs.Each.{every, absent, differ}
 use Rattle.tables.specs.Table.{keyOctets, blockHeadOctets, maxKeys, maxTableOctets, maxTemplates, bigEndianFlags, keyCount, blockFlags, blockLength, blockOctets, blockEnd, headSound, blockSound, blockAt, blocksSound, templatesDiffer, tableFlags, templateCount, tableSound, isMissing, templateIndex, templateAt, templateOf, templateChecks, findAnswer, findOf, locateOf, foundAnswer}
 use Rattle.tables.specs.declared.table.Template.{Template}
 use Rattle.tables.specs.declared.table.Found.the-variants.{At, Refused}
-use Rattle.tables.proofs.Each.{clause-first, clause-rest, every-at, every-step, every-intro, and-left, and-right}
+use Rattle.octets.proofs.Each.{clause-first, clause-rest, every-at, every-step, every-intro, and-left, and-right}
 
 -- ---- IDs that rise all differ
 

@@ -1,3 +1,1 @@
-pub mod Each
-pub mod FieldTypes
 pub mod Table

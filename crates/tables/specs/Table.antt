@@ -6,8 +6,8 @@ use lib.Dec.{eqb, leb}
 use lib.ListN.{length, getD}
 use Rattle.octets.specs.Answers.{Check, _when_, judge, done, unsoundTable, templateNotFound}
 use Rattle.octets.specs.Numbers.{uintAt}
-use Rattle.tables.specs.Each.{every, firstFrom, differ, allOf}
-use Rattle.tables.specs.FieldTypes.{isType}
+use Rattle.octets.specs.Each.{every, firstFrom, differ, allOf}
+use Rattle.field_types.specs.FieldTypes.{isType}
 use Rattle.tables.specs.declared.table.Template.{Template}
 use Rattle.tables.specs.declared.table.Found.{Found}
 use Rattle.tables.specs.declared.table.Found.the-variants.{At, Refused}

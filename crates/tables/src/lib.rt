@@ -1,3 +1,3 @@
-pub mod field_type;
+// Template tables: whether octets are a sound one, and where a template lies in it.
 pub mod table;
 mod within;

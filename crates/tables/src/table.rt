@@ -5,9 +5,9 @@ ghost use mathlib.Core.List.{[], _∷_};
 ghost use Prim.Native.Nat.{_+_, _*_, _≤_, _<_};
 ghost use lib.Dec.{eqb};
 ghost use lib.ListN.{length, getD};
-ghost use Rattle.tables.specs.Each.{every, absent, allOf};
+ghost use Rattle.octets.specs.Each.{every, absent, allOf};
 ghost use Rattle.tables.specs.Table.{maxTableOctets, maxKeys, keyOctets, blockHeadOctets, configurationId, keyId, keyAt, keySound, keysSound, keysDiffer, keysAt, padded, blockEnd, headSound, paddingSound, blockSound, blockAt, idAt, blocksSound, templatesDiffer, tableSound, templateAt, locateOf, findOf};
-use crate::field_type::FieldType;
+use field_types::field_type::FieldType;
 use octets::Answer;
 
 // The most octets that a table has.

@@ -11,7 +11,7 @@ use lib.Seq.{sets, length-sets, drop-cons}
 use lib.Dec.{ltb}
 use Rattle.octets.specs.Numbers.{octetsOf, putAt}
 use Rattle.octets.proofs.Stores.{cond-cases, put-fits}
-use Rattle.messages.proofs.Messages.{sets-then, put-then}
+use Rattle.wire.proofs.Messages.{sets-then, put-then}
 use Rattle.tape.specs.Lines.{space, newline, digit, decimal, hex, writtenText, lineOf}
 
 -- A number in decimal was stored at a place, and the place behind it answered.

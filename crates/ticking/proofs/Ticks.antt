@@ -8,7 +8,7 @@ use native.Mathlib.Omega.{arith}
 use borrow.Author.Tests.{not-true}
 use lib.Dec.{eqb, ltb}
 use Rattle.octets.specs.Answers.{done, unsoundState}
-use Rattle.tables.proofs.Each.{and-left}
+use Rattle.octets.proofs.Each.{and-left}
 use Rattle.session.specs.Servers.{choose, IsChoice, sameActive, isNobody, chosen, changed, activated, settle, withServers, withCounts, lateServers, expired, tickedFor, ticked}
 use Rattle.session.specs.Sound.{sound}
 use Rattle.session.specs.Steps.{tick, answer, checks, after, settled, tickStep, steppedOf}

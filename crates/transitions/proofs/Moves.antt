@@ -18,8 +18,8 @@ use Rattle.wire.specs.Messages.{Placed, isTmplData, isData, layoutOf, writeOf, 
 use Rattle.messages.specs.declared.message.Message.{Message}
 use Rattle.messages.specs.declared.message.Written.{Written}
 use Rattle.messages.specs.declared.message.Written.the-variants as written
-use Rattle.messages.proofs.Messages.{allowed, placed}
-use Rattle.tables.proofs.Each.{and-left}
+use Rattle.wire.proofs.Messages.{allowed, placed}
+use Rattle.octets.proofs.Each.{and-left}
 use Rattle.session.specs.Servers.{phaseAt, Transition, start, stop, negotiate, offer, down, agree, malformed}
 use Rattle.session.specs.Steps.{move, answer, replyTo, transitionChecks, isSessions, turnChecks}
 use Rattle.session.specs.Sound.{sound}

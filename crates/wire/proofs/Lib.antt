@@ -1,8 +1,8 @@
 -- The claim of demand 2, and the laws of the crates below, passed on.
 pub mod Demand2
-pub use Rattle.tables.proofs.Each
-pub use Rattle.tables.proofs.FieldTypes
-pub use Rattle.tables.proofs.TypeFacts
+pub use Rattle.octets.proofs.Each
+pub use Rattle.field_types.proofs.FieldTypes
+pub use Rattle.field_types.proofs.TypeFacts
 pub use Rattle.tables.proofs.Tables
 pub use Rattle.records.proofs.FieldsWithin
 pub use Rattle.records.proofs.Records

@@ -25,11 +25,11 @@
 // Nothing else is declared here. A crate that makes, matches or passes on a struct or enum lists, beside this one, the crate that declares
 // it (`tables`, `records`, `readers`, `appending`, `messages`): the checker asks for it. Its text names `wire` alone.
 pub use appending::append;
+pub use field_types::field_type;
 pub use messages::message;
 pub use readers::reader;
 pub use reading::read;
 pub use records::record;
 pub use records::walk;
-pub use tables::field_type;
 pub use tables::table;
 pub use writing::write;

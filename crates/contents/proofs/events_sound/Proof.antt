@@ -3,7 +3,7 @@ use mathlib.Core.Path.{_≡_, _∙_, sym}
 use Prim.Native.Nat.{_≤_, _-_}
 use native.Mathlib.Omega.{arith}
 use Rattle.wire.specs.Each.{every}
-use Rattle.tables.proofs.Each.{every-more}
+use Rattle.octets.proofs.Each.{every-more}
 use Rattle.contents.specs.Tape.{eventSound}
 use mathlib.Core.Path.{_≡_, _∙_}
 use borrow.Author.Needs.{needs}

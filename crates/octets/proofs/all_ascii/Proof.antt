@@ -6,9 +6,9 @@ use native.Mathlib.Omega.{arith}
 use Prim.Native.Nat.{ℕ, _+_, _-_, _≤_, _<_}
 use lib.Dec.{ltb}
 use lib.ListN.{getD, List·getD-eq-default}
-use Rattle.octets.specs.Every.{every}
+use Rattle.octets.specs.Each.{every}
 use Rattle.octets.specs.Numbers.{asciiLimit, allAscii}
-use Rattle.octets.proofs.Every.{every-more, every-enough}
+use Rattle.octets.proofs.Each.{every-more, every-enough}
 use borrow.Author.Needs.{needs}
 use Rattle.octets.proofs.all_ascii.Statement.{statement}
 use Rattle.octets.proofs.all_ascii.Tie as tie

@@ -8,8 +8,8 @@ use borrow.Author.Needs.{needs}
 use borrow.Author.Tests.{eqb-true, le-leb, lt-leb}
 use lib.Dec.{eqb}
 use lib.ListN.{getD}
-use Rattle.octets.specs.Every.{every}
-use Rattle.octets.proofs.Every.{every-at}
+use Rattle.octets.specs.Each.{every}
+use Rattle.octets.proofs.Each.{every-at}
 use Rattle.octets.proofs.greatest.Statement.{statement}
 use Rattle.octets.proofs.greatest.Tie as tie
 

@@ -6,7 +6,7 @@ use native.Mathlib.Omega.{arith}
 use Prim.Native.Nat.{_-_, _≤_}
 use lib.ListN.{getD}
 use Rattle.wire.specs.Each.{every}
-use Rattle.tables.proofs.Each.{every-more}
+use Rattle.octets.proofs.Each.{every-more}
 use Rattle.session.specs.Queue.{has}
 use Rattle.session.proofs.Arrays.{has-both, has-all}
 use borrow.Author.Needs.{needs}

@@ -5,7 +5,7 @@ use native.Mathlib.Omega.{arith}
 use Prim.Native.Nat.{_-_, _≤_}
 use Rattle.wire.specs.Each.{every}
 use Rattle.session.specs.Sound.{entrySound}
-use Rattle.tables.proofs.Each.{every-more}
+use Rattle.octets.proofs.Each.{every-more}
 use Rattle.session.proofs.Arrays.{one-shifted}
 use borrow.Author.Needs.{needs}
 use Rattle.queue.proofs.entries_sound.Statement.{statement}

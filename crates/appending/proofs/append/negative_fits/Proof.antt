@@ -4,9 +4,9 @@ use mathlib.Core.Bool.{true}
 use Prim.Native.Nat.{_-_, _≤_}
 use native.Mathlib.Omega.{arith}
 use borrow.Author.Tests.{not-true, not-false}
-use Rattle.tables.specs.FieldTypes.{isSigned}
+use Rattle.field_types.specs.FieldTypes.{isSigned}
 use Rattle.appending.specs.Append.{negativeFits}
-use Rattle.tables.proofs.TypeFacts.{number-width, signed-number}
+use Rattle.field_types.proofs.TypeFacts.{number-width, signed-number}
 use Rattle.octets.proofs.Numbers.{greatest-of}
 use Rattle.records.proofs.Widths.{size-test}
 use borrow.Author.Needs.{needs}

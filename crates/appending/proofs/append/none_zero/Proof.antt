@@ -5,8 +5,8 @@ use Prim.Native.Nat.{_-_, _≤_}
 use native.Mathlib.Omega.{arith}
 use lib.Dec.{eqb}
 use lib.ListN.{length, getD}
-use Rattle.tables.specs.Each.{every}
-use Rattle.tables.proofs.Each.{every-more}
+use Rattle.octets.specs.Each.{every}
+use Rattle.octets.proofs.Each.{every-more}
 use borrow.Author.Needs.{needs}
 use Rattle.appending.proofs.append.none_zero.Statement.{statement}
 use Rattle.appending.proofs.append.none_zero.Tie as tie

@@ -5,9 +5,9 @@ use mathlib.Core.Bool.{true, false}
 use Prim.Native.Nat.{_-_}
 use native.Mathlib.Omega.{arith}
 use borrow.Author.Tests.{eq-eqb, ne-eqb}
-use Rattle.tables.specs.FieldTypes.{isNumber, isSigned, booleanType}
+use Rattle.field_types.specs.FieldTypes.{isNumber, isSigned, booleanType}
 use Rattle.appending.specs.Append.{numberFits}
-use Rattle.tables.proofs.TypeFacts.{number-width, signed-number}
+use Rattle.field_types.proofs.TypeFacts.{number-width, signed-number}
 use Rattle.octets.proofs.Numbers.{greatest-of}
 use Rattle.records.proofs.Widths.{below-test, half-test}
 use borrow.Author.Needs.{needs}

@@ -3,7 +3,7 @@
 use Prim.Native.Nat.{_-_}
 use native.Mathlib.Nat.{zero-add}
 use borrow.Author.Tests.{eq-eqb, ne-eqb}
-use Rattle.tables.specs.FieldTypes.{stringType, terminatedType, blobType}
+use Rattle.field_types.specs.FieldTypes.{stringType, terminatedType, blobType}
 use Rattle.appending.specs.Append.{octetsFit}
 use borrow.Author.Needs.{needs}
 use Rattle.appending.proofs.append.octets_fit.Statement.{statement}

@@ -2,7 +2,7 @@
 use Prim.Native.Nat.{_-_}
 use native.Mathlib.Omega.{arith}
 use borrow.Author.Tests.{eq-eqb, ne-eqb, lt-ltb, le-ltb}
-use Rattle.tables.specs.FieldTypes.{terminatedType}
+use Rattle.field_types.specs.FieldTypes.{terminatedType}
 use Rattle.appending.specs.Append.{octetsField}
 use Rattle.appending.proofs.Appends.{octets-cases}
 use borrow.Author.Needs.{needs}

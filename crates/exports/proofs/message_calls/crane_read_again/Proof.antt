@@ -7,7 +7,7 @@ use lib.ListN.{length, getD}
 use Rattle.wire.specs.Messages.{readingAnswer, writeOf}
 use Rattle.messages.specs.declared.message.Message.{Message}
 use Rattle.messages.specs.declared.message.Written.{Written}
-use Rattle.messages.proofs.RoundTrip.{reading-number}
+use Rattle.wire.proofs.RoundTrip.{reading-number}
 use Rattle.exports.specs.Numbers.{writtenNumber, saidBy}
 use borrow.Author.Needs.{needs}
 use Rattle.exports.proofs.message_calls.crane_read_again.Statement.{statement}

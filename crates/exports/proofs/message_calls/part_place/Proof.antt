@@ -1,7 +1,7 @@
 -- `part_place` meets its contract: a DATA and a TMPL DATA that are not refused carry their part behind their heads, and any other message
 -- carries none. Assumes nothing.
 use mathlib.Core.Path.{sym, _∙_}
-use Rattle.messages.proofs.Messages.{part-of-data, part-of-table, part-of-other}
+use Rattle.wire.proofs.Messages.{part-of-data, part-of-table, part-of-other}
 use borrow.Author.Needs.{needs}
 use Rattle.exports.proofs.message_calls.part_place.Statement.{statement}
 use Rattle.exports.proofs.message_calls.part_place.Tie as tie

@@ -4,8 +4,8 @@ use native.Mathlib.Omega.{arith}
 use Prim.Native.Nat.{_-_, _≤_}
 use mathlib.Core.Bool.{true}
 use lib.ListN.{length}
-use Rattle.tables.specs.Each.{every}
-use Rattle.tables.proofs.Each.{every-false, every-step}
+use Rattle.octets.specs.Each.{every}
+use Rattle.octets.proofs.Each.{every-false, every-step}
 use Rattle.tables.specs.Table.{keyAt, isEnabled}
 use Rattle.records.specs.Record.{lengthUnder, fieldAt, fieldValid, recordValid}
 use Rattle.records.proofs.Records.{valid-field, invalid-field, field-at-more, under-within}

@@ -5,8 +5,8 @@ use Prim.Native.Nat.{_+_, _-_}
 use lib.Dec.{eqb}
 use lib.ListN.{length, getD}
 use borrow.Author.Tests.{eq-eqb, ne-eqb}
-use Rattle.tables.specs.Each.{firstFrom}
-use Rattle.tables.proofs.Each.{first-here, first-on, first-none}
+use Rattle.octets.specs.Each.{firstFrom}
+use Rattle.octets.proofs.Each.{first-here, first-on, first-none}
 use borrow.Author.Needs.{needs}
 use Rattle.records.proofs.record.first_zero.Statement.{statement}
 use Rattle.records.proofs.record.first_zero.Tie as tie

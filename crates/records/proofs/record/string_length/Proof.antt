@@ -2,7 +2,7 @@
 use mathlib.Core.Path.{sym, _∙_}
 use native.Mathlib.Omega.{arith}
 use Prim.Native.Nat.{_-_, _<_}
-use Rattle.tables.specs.Each.{every}
+use Rattle.octets.specs.Each.{every}
 use Rattle.records.specs.Record.{blobLength, stringLength}
 use Rattle.records.proofs.FieldsWithin.{blob-within, blob-counts}
 use borrow.Author.Needs.{needs}

@@ -4,7 +4,7 @@ use Prim.Native.Nat.{_-_}
 use lib.Dec.{eqb}
 use lib.ListN.{length, getD}
 use borrow.Author.Tests.{le-ltb, lt-ltb}
-use Rattle.tables.proofs.Each.{first-least}
+use Rattle.octets.proofs.Each.{first-least}
 use Rattle.records.specs.Record.{terminatedLength}
 use borrow.Author.Needs.{needs}
 use Rattle.records.proofs.record.terminated_length.Statement.{statement}

@@ -2,8 +2,8 @@
 use mathlib.Core.Path.{_≡_, refl, sym, _∙_}
 use native.Mathlib.Omega.{arith}
 use Prim.Native.Nat.{_+_, _-_}
-use Rattle.tables.specs.Each.{firstFrom}
-use Rattle.tables.proofs.Each.{first-here, first-on, first-none}
+use Rattle.octets.specs.Each.{firstFrom}
+use Rattle.octets.proofs.Each.{first-here, first-on, first-none}
 use Rattle.tables.specs.Table.{keyAt, isEnabled}
 use Rattle.records.specs.Walk.{nextKey}
 use borrow.Author.Needs.{needs}

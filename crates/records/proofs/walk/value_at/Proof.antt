@@ -5,9 +5,9 @@ use mathlib.Core.Bool.{true, false}
 use Prim.Native.Nat.{_-_, _≤_}
 use native.Mathlib.Omega.{arith}
 use borrow.Author.Needs.{needs}
-use Rattle.tables.specs.FieldTypes.{isNumber, isSigned}
+use Rattle.field_types.specs.FieldTypes.{isNumber, isSigned}
 use Rattle.records.specs.Walk.{valueAt}
-use Rattle.tables.proofs.TypeFacts.{number-width, signed-number}
+use Rattle.field_types.proofs.TypeFacts.{number-width, signed-number}
 use Rattle.records.proofs.Widths.{uint-u64}
 use Rattle.records.proofs.walk.value_at.Statement.{statement}
 use Rattle.records.proofs.walk.value_at.Tie as tie

@@ -6,7 +6,7 @@ use Prim.Native.Nat.{ℕ, _+_}
 use lib.ListN.{length}
 use Rattle.octets.specs.Numbers.{octetsOf}
 use Rattle.wire.specs.Messages.{dataHeadOctets}
-use Rattle.messages.proofs.Messages.{placed-short, placed, sets-then, data-layout, data-length}
+use Rattle.wire.proofs.Messages.{placed-short, placed, sets-then, data-layout, data-length}
 use Rattle.session.specs.Queue.{ringRead}
 use mathlib.Core.List.{_++_}
 use lib.Seq.{sets, length-sets}

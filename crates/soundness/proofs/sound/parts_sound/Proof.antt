@@ -3,7 +3,7 @@
 use mathlib.Core.Path.{sym, _∙_}
 use native.Mathlib.Omega.{arith}
 use borrow.Author.Tests.{not-true, not-false, le-leb, lt-leb}
-use Rattle.tables.proofs.Each.{clause-last}
+use Rattle.octets.proofs.Each.{clause-last}
 use Rattle.session.specs.Limits.{maxServers}
 use Rattle.session.specs.Sound.{sound}
 use Rattle.session.proofs.SoundFacts.{numbers-facts, unsound, same-active}

@@ -7,8 +7,8 @@ use lib.Dec.{eqb}
 use lib.ListN.{getD}
 use borrow.Author.Tests.{eq-eqb, ne-eqb}
 use borrow.Author.Needs.{needs}
-use Rattle.tables.specs.Each.{every}
-use Rattle.tables.proofs.Each.{every-false, every-step}
+use Rattle.octets.specs.Each.{every}
+use Rattle.octets.proofs.Each.{every-false, every-step}
 use Rattle.tables.proofs.table.all_zero.Statement.{statement}
 use Rattle.tables.proofs.table.all_zero.Tie as tie
 

@@ -5,7 +5,7 @@ use native.Mathlib.Omega.{arith}
 use Prim.Native.Nat.{_-_}
 use borrow.Author.Tests.{not-true, not-false}
 use Rattle.tables.specs.Table.{blockEnd, templateAt, blockSound}
-use Rattle.tables.proofs.Each.{clause-last}
+use Rattle.octets.proofs.Each.{clause-last}
 use Rattle.tables.proofs.Tables.{head-facts}
 use borrow.Author.Needs.{needs}
 use Rattle.tables.proofs.table.block_sound.Statement.{statement}

@@ -5,8 +5,8 @@ use Prim.Native.Nat.{ℕ, _-_, _≤_}
 use mathlib.Core.Bool.{true}
 use borrow.Author.Tests.{not-true, not-false}
 use Rattle.octets.specs.Numbers.{uintAt}
-use Rattle.tables.specs.Each.{every, absent}
-use Rattle.tables.proofs.Each.{clause-last, cond-same, every-false, every-step}
+use Rattle.octets.specs.Each.{every, absent}
+use Rattle.octets.proofs.Each.{clause-last, cond-same, every-false, every-step}
 use Rattle.tables.specs.Table.{blockEnd, blockSound, blockAt, idAt, blocksSound, templatesDiffer}
 use Rattle.tables.proofs.Tables.{block-at-more, block-near, block-inside}
 use borrow.Author.Needs.{needs}

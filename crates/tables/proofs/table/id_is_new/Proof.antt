@@ -5,8 +5,8 @@ use Prim.Native.Nat.{ℕ, _-_, _≤_}
 use mathlib.Core.Bool.{true, not}
 use borrow.Author.Tests.{eq-eqb, ne-eqb}
 use Rattle.octets.specs.Numbers.{uintAt}
-use Rattle.tables.specs.Each.{every, absent}
-use Rattle.tables.proofs.Each.{every-false, every-step}
+use Rattle.octets.specs.Each.{every, absent}
+use Rattle.octets.proofs.Each.{every-false, every-step}
 use Rattle.tables.specs.Table.{blockEnd, blockAt, idAt}
 use Rattle.tables.proofs.Tables.{block-at-more, block-near, block-in}
 use borrow.Author.Needs.{needs}

@@ -4,8 +4,8 @@ use native.Mathlib.Omega.{arith}
 use Prim.Native.Nat.{_-_, _≤_}
 use mathlib.Core.Bool.{true, not}
 use borrow.Author.Tests.{eq-eqb, ne-eqb}
-use Rattle.tables.specs.Each.{every, absent}
-use Rattle.tables.proofs.Each.{every-false, every-step}
+use Rattle.octets.specs.Each.{every, absent}
+use Rattle.octets.proofs.Each.{every-false, every-step}
 use Rattle.tables.specs.Table.{keyId, keyAt}
 use borrow.Author.Needs.{needs}
 use Rattle.tables.proofs.table.key_is_new.Statement.{statement}

@@ -4,8 +4,8 @@ use native.Mathlib.Omega.{arith}
 use Prim.Native.Nat.{_-_, _≤_}
 use mathlib.Core.Bool.{true}
 use borrow.Author.Tests.{not-true, not-false}
-use Rattle.tables.specs.Each.{every}
-use Rattle.tables.proofs.Each.{every-false, every-step}
+use Rattle.octets.specs.Each.{every}
+use Rattle.octets.proofs.Each.{every-false, every-step}
 use Rattle.tables.specs.Table.{keysDiffer}
 use borrow.Author.Needs.{needs}
 use Rattle.tables.proofs.table.keys_differ.Statement.{statement}

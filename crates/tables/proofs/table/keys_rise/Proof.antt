@@ -2,7 +2,7 @@
 use native.Mathlib.Omega.{arith}
 use Prim.Native.Nat.{_-_, _≤_}
 use mathlib.Core.Bool.{true, false}
-use Rattle.tables.proofs.Each.{every-fewer}
+use Rattle.octets.proofs.Each.{every-fewer}
 use Rattle.tables.specs.Table.{keyId, keyAt}
 use Rattle.tables.proofs.Tables.{Rising, rise-start, rise-step}
 use mathlib.Core.Bool.{false≢true}

@@ -5,8 +5,8 @@ use native.Mathlib.Omega.{arith}
 use Prim.Native.Nat.{_-_, _≤_}
 use borrow.Author.Tests.{not-true, not-false}
 use borrow.Author.Needs.{needs}
-use Rattle.tables.specs.Each.{every}
-use Rattle.tables.proofs.Each.{every-false, every-step}
+use Rattle.octets.specs.Each.{every}
+use Rattle.octets.proofs.Each.{every-false, every-step}
 use Rattle.tables.specs.Table.{keysSound}
 use Rattle.tables.proofs.table.keys_sound.Statement.{statement}
 use Rattle.tables.proofs.table.keys_sound.Tie as tie

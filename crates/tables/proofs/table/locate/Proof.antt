@@ -5,8 +5,8 @@ use Prim.Native.Nat.{ℕ, _+_, _-_, _≤_, _<_}
 use lib.Dec.{eqb}
 use borrow.Author.Tests.{eq-eqb, ne-eqb, le-leb, lt-leb}
 use Rattle.octets.specs.Numbers.{uintAt}
-use Rattle.tables.specs.Each.{firstFrom}
-use Rattle.tables.proofs.Each.{first-here, first-on, first-none}
+use Rattle.octets.specs.Each.{firstFrom}
+use Rattle.octets.proofs.Each.{first-here, first-on, first-none}
 use Rattle.tables.specs.Table.{blockEnd, blockAt, idAt, templateCount, templateIndex, locateOf}
 use Rattle.tables.proofs.Tables.{block-at-more, block-near, block-in, table-facts}
 use borrow.Author.Needs.{needs}

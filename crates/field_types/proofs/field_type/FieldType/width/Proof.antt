@@ -1,9 +1,9 @@
 -- `width` meets its contract: the widths are those of the rows, by a test over the table, and past it no type has a fixed width.
 use native.Mathlib.Omega.{arith}
-use Rattle.tables.proofs.FieldTypes.{width-low, width-high}
+use Rattle.field_types.proofs.FieldTypes.{width-low, width-high}
 use borrow.Author.Needs.{needs}
-use Rattle.tables.proofs.field_type.FieldType.width.Statement.{statement}
-use Rattle.tables.proofs.field_type.FieldType.width.Tie as tie
+use Rattle.field_types.proofs.field_type.FieldType.width.Statement.{statement}
+use Rattle.field_types.proofs.field_type.FieldType.width.Tie as tie
 
 cast-n : tie.Need-cast-n
 cast-n c = search needs

@@ -1,10 +1,14 @@
 -- Tests of every number below a bound, the first number that passes a test, numbers that differ, a list of clauses, and a table's row by
 -- its number.
 use Prim.Native.Nat.{ℕ, zero, suc, _+_}
-use mathlib.Core.Bool.{Bool, true, false, cond, not}
+use mathlib.Core.Bool.{Bool, true, false, cond, not, _&&_}
 use mathlib.Core.List.{List, [], _∷_}
 use lib.Dec.{eqb}
-unfoldable pub use Rattle.octets.specs.Every.{every}
+
+-- Every number below n passes.
+unfoldable pub every : ℕ → (ℕ → Bool) → Bool
+every zero test = true
+every (suc n) test = every n test && test n
 
 -- The first of the n numbers from i on that passes, or i + n where none does.
 unfoldable pub firstFrom : ℕ → ℕ → (ℕ → Bool) → ℕ

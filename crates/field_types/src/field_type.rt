@@ -1,6 +1,6 @@
 // The types of a record's fields, for reader and writer: each has one number, width and signedness.
 ghost use mathlib.Core.Path.{_≡_};
-ghost use Rattle.tables.specs.FieldTypes.{typeNumbers, widthOf, isType, isSigned, isNumber};
+ghost use Rattle.field_types.specs.FieldTypes.{typeNumbers, widthOf, isType, isSigned, isNumber};
 
 // A field type, by its number.
 pub struct FieldType {

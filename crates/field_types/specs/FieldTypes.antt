@@ -2,7 +2,7 @@
 use Prim.Native.Nat.{ℕ}
 use mathlib.Core.Bool.{Bool, true, false}
 use mathlib.Core.List.{List, [], _∷_, map}
-use Rattle.tables.specs.Each.{lookUp}
+use Rattle.octets.specs.Each.{lookUp}
 
 -- What the octets of a field stand for: an unsigned number (floats by their bits, Booleans and times too), a signed number, or themselves.
 pub data Class : Type 0 where

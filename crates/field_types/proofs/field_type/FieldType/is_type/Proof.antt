@@ -1,7 +1,7 @@
 -- `is_type` meets its contract: the law of the table of types says that the two ranges and the three numbers tested are those of its rows.
-use Rattle.tables.proofs.FieldTypes.{type-code}
-use Rattle.tables.proofs.field_type.FieldType.is_type.Statement.{statement}
-use Rattle.tables.proofs.field_type.FieldType.is_type.Tie as tie
+use Rattle.field_types.proofs.FieldTypes.{type-code}
+use Rattle.field_types.proofs.field_type.FieldType.is_type.Statement.{statement}
+use Rattle.field_types.proofs.field_type.FieldType.is_type.Tie as tie
 
 returns : tie.Need-returns
 returns c = type-code (c .args .self .number)

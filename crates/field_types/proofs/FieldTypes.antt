@@ -7,10 +7,10 @@ use native.Mathlib.Omega.{arith}
 use borrow.Author.Tests.{ltb-true, ltb-false, eqb-true, ne-eqb, lt-leb}
 use lib.Dec.{ltb, leb, eqb}
 use lib.ListN.{getD, take, drop}
-use Rattle.tables.specs.Each.{every}
-use Rattle.tables.specs.FieldTypes.{booleanType, signed8Type, signed16Type, signed32Type, signed64Type, doubleType, ipv4Type, secondsType, microseconds32Type, stringType, terminatedType, blobType}
-use Rattle.tables.specs.FieldTypes.{Row, rows, ofRow, widthOf, isType, isSigned, isNumber, isSignedClass, isNumberClass}
-use Rattle.tables.proofs.Each.{every-at, and-left, and-right, and-false, same, same-true}
+use Rattle.octets.specs.Each.{every}
+use Rattle.field_types.specs.FieldTypes.{booleanType, signed8Type, signed16Type, signed32Type, signed64Type, doubleType, ipv4Type, secondsType, microseconds32Type, stringType, terminatedType, blobType}
+use Rattle.field_types.specs.FieldTypes.{Row, rows, ofRow, widthOf, isType, isSigned, isNumber, isSignedClass, isNumberClass}
+use Rattle.octets.proofs.Each.{every-at, and-left, and-right, and-false, same, same-true}
 
 -- every row has a number below b
 abbrev numbersBelow : ℕ → List Row → Bool

@@ -1,13 +1,15 @@
--- Laws of `every`, which every loop's proof cites. What every number below a bound passes goes by induction on the bound.
+-- Laws of Booleans and clauses, of `every` and of `firstFrom`, which every loop's proof cites. What every number below a bound passes goes by
+-- induction on the bound.
 use mathlib.Core.Path.{_≡_, refl, sym, ap, _∙_}
-use mathlib.Core.Bool.{Bool, true, false, _&&_, false≢true}
-use Prim.Native.Nat.{ℕ, zero, suc, _+_, _≤_, _<_}
+use mathlib.Core.Bool.{Bool, true, false, _&&_, false≢true, cond, not}
+use Prim.Native.Nat.{ℕ, zero, suc, _+_, _≤_, _<_, _-_}
 use native.Mathlib.Nat.{not-suc-le-zero, le-refl}
 use native.Mathlib.Numerals.{add-one}
 use native.Mathlib.Omega.{arith}
 use borrow.Author.Tests.{ltb-true, ltb-false}
 use lib.Dec.{ltb}
-use Rattle.octets.specs.Every.{every}
+use Rattle.octets.specs.Each.{every, firstFrom}
+use Rattle.octets.proofs.Stores.{cond-cases}
 
 -- ---- both of two
 
@@ -83,3 +85,63 @@ every-enough n m p l h = go (every m p) refl
         none : (b : Bool) → every n p ≡ b → b ≡ false
         none true e = absurd (false≢true (sym t ∙ every-fewer n p e m l))
         none false e = refl
+
+-- ---- bools
+
+pub and-false : (a : Bool) → a && false ≡ false
+and-false true = refl
+and-false false = refl
+
+pub cond-same : {A : Type 0} (b : Bool) (x : A) → cond b x x ≡ x
+cond-same true x = refl
+cond-same false x = refl
+
+-- the first of some clauses that all hold, the others, and the last alone
+pub clause-first : (a rest : Bool) → cond a rest false ≡ true → a ≡ true
+clause-first true rest e = refl
+clause-first false rest e = e
+
+pub clause-rest : (a rest : Bool) → cond a rest false ≡ true → rest ≡ true
+clause-rest true rest e = e
+clause-rest false rest e = absurd (false≢true e)
+
+pub clause-last : (a : Bool) → cond a true false ≡ a
+clause-last true = refl
+clause-last false = refl
+
+-- two bools that are equal, as a bool, so that equality is computed
+abbrev pub same : Bool → Bool → Bool
+same a b = cond a b (not b)
+
+pub same-true : (a b : Bool) → same a b ≡ true → a ≡ b
+same-true true b e = sym e
+same-true false true e = absurd (false≢true e)
+same-true false false e = refl
+
+-- ---- the first that passes
+
+-- it is here
+pub first-here : (i n : ℕ) (p : ℕ → Bool) → 0 < n → p i ≡ true → firstFrom i n p ≡ i
+unfolding firstFrom
+first-here i zero p h e = absurd (not-suc-le-zero h)
+first-here i (suc n) p h e = rw e
+
+-- it is further on
+pub first-on : (i n : ℕ) (p : ℕ → Bool) → 0 < n → p i ≡ false → firstFrom i n p ≡ firstFrom (i + 1) (n - 1) p
+unfolding firstFrom
+first-on i zero p h e = absurd (not-suc-le-zero h)
+first-on i (suc n) p h e =
+    let k : n ≡ suc n - 1 = omega arith in
+    rw e (ap (λ (k : ℕ). firstFrom (i + 1) k p) k)
+
+-- none is left
+pub first-none : (i n : ℕ) (p : ℕ → Bool) → n ≤ 0 → firstFrom i n p ≡ i
+unfolding firstFrom
+first-none i zero p h = refl
+first-none i (suc n) p h = absurd (not-suc-le-zero h)
+
+-- it is not before the start
+pub first-least : (i n : ℕ) (p : ℕ → Bool) → i ≤ firstFrom i n p
+unfolding firstFrom
+first-least i zero p = le-refl i
+first-least i (suc n) p = cond-cases (λ (k : ℕ). i ≤ k) (p i) i (firstFrom (i + 1) n p) (λ e. le-refl i) (λ e. omega (arith, first-least (i + 1) n p))

@@ -1,8 +1,8 @@
 -- `is_number` meets its contract: the law of the table of types says that the two ranges tested are those of its rows of numbers. Assumes
 -- nothing.
-use Rattle.tables.proofs.FieldTypes.{number-code}
-use Rattle.tables.proofs.field_type.FieldType.is_number.Statement.{statement}
-use Rattle.tables.proofs.field_type.FieldType.is_number.Tie as tie
+use Rattle.field_types.proofs.FieldTypes.{number-code}
+use Rattle.field_types.proofs.field_type.FieldType.is_number.Statement.{statement}
+use Rattle.field_types.proofs.field_type.FieldType.is_number.Tie as tie
 
 returns : tie.Need-returns
 returns c = number-code (c .args .self .number)

@@ -6,8 +6,8 @@ use Prim.Native.Nat.{ℕ, _≤_, _<_}
 use native.Mathlib.Omega.{arith}
 use borrow.Author.Tests.{leb-true, ne-eqb}
 use lib.Dec.{eqb, leb}
-use Rattle.tables.specs.FieldTypes.{Row, rows, ofRow, widthOf, isNumber, isSigned, isNumberClass, isSignedClass, booleanType, stringType, terminatedType, blobType}
-use Rattle.tables.proofs.Each.{and-left, and-right}
+use Rattle.field_types.specs.FieldTypes.{Row, rows, ofRow, widthOf, isNumber, isSigned, isNumberClass, isSignedClass, booleanType, stringType, terminatedType, blobType}
+use Rattle.octets.proofs.Each.{and-left, and-right}
 
 -- every row passes
 abbrev everyRow : (Row → Bool) → List Row → Bool

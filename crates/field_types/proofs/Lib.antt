@@ -1,0 +1,2 @@
+pub mod FieldTypes
+pub mod TypeFacts
