@@ -41,10 +41,8 @@ fn record_answer(p: Settings, table: &[u8], id: u16, r: &[u8]) -> u8
     ensures { λ a. ⌜ a ≡ judge (recordChecks p (now (table .entry)) id (now (r .entry))) ⌝ }
 {
     let answer = wire::record::record_answer(table, id, r);
-    if answer == Answer::UNSOUND_TABLE {
-        return Answer::UNSOUND_TABLE;
-    }
-    if wire::table::configuration_id(table) != p.config {
+    let sound = answer != Answer::UNSOUND_TABLE;
+    if !soundness::session_table::is_sessions_by(sound, p, table) {
         return Answer::UNSOUND_TABLE;
     }
     if answer == Answer::TEMPLATE_NOT_FOUND {
