@@ -153,7 +153,7 @@ fn ack_change<'a>(
 }
 
 // A DATA ACK from server v. Refused with 1, 2, 9, 10 or 11.
-pub fn acknowledge(s: State, v: u8, dsn: u32, config: u8) -> Wrote
+pub(crate) fn acknowledge(s: State, v: u8, dsn: u32, config: u8) -> Wrote
     ensures { λ r. ⌜ r ≡ wroteOf (step 32 [] 0 (ack v dsn config) s []) ⌝ }
 {
     let p = s.settings;

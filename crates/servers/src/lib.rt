@@ -55,7 +55,7 @@ pub fn with_phase(
 }
 
 // Whether a server in this phase is a candidate for the choice.
-pub fn is_agreed(phase: Phase) -> bool
+fn is_agreed(phase: Phase) -> bool
     ensures { λ r. ⌜ r ≡ isAgreed phase ⌝ }
 {
     match phase {
@@ -223,7 +223,7 @@ pub fn is_nobody(a: Active) -> bool
 }
 
 // The delivery after the choice is made anew: another than the active server begins an activation.
-pub fn settle_delivery(d: Delivery, choice: Active, same: bool) -> Delivery
+pub(crate) fn settle_delivery(d: Delivery, choice: Active, same: bool) -> Delivery
     ensures { λ r. ⌜ r ≡ cond (not same) (activated d choice) d ⌝ }
 {
     if same {

@@ -19,7 +19,7 @@ use session::state::Settings;
 use wire::message::MAX_RECORD_OCTETS;
 
 // Whether settings and a store's length are in their limits.
-pub fn settings_sound(p: Settings, room: usize) -> bool
+pub(crate) fn settings_sound(p: Settings, room: usize) -> bool
     ensures { λ r. ⌜ r ≡ settingsSound p room ⌝ }
 {
     (1 <= p.servers)
