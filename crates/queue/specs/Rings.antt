@@ -1,5 +1,5 @@
--- What the ring's helpers answer on all inputs. Where the numbers are those of a sound state and its store, each is the definition of `session`
--- that it names (laws in proofs/Rings).
+-- What the ring's helpers answer on all inputs. Where the numbers are those of a sound state and its store, each is the definition of
+-- `session` that it names (laws in proofs/Rings).
 use Prim.Native.Nat.{ℕ}
 use mathlib.Core.Bool.{_&&_, cond}
 use mathlib.Core.List.{List}

@@ -33,8 +33,8 @@ pub fn octets_to(lengths: &[u16; MAX_HELD], n: usize) -> u32
     sum
 }
 
-// The place in the store where the record at place i of the queue begins, by the store's length and the ring's start; 0 where the start is not
-// below the length.
+// The place in the store where the record at place i of the queue begins, by the store's length and the ring's start; 0 where the start is
+// not below the length.
 pub fn record_start(capacity: usize, start: usize, lengths: &[u16; MAX_HELD], i: usize) -> usize
     ensures { λ r. ⌜ r ≡ recordStart capacity start (now (lengths .entry)) i ⌝ }
 {

@@ -87,7 +87,7 @@ pub fn is_offered(phase: Phase) -> bool
     match phase {
         Phase::Closed => false,
         Phase::Started => false,
-        Phase::Offered => true,
+        Phase::Offered => true, // until its FINAL TMPL DATA ACK
         Phase::Agreed => false,
         Phase::Late => false,
     }
@@ -218,7 +218,7 @@ pub fn is_nobody(a: Active) -> bool
 {
     match a {
         Active::Nobody => true,
-        Active::Server(_) => false,
+        Active::Server(_) => false, // whichever it is
     }
 }
 
