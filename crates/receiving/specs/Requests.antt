@@ -1,17 +1,16 @@
--- What the values of private functions stand for: transitions, requests and readings, and what an acknowledgement changes. These definitions
--- render no rule of 01: the rules are in Steps, and every public contract cites those. Assumes nothing.
+-- What the values of private functions stand for: requests and readings, and what an acknowledgement changes. These definitions render no rule
+-- of 01: the rules are in Steps, and every public contract cites those.
 use Prim.Native.Nat.{ℕ}
 use mathlib.Core.Bool.{cond}
 use lib.Dec.{eqb}
 use Rattle.octets.specs.Answers.{done}
 use Rattle.messages.specs.declared.message.Reading.{Reading}
 use Rattle.messages.specs.declared.message.Reading.the-variants as reading
-use Rattle.session.specs.Servers.{start, malformed}
+use Rattle.session.specs.Servers.{malformed}
 use Rattle.session.specs.Steps.{Call, ack, move, callOfMessage, Outcome}
 use Rattle.receiving.specs.declared.acknowledge.AckChange.{AckChange}
 use Rattle.receiving.specs.declared.decode.Request.{Request}
 use Rattle.receiving.specs.declared.decode.Request.the-variants as request
-use Rattle.transitions.specs.declared.transition.Move.{Move}
 use Rattle.transitions.specs.Moves.{transitionOf}
 
 -- ---- received messages

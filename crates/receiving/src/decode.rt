@@ -73,7 +73,7 @@ fn decode_body(message: &[u8]) -> Request
 }
 
 // What the octets of a message ask for: judged 3, 4, 5 by the header, 6, 7, then by the body.
-pub fn decode(p: Settings, message: &[u8]) -> Request
+pub(crate) fn decode(p: Settings, message: &[u8]) -> Request
     ensures { λ r. ⌜ ((v : ℕ) → callOfRequest v r ≡ received p v (now (message .entry))) ⌝ }
 {
     let header = wire::read::read_header(message);

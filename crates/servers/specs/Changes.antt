@@ -1,4 +1,4 @@
--- What a call changes of a state besides its queue, as a small value. Renders no rule of 01. Assumes nothing.
+-- What a call changes of a state besides its queue, as a small value. Renders no rule of 01.
 use Prim.Native.Nat.{ℕ}
 use mathlib.Core.Bool.{Bool, _||_}
 use lib.ListN.{length}

@@ -1,4 +1,4 @@
--- What a tick changes, by the clock. Renders no rule of 01. Assumes nothing.
+-- What a tick changes, by the clock. Renders no rule of 01.
 use mathlib.Core.Path.{_≡_}
 use Prim.Native.Nat.{_+_, _<_}
 use mathlib.Core.Bool.{Bool, true, false, not, _||_, cond}

@@ -1,2 +1,2 @@
-// Part of the exporter.
+// Tick: the timer of the active server.
 pub mod tick;

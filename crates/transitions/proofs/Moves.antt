@@ -16,6 +16,7 @@ use Rattle.octets.proofs.Stores.{put-fits, put-short}
 use Rattle.wire.specs.Table.{tableSound, configurationId}
 use Rattle.wire.specs.Messages.{Placed, isTmplData, isData, layoutOf, writeOf, writeOut}
 use Rattle.messages.specs.declared.message.Message.{Message}
+use Rattle.messages.specs.declared.message.Message.the-variants.{StartAck, StopAck, StartNegotiateAck, TmplData}
 use Rattle.messages.specs.declared.message.Written.{Written}
 use Rattle.messages.specs.declared.message.Written.the-variants as written
 use Rattle.wire.proofs.Messages.{allowed, placed}
@@ -25,7 +26,9 @@ use Rattle.session.specs.Steps.{move, answer, replyTo, transitionChecks, isSess
 use Rattle.session.specs.Sound.{sound}
 use Rattle.session.specs.declared.state.State.{State}
 use Rattle.servers.proofs.Changes.{move-judged}
-use Rattle.transitions.specs.Moves.{tableFits}
+use Rattle.transitions.specs.Moves.{tableFits, replyOf}
+use Rattle.transitions.specs.declared.transition.Reply.{Reply}
+use Rattle.transitions.specs.declared.transition.Reply.the-variants as reply
 use Rattle.session.specs.declared.state.Phase.{Phase}
 use Rattle.session.specs.declared.state.Settings.{Settings}
 
@@ -81,7 +84,7 @@ table-fits p table phase t a j e = table-passed p table phase t (sym j ∙ e)
 -- ---- what is written
 
 -- a message that no rule but the room's refuses is placed
-pub written-placed : (m : Message) (part out : List ℕ) (answer : Written) (after : List ℕ)
+written-placed : (m : Message) (part out : List ℕ) (answer : Written) (after : List ℕ)
     → (isTmplData m && not (tableSound part)) ≡ false
     → (isData m && ltb 1024 (length part)) ≡ false
     → (answer ≡ writeOf m part out) × (after ≡ writeOut m part out)
@@ -92,8 +95,38 @@ written-placed m part out answer after t d w =
     record { answered = w .0 ∙ sym (q .0); left = w .1 ∙ sym (q .1) }
 
 -- no octets
-pub none-placed : (out : List ℕ) → Placed [] out (written.Octets 0) out
+none-placed : (out : List ℕ) → Placed [] out (written.Octets 0) out
 none-placed out = placed [] out out 0 refl (omega arith) refl
+
+-- the message that a transition writes is placed; its table is sound where it is one
+pub reply-placed : (p : Settings) (table out : List ℕ) (t : Transition) (r : Reply) (m : Message) (answer : Written) (after : List ℕ)
+    → r ≡ replyOf p t → r ≡ reply.Message m → tableFits t table ≡ true
+    → (answer ≡ writeOf m table out) × (after ≡ writeOut m table out)
+    → Placed (replyTo p table t) out answer after
+unfolding layoutOf
+reply-placed p table out start r m answer after e k f w =
+    let q : m ≡ StartAck (p .session) (p .boot) = cc in written-placed (StartAck (p .session) (p .boot)) table out answer after refl refl (rw q at w)
+reply-placed p table out stop r m answer after e k f w =
+    let q : m ≡ StopAck (p .session) = cc in written-placed (StopAck (p .session)) table out answer after refl refl (rw q at w)
+reply-placed p table out negotiate r m answer after e k f w =
+    let q : m ≡ StartNegotiateAck (p .session) = cc in
+    written-placed (StartNegotiateAck (p .session)) table out answer after refl refl (rw q at w)
+reply-placed p table out offer r m answer after e k f w =
+    let q : m ≡ TmplData (p .session) = cc in written-placed (TmplData (p .session)) table out answer after (ap not f) refl (rw q at w)
+reply-placed p table out down r m answer after e k f w = let z : _≡_ {A = ℕ} 0 1 = cc in absurd (omega arith)
+reply-placed p table out (agree config) r m answer after e k f w = let z : _≡_ {A = ℕ} 0 1 = cc in absurd (omega arith)
+reply-placed p table out (malformed a) r m answer after e k f w = let z : _≡_ {A = ℕ} 0 1 = cc in absurd (omega arith)
+
+-- one that writes no message places no octets
+pub reply-none : (p : Settings) (table out : List ℕ) (t : Transition) (r : Reply) → r ≡ replyOf p t → r ≡ reply.Nothing
+    → Placed (replyTo p table t) out (written.Octets 0) out
+reply-none p table out start r e k = let z : _≡_ {A = ℕ} 0 1 = cc in absurd (omega arith)
+reply-none p table out stop r e k = let z : _≡_ {A = ℕ} 0 1 = cc in absurd (omega arith)
+reply-none p table out negotiate r e k = let z : _≡_ {A = ℕ} 0 1 = cc in absurd (omega arith)
+reply-none p table out offer r e k = let z : _≡_ {A = ℕ} 0 1 = cc in absurd (omega arith)
+reply-none p table out down r e k = none-placed out
+reply-none p table out (agree config) r e k = none-placed out
+reply-none p table out (malformed a) r e k = none-placed out
 
 -- octets that were written, and those that were not
 pub record Fitted (octets out : List ℕ) (n : ℕ) (after : List ℕ) : Type 0 where

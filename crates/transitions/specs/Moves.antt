@@ -1,12 +1,16 @@
--- What the values of private functions stand for: transitions, requests and readings, and what an acknowledgement changes. These definitions
--- render no rule of 01: the rules are in Steps, and every public contract cites those. Assumes nothing.
+-- What the values of private functions stand for: transitions and what they write. These definitions render no rule of 01: the rules are in
+-- Steps, and every public contract cites those.
 use Prim.Native.Nat.{ℕ}
 use mathlib.Core.Bool.{Bool, true}
 use mathlib.Core.List.{List}
 use Rattle.wire.specs.Table.{tableSound}
 use Rattle.session.specs.Servers.{Transition, start, stop, negotiate, offer, down, agree, malformed}
+use Rattle.session.specs.declared.state.Settings.{Settings}
+use Rattle.messages.specs.declared.message.Message.the-variants.{StartAck, StopAck, StartNegotiateAck, TmplData}
 use Rattle.transitions.specs.declared.transition.Move.{Move}
 use Rattle.transitions.specs.declared.transition.Move.the-variants as code
+use Rattle.transitions.specs.declared.transition.Reply.{Reply}
+use Rattle.transitions.specs.declared.transition.Reply.the-variants as reply
 
 -- ---- transitions
 
@@ -29,3 +33,13 @@ tableFits offer table = tableSound table
 tableFits down table = true
 tableFits (agree config) table = true
 tableFits (malformed a) table = true
+
+-- The message that a transition writes: START, STOP and START NEGOTIATE are acknowledged, an offer is TMPL DATA. `replyTo` is its octets.
+abbrev pub replyOf : Settings → Transition → Reply
+replyOf p start = reply.Message (StartAck (p .session) (p .boot))
+replyOf p stop = reply.Message (StopAck (p .session))
+replyOf p negotiate = reply.Message (StartNegotiateAck (p .session))
+replyOf p offer = reply.Message (TmplData (p .session))
+replyOf p down = reply.Nothing
+replyOf p (agree config) = reply.Nothing
+replyOf p (malformed a) = reply.Nothing

@@ -6,10 +6,10 @@ ghost use lib.ListN.{length};
 ghost use Rattle.octets.specs.Answers.{judge};
 ghost use Rattle.wire.specs.Messages.{Placed};
 ghost use Rattle.session.specs.Servers.{offer, agree, transition, withServers};
-ghost use Rattle.session.specs.Steps.{isSessions, move, step, replyTo, outputAfter, wroteOf, negotiateChecks, turnChecks};
+ghost use Rattle.session.specs.Steps.{move, step, replyTo, outputAfter, wroteOf, negotiateChecks, turnChecks};
 ghost use Rattle.servers.specs.Changes.{changeOf};
 ghost use Rattle.session.specs.Parts.{stateOf};
-ghost use Rattle.transitions.specs.Moves.{transitionOf, tableFits};
+ghost use Rattle.transitions.specs.Moves.{transitionOf, tableFits, replyOf};
 use octets::Answer;
 use servers::change::Change;
 use session::limits::MAX_HELD;
@@ -35,12 +35,10 @@ pub enum Move {
     Malformed(u8),
 }
 
-// Whether a lent table is the session's.
-pub fn is_sessions(p: Settings, table: &[u8]) -> bool
-    ensures { λ r. ⌜ r ≡ isSessions p (now (table .entry)) ⌝ }
-{
-    let sound = wire::table::table_sound(table);
-    sound & (wire::table::configuration_id(table) == p.config)
+// What a transition writes: a message, with the lent table for TMPL DATA, or nothing.
+pub enum Reply {
+    Message(Message),
+    Nothing,
 }
 
 // START NEGOTIATE is judged 9.
@@ -57,7 +55,7 @@ fn negotiate_answer(phase: Phase) -> u8
 fn offer_answer(p: Settings, table: &[u8], phase: Phase) -> u8
     ensures { λ r. ⌜ r ≡ judge (turnChecks p (now (table .entry)) offer phase) ⌝ }
 {
-    if !is_sessions(p, table) {
+    if !soundness::session_table::is_sessions(p, table) {
         return Answer::UNSOUND_TABLE;
     }
     if !servers::can_offer(phase) {
@@ -94,27 +92,32 @@ fn turn_answer(p: Settings, m: Move, table: &[u8], phase: Phase) -> u8
     }
 }
 
+// The message that a transition writes, if it writes one.
+fn reply_of(p: Settings, m: Move) -> Reply
+    ensures { λ r. ⌜ r ≡ replyOf p (transitionOf m) ⌝ }
+{
+    let session = p.session;
+    let boot_time = p.boot;
+    match m {
+        Move::Start => Reply::Message(Message::StartAck { session, boot_time }),
+        Move::Stop => Reply::Message(Message::StopAck { session }),
+        Move::Negotiate => Reply::Message(Message::StartNegotiateAck { session }),
+        Move::Offer => Reply::Message(Message::TmplData { session }),
+        Move::Down => Reply::Nothing,
+        Move::Agree(_) => Reply::Nothing,
+        Move::Malformed(_) => Reply::Nothing,
+    }
+}
+
 // Writes the message that answers a transition, or offers the templates; some have none.
 fn write_reply(p: Settings, m: Move, table: &[u8], out: &mut [u8]) -> Written
     requires { ⌜ tableFits (transitionOf m) (now table) ≡ true ⌝ }
     ensures { λ r. ⌜ Placed (replyTo p (now (table .entry)) (transitionOf m)) (now (out .entry)) r (now (out .exit)) ⌝ }
 {
-    let session = p.session;
-    match m {
-        Move::Start => {
-            let boot_time = p.boot;
-            wire::write::write_message(Message::StartAck { session, boot_time }, table, out)
-        }
-        Move::Stop => wire::write::write_message(Message::StopAck { session }, table, out),
-        Move::Negotiate => wire::write::write_message(
-            Message::StartNegotiateAck { session },
-            table,
-            out,
-        ),
-        Move::Offer => wire::write::write_message(Message::TmplData { session }, table, out),
-        Move::Down => Written::Octets(0),
-        Move::Agree(_) => Written::Octets(0),
-        Move::Malformed(_) => Written::Octets(0),
+    let reply = reply_of(p, m);
+    match reply {
+        Reply::Message(message) => wire::write::write_message(message, table, out),
+        Reply::Nothing => Written::Octets(0),
     }
 }
 
