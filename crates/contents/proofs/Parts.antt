@@ -1,4 +1,4 @@
--- Laws of the parts of a tape, and of its soundness. Assumes nothing.
+-- Laws of the parts of a tape, and of its soundness.
 use mathlib.Core.Path.{_≡_, refl, sym, ap, _∙_}
 use mathlib.Core.Bool.{Bool, true, false, not, cond}
 use mathlib.Core.List.{List, [], _∷_}

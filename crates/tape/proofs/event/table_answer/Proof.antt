@@ -1,4 +1,4 @@
--- `table_answer` meets its contract: the table is the session's where both tests pass. Assumes nothing.
+-- `table_answer` meets its contract: the table is the session's where both tests pass.
 use mathlib.Core.Path.{refl, sym, _∙_}
 use borrow.Author.Tests.{not-true, not-false, eq-eqb, ne-eqb}
 use Rattle.octets.proofs.Judging.{tests}
