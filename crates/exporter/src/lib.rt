@@ -16,6 +16,7 @@ pub use receiving::receive;
 pub use sending::next_data;
 pub use session::limits;
 pub use session::state;
+pub use soundness::session_table;
 pub use soundness::set_up;
 pub use ticking::tick;
 pub use transitions::line_down;

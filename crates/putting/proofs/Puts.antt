@@ -6,13 +6,15 @@ use mathlib.Core.Bool.{Bool, true, false, cond, not, _&&_}
 use mathlib.Core.List.{List, [], _∷_, _++_}
 use Prim.Native.Nat.{ℕ, _+_, _%_, _≤_, _<_}
 use native.Mathlib.Omega.{arith}
-use lib.Dec.{eqb}
+use lib.Dec.{eqb, ltb}
 use lib.ListN.{length, getD, set}
 use lib.Seq.{set-getD}
 use borrow.Author.Tests.{not-false, ne-eqb, eqb-true, eqb-false, leb-false, ltb-false}
 use Rattle.octets.specs.Answers.{_when_, judge, done, unsoundState}
 use Rattle.octets.proofs.Judging.{passed, judged-first, judged-next}
 use Rattle.tables.proofs.Each.{and-left, and-right}
+use Rattle.wire.specs.Table.{tableSound, configurationId, isMissing, templateOf}
+use Rattle.wire.specs.Record.{recordValid, recordAnswer}
 use Rattle.session.specs.Sound.{sound}
 use Rattle.session.specs.Steps.{put, answer, checks, soundFor, after, storeAfter, putStep, steppedOf, recordChecks, roomChecks}
 use Rattle.session.specs.Queue.{heldOctets, ringWrite, pushed}
@@ -29,7 +31,7 @@ use Rattle.session.proofs.StepLaws.{settled-same, step-done, step-refused}
 -- ID the session's, the template missing, the record too long, the record valid
 record-judged : (sound same missing long valid : Bool)
     → let a = judge ((21 when not sound) ∷ (15 when missing) ∷ (16 when not valid) ∷ []) in
-    cond (eqb a 21) 21 (cond (not same) 21 (cond (eqb a 15) 15 (cond long 17 a)))
+    cond (not (not (eqb a 21) && same)) 21 (cond (eqb a 15) 15 (cond long 17 a))
     ≡ judge ((21 when not (sound && same)) ∷ (15 when missing) ∷ (17 when long) ∷ (16 when not valid) ∷ [])
 record-judged false same missing long valid = refl
 record-judged true false true long valid = refl
@@ -41,13 +43,16 @@ record-judged true true false true false = refl
 record-judged true true false false true = refl
 record-judged true true false false false = refl
 
--- the same, by what the tests on the way came to
-pub record-cases : (sound same missing long valid : Bool) (b c d e : Bool)
-    → let a = judge ((21 when not sound) ∷ (15 when missing) ∷ (16 when not valid) ∷ []) in
-    eqb a 21 ≡ b → same ≡ c → eqb a 15 ≡ d → long ≡ e
-    → cond b 21 (cond (not c) 21 (cond d 15 (cond e 17 a)))
-    ≡ judge ((21 when not (sound && same)) ∷ (15 when missing) ∷ (17 when long) ∷ (16 when not valid) ∷ [])
-record-cases sound same missing long valid b c d e p q r s = rw (sym p, sym q, sym r, sym s) (record-judged sound same missing long valid)
+-- the same of wire's answer a, by what the tests on the way came to: whether the table is the session's, the template missing, the record
+-- too long
+pub record-tests : (p : Settings) (table : List ℕ) (id : ℕ) (r : List ℕ) (a : ℕ) (ours : Bool) → a ≡ recordAnswer table id r
+    → ours ≡ (not (eqb a 21) && eqb (configurationId table) (p .config))
+    → (b c d : Bool) → ours ≡ b → eqb a 15 ≡ c → ltb 1024 (length r) ≡ d
+    → cond (not b) 21 (cond c 15 (cond d 17 a)) ≡ judge (recordChecks p table id r)
+unfolding recordAnswer
+record-tests p table id r a ours e k b c d x y z =
+    rw (sym x, k, sym y, sym z, e)
+    (record-judged (tableSound table) (eqb (configurationId table) (p .config)) (isMissing table id) (ltb 1024 (length r)) (recordValid table (templateOf table id) r))
 
 -- the record is judged, and then the room: a is what the record was judged, b the room
 module _ (p : Settings) (capacity n : ℕ) (lengths table : List ℕ) (id : ℕ) (r : List ℕ) (a : ℕ) (e : a ≡ judge (recordChecks p table id r)) where

@@ -2,11 +2,9 @@
 ghost use mathlib.Core.Path.{_≡_};
 ghost use mathlib.Core.List.{[], _∷_, _++_};
 ghost use mathlib.Core.Bool.{not, _&&_};
-ghost use Prim.Native.Nat.{_≤_};
 ghost use lib.Dec.{eqb};
 ghost use lib.ListN.{length};
 ghost use Rattle.octets.specs.Answers.{_when_, judge, unsoundState};
-ghost use Rattle.session.specs.Limits.{maxHeld};
 ghost use Rattle.session.specs.Sound.{sound};
 ghost use Rattle.putting.specs.Puttings.{puttingOf};
 ghost use Rattle.session.specs.Parts.{stateOf};
@@ -43,10 +41,8 @@ fn record_answer(p: Settings, table: &[u8], id: u16, r: &[u8]) -> u8
     ensures { λ a. ⌜ a ≡ judge (recordChecks p (now (table .entry)) id (now (r .entry))) ⌝ }
 {
     let answer = wire::record::record_answer(table, id, r);
-    if answer == Answer::UNSOUND_TABLE {
-        return Answer::UNSOUND_TABLE;
-    }
-    if wire::table::configuration_id(table) != p.config {
+    let sound = answer != Answer::UNSOUND_TABLE;
+    if !soundness::session_table::is_sessions_by(sound, p, table) {
         return Answer::UNSOUND_TABLE;
     }
     if answer == Answer::TEMPLATE_NOT_FOUND {
@@ -60,7 +56,6 @@ fn record_answer(p: Settings, table: &[u8], id: u16, r: &[u8]) -> u8
 
 // 0 for a record that finds room beside n held ones, else 18 or 19.
 fn room_answer(capacity: usize, n: usize, lengths: &[u16; MAX_HELD], r: &[u8]) -> u8
-    requires { ⌜ n ≤ maxHeld ⌝ }
     ensures { λ a. ⌜ a ≡ judge (roomChecks capacity n (now (lengths .entry)) (now (r .entry))) ⌝ }
 {
     if MAX_HELD <= n {

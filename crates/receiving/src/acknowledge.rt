@@ -2,11 +2,10 @@
 ghost use mathlib.Core.Path.{_≡_};
 ghost use mathlib.Core.List.{[]};
 ghost use Prim.Native.Nat.{_≤_, _<_};
-ghost use lib.ListN.{take};
 ghost use Rattle.octets.specs.Answers.{judge, done};
-ghost use Rattle.session.specs.Limits.{maxHeld, maxStoreOctets};
+ghost use Rattle.session.specs.Limits.{maxHeld};
 ghost use Rattle.session.specs.Servers.{acknowledged};
-ghost use Rattle.session.specs.Queue.{sumOf, ringPlace, dropFront};
+ghost use Rattle.session.specs.Queue.{ringPlace};
 ghost use Rattle.session.specs.Parts.{stateOf};
 ghost use Rattle.session.specs.Steps.{ack, step, wroteOf, ackCountBy, ackChecks};
 ghost use Rattle.receiving.specs.Requests.{ackChangeOf};
@@ -14,7 +13,6 @@ use octets::Answer;
 use session::limits::MAX_HELD;
 use session::state::Active;
 use session::state::Delivery;
-use session::state::Queue;
 use session::state::Settings;
 use session::state::State;
 use session::state::Wrote;
@@ -80,6 +78,22 @@ fn refuse_ack(answer: u8, d: Delivery, start: usize) -> AckChange
     }
 }
 
+// The delivery after a DATA ACK that releases n records.
+fn acknowledge_delivery(d: Delivery, n: usize) -> Delivery
+    requires { ⌜ n ≤ d .reached ⌝ }
+    ensures { λ r. ⌜ r ≡ acknowledged n d ⌝ }
+{
+    let mut next = d;
+    if n == 0 {
+        next.sent = 0;
+        return next;
+    }
+    next.sent = octets::saturating_sub(d.sent, n);
+    next.reached = d.reached - n;
+    next.timer = 0;
+    next
+}
+
 // What a DATA ACK changes that releases n records: their octets are free. The servers stay, and so does the choice.
 fn accept_ack(
     capacity: usize,
@@ -88,8 +102,7 @@ fn accept_ack(
     start: usize,
     n: usize,
 ) -> AckChange
-    requires { ⌜ (n ≤ d .reached) × ((d .reached ≤ maxHeld)
-        × ((start < capacity) × ((capacity ≤ maxStoreOctets) × (sumOf (take n (now lengths)) ≤ capacity)))) ⌝ }
+    requires { ⌜ (n ≤ d .reached) × (start < capacity) ⌝ }
     ensures { λ r. ⌜ r ≡ record {
       answer = done;
       released = n;
@@ -99,7 +112,7 @@ fn accept_ack(
       timer = acknowledged n d .timer;
     } ⌝ }
 {
-    let moved = servers::acknowledge_delivery(d, n);
+    let moved = acknowledge_delivery(d, n);
     AckChange {
         answer: Answer::DONE,
         released: n,
@@ -139,47 +152,6 @@ fn ack_change<'a>(
     accept_ack(capacity, d, lengths, start, n)
 }
 
-// The queue without its first n records.
-fn release_queue<'a>(
-    count: usize,
-    lengths: &'a [u16; MAX_HELD],
-    templates: &'a [u16; MAX_HELD],
-    receivers: &'a [u16; MAX_HELD],
-    n: usize,
-) -> Queue
-    requires { ⌜ (n ≤ count) × (n ≤ maxHeld) ⌝ }
-    ensures { λ r. ⌜ r ≡ dropFront (record {
-      count = count;
-      lengths = now (lengths .entry);
-      templates = now (templates .entry);
-      receivers = now (receivers .entry);
-    }) n ⌝ }
-{
-    let moved_lengths = queue::shift(lengths, n);
-    let moved_templates = queue::shift(templates, n);
-    let moved_receivers = queue::shift(receivers, n);
-    Queue {
-        count: count - n,
-        lengths: moved_lengths,
-        templates: moved_templates,
-        receivers: moved_receivers,
-    }
-}
-
-// The queue without its first n records; the same one where none is released.
-fn queue_after(q: Queue, n: usize) -> Queue
-    requires { ⌜ (n ≤ q .count) × (n ≤ maxHeld) ⌝ }
-    ensures { λ r. ⌜ r ≡ dropFront q n ⌝ }
-{
-    if n == 0 {
-        return q;
-    }
-    let lengths = q.lengths;
-    let templates = q.templates;
-    let receivers = q.receivers;
-    release_queue(q.count, &lengths, &templates, &receivers, n)
-}
-
 // A DATA ACK from server v. Refused with 1, 2, 9, 10 or 11.
 pub fn acknowledge(s: State, v: u8, dsn: u32, config: u8) -> Wrote
     ensures { λ r. ⌜ r ≡ wroteOf (step 32 [] 0 (ack v dsn config) s []) ⌝ }
@@ -202,7 +174,7 @@ pub fn acknowledge(s: State, v: u8, dsn: u32, config: u8) -> Wrote
         dsn,
         config,
     );
-    let queue = queue_after(s.queue, change.released);
+    let queue = crate::release::queue_after(s.queue, change.released);
     let mut state = s;
     state.delivery.sent = change.sent;
     state.delivery.reached = change.reached;

@@ -2,3 +2,4 @@
 pub mod acknowledge;
 pub mod decode;
 pub mod receive;
+mod release;

@@ -9,7 +9,7 @@ use native.Mathlib.Omega.{arith}
 use borrow.Author.Tests.{not-false, eq-eqb, ne-eqb, eqb-true, eqb-false, leb-false, lt-leb, le-ltb, lt-ltb, ltb-true, ltb-false}
 use lib.Dec.{eqb, leb, ltb}
 use lib.ListN.{length, getD, set}
-use lib.Seq.{sets, set-getD}
+use lib.Seq.{sets, set-getD, length-sets}
 use Rattle.octets.specs.Answers.{Check, _when_, judge, done, unsoundState, outputTooShort}
 use Rattle.octets.proofs.Judging.{passed, judged-first}
 use Rattle.octets.proofs.Stores.{put-fits, put-short}
@@ -29,6 +29,8 @@ use Rattle.sending.specs.declared.next_data.Sending.{Sending}
 use Rattle.session.specs.declared.state.State.{State}
 use Rattle.session.specs.declared.state.Wrote.{Wrote}
 use Rattle.session.proofs.Rings.{read-same}
+use Rattle.queue.specs.Rings.{recordStart}
+use Rattle.queue.proofs.Rings.{start-inside}
 use Rattle.session.proofs.SoundFacts.{sound-facts, parts-of}
 use Rattle.session.specs.Parts.{partsIn}
 use Rattle.session.proofs.StepLaws.{settled-same, step-done, step-refused}
@@ -56,6 +58,10 @@ head-refused n room a h e = go (ltb room (16 + n)) refl (rw (le-ltb 1024 n h) at
 pub head-out : (h : DataHead) (n : ℕ) (out : List ℕ) → n ≤ 1024 → 16 + n ≤ length out → headWriteOut h n out ≡ sets out 0 (dataHeadOctets h n)
 unfolding headWriteOut headWriteAnswer
 head-out h n out l r = rw (le-ltb 1024 n l, le-ltb (length out) (16 + n) r)
+
+-- it leaves the output's length
+pub head-room : (h : DataHead) (n : ℕ) (out mid : List ℕ) → mid ≡ headWriteOut h n out → n ≤ 1024 → 16 + n ≤ length out → 16 + n ≤ length mid
+head-room h n out mid e l r = rw (e, head-out h n out l r, length-sets out 0 (dataHeadOctets h n)) r
 
 pub head-kept : (h : DataHead) (n : ℕ) (out : List ℕ) → n ≤ 1024 → length out < 16 + n → headWriteOut h n out ≡ out
 unfolding headWriteOut headWriteAnswer
@@ -108,14 +114,14 @@ head-parts s = refl
 
 -- the octets of the next DATA, where the record is read from a place inside the store
 pub next-octets : (s : State) (store : List ℕ) (h : DataHead) (room at : ℕ) → h ≡ headOf 32 (headParts s) → room ≡ s .capacity
-    → at ≡ (s .start + octetsTo (s .queue) (s .delivery .sent)) % s .capacity → s .start < s .capacity
+    → at ≡ recordStart (s .capacity) (s .start) (s .queue .lengths) (s .delivery .sent) → s .start < s .capacity
     → layoutOf (Data h) (ringRead room store at (getD (s .queue .lengths) (s .delivery .sent) 0)) ≡ written 32 [] nextData s store
 unfolding written recordAt
 next-octets s store h room at e r a l =
     rw (e, head-parts s, r)
     (ap (layoutOf (Data (headOf 32 s)))
     (read-same (s .capacity) store at _ (getD (s .queue .lengths) (s .delivery .sent) 0)
-    (ap (λ (n : ℕ). n % s .capacity) a ∙ mod-mod (s .start + octetsTo (s .queue) (s .delivery .sent)) (s .capacity))))
+    (ap (λ (n : ℕ). n % s .capacity) (a ∙ start-inside (s .capacity) (s .start) (s .queue .lengths) (s .delivery .sent) l) ∙ mod-mod (s .start + octetsTo (s .queue) (s .delivery .sent)) (s .capacity))))
 
 -- the message was written
 sent-done : (s : State) (store out after' octets : List ℕ) (r : Written) (n : ℕ) → SendFacts s store → octets ≡ written 32 [] nextData s store → r ≡ Octets n

@@ -83,7 +83,7 @@ fn is_duplicate(p: Settings, active: Active, set: u16) -> bool
 {
     match active {
         Active::Nobody => false,
-        Active::Server(v) => queue::has_other(set, v, p.servers),
+        Active::Server(v) => crate::sets::has_other(set, v, p.servers),
     }
 }
 
@@ -145,7 +145,7 @@ fn marked_set(active: Active, set: u16) -> u16
 {
     match active {
         Active::Nobody => set,
-        Active::Server(v) => queue::with_server(set, v),
+        Active::Server(v) => crate::sets::with_server(set, v),
     }
 }
 

@@ -1,11 +1,10 @@
 // Servers: their phases, the choice of the active one, and the steps of a delivery.
 ghost use mathlib.Core.Path.{_≡_};
 ghost use mathlib.Core.Bool.{cond, not};
-ghost use Prim.Native.Nat.{_≤_};
 ghost use mathlib.Core.List.{map};
 ghost use lib.ListN.{getD, set};
 ghost use Rattle.session.specs.Servers.{server, phaseAt, isClosed, isOffered, canOffer, isAgreed, restart};
-ghost use Rattle.session.specs.Servers.{beats, preferred, choose, sameActive, isNobody, activated, acknowledged};
+ghost use Rattle.session.specs.Servers.{beats, preferred, choose, sameActive, isNobody, activated};
 ghost use Rattle.servers.specs.Changes.{numberOf};
 ghost use Rattle.session.specs.declared.state.Phase.the-variants.{Closed};
 
@@ -238,20 +237,4 @@ pub fn settle_delivery(d: Delivery, choice: Active, same: bool) -> Delivery
         reached: 0,
         timer: 0,
     }
-}
-
-// The delivery after a DATA ACK that releases n records.
-pub fn acknowledge_delivery(d: Delivery, n: usize) -> Delivery
-    requires { ⌜ n ≤ d .reached ⌝ }
-    ensures { λ r. ⌜ r ≡ acknowledged n d ⌝ }
-{
-    let mut next = d;
-    if n == 0 {
-        next.sent = 0;
-        return next;
-    }
-    next.sent = octets::saturating_sub(d.sent, n);
-    next.reached = d.reached - n;
-    next.timer = 0;
-    next
 }

@@ -1,10 +1,13 @@
 // The limits of the settings, and whether a state is sound.
 ghost use mathlib.Core.Path.{_≡_};
-ghost use Prim.Native.Nat.{_≤_};
+ghost use Prim.Native.Nat.{_≤_, _<_};
 ghost use mathlib.Core.List.{[]};
+ghost use lib.ListN.{getD};
+ghost use Rattle.wire.specs.Each.{every};
 ghost use Rattle.session.specs.Limits.{maxServers, maxHeld};
 ghost use Rattle.session.specs.Parts.{Below, stateOf};
-ghost use Rattle.session.specs.Sound.{settingsSound, numbersSound, activationSound, sound};
+ghost use Rattle.session.specs.Queue.{has};
+ghost use Rattle.session.specs.Sound.{settingsSound, numbersSound, entrySound, activationSound, sound};
 use session::limits::MAX_HELD;
 use session::limits::MAX_SERVERS;
 use session::limits::MAX_STORE_OCTETS;
@@ -13,6 +16,7 @@ use session::limits::MIN_STORE_OCTETS;
 use session::state::Active;
 use session::state::Delivery;
 use session::state::Settings;
+use wire::message::MAX_RECORD_OCTETS;
 
 // Whether settings and a store's length are in their limits.
 pub fn settings_sound(p: Settings, room: usize) -> bool
@@ -47,6 +51,41 @@ fn numbers_sound(
         & (!due | (d.reached == 0))
 }
 
+// Whether each of n records has at most 1,024 octets and was sent to existing servers only.
+fn entries_sound<'a>(
+    lengths: &'a [u16; MAX_HELD],
+    receivers: &'a [u16; MAX_HELD],
+    n: usize,
+    servers: u8,
+) -> bool
+    requires { ⌜ (n ≤ maxHeld) × (servers ≤ maxServers) ⌝ }
+    ensures { λ r. ⌜ r ≡ every n (entrySound servers (now (lengths .entry)) (now (receivers .entry))) ⌝ }
+{
+    let most = MAX_RECORD_OCTETS as u16;
+    let bound = 1u16 << servers;
+    let mut ok = true;
+    let mut i: usize = 0;
+    while i < n {
+        ok = ok & ((lengths[i] <= most) & (receivers[i] < bound));
+        i += 1;
+    }
+    ok
+}
+
+// Whether each of the first n records was sent to a server: it is in what their sets have in common.
+fn all_received(receivers: &[u16; MAX_HELD], n: usize, v: u8) -> bool
+    requires { ⌜ (n ≤ maxHeld) × (v < 16) ⌝ }
+    ensures { λ r. ⌜ r ≡ every n (λ i. has (getD (now (receivers .entry)) i 0) v) ⌝ }
+{
+    let mut common: u16 = 65535;
+    let mut i: usize = 0;
+    while i < n {
+        common = common & receivers[i];
+        i += 1;
+    }
+    queue::has_server(common, v)
+}
+
 // Whether the activation is as the records have it.
 fn activation_sound(d: Delivery, receivers: &[u16; MAX_HELD]) -> bool
     requires { ⌜ (d .reached ≤ maxHeld) × Below maxServers (d .active) ⌝ }
@@ -55,7 +94,7 @@ fn activation_sound(d: Delivery, receivers: &[u16; MAX_HELD]) -> bool
     let active = d.active;
     match active {
         Active::Nobody => (d.sent == 0) & (d.reached == 0) & (d.timer == 0),
-        Active::Server(v) => queue::all_received(receivers, d.reached, v),
+        Active::Server(v) => all_received(receivers, d.reached, v),
     }
 }
 
@@ -75,7 +114,7 @@ pub fn parts_sound<'a>(
     if !numbers_sound(p, room, d, due, count, start) {
         return false;
     }
-    if !queue::entries_sound(lengths, receivers, count, p.servers) {
+    if !entries_sound(lengths, receivers, count, p.servers) {
         return false;
     }
     if room < queue::octets_to(lengths, count) as usize {

@@ -1,20 +1,24 @@
 -- `octets_to` meets its contract. The loop's invariant: sum is that of the entries passed, each below 65,536, so that 64 of them fit. A
--- turn adds the next entry.
-use mathlib.Core.Path.{_≡_}
+-- turn adds the next entry. It stops at the 64th, and more entries than the array has are the whole array.
+use mathlib.Core.Path.{_≡_, _∙_, sym, ap}
 use Prim.Native.Nat.{_*_, _-_, _≤_, _<_}
 use native.Mathlib.Omega.{arith}
 use lib.ListN.{length, take}
 use Rattle.session.specs.Queue.{sumOf}
 use Rattle.session.proofs.Arrays.{sum-more}
+use Rattle.queue.proofs.Rings.{take-few}
 use borrow.Author.Needs.{needs}
 use Rattle.queue.proofs.octets_to.Statement.{statement}
 use Rattle.queue.proofs.octets_to.Tie as tie
 
 abbrev Inv-loop : tie.InvT-loop
-Inv-loop lengths n part sum₀ i₀ sum i = (i ≤ n) × (sum ≡ sumOf (take i lengths)) × (sum ≤ 65535 * i)
+Inv-loop lengths n part end sum₀ i₀ sum i = (i ≤ end) × (sum ≡ sumOf (take i lengths)) × (sum ≤ 65535 * i)
 
 abbrev μ-loop : tie.MeasureT-loop
-μ-loop lengths n part sum₀ i₀ sum i = n - i
+μ-loop lengths n part end sum₀ i₀ sum i = end - i
+
+entries-of-requires : tie.Need-entries-of-requires Inv-loop μ-loop
+entries-of-requires c κs = search needs
 
 loop-holds : tie.Need-loop-holds Inv-loop μ-loop
 unfolding sumOf
@@ -41,12 +45,16 @@ loop-less c = search needs
 loop-again : tie.Need-loop-again Inv-loop μ-loop
 loop-again c =
     let i = c .before .before .loop .i in
-    let xs = c .before .before .before .before .args .lengths .now in
+    let xs = c .before .before .before .before .before .args .lengths .now in
     let l : i < length xs = search needs in
     omega (arith, c .shared-slice-known .given i, sum-more xs i l)
 
 returns : tie.Need-returns Inv-loop μ-loop
-returns c = let e : c .before .loop .i ≡ c .before .before .before .args .n = omega arith in cc
+returns c =
+    let a = c .before .before .before .before .args in
+    let l : length (a .lengths .now) ≡ 64 = search needs in
+    let e : c .before .loop .i ≡ c .before .before .entries-of .result = omega arith in
+    c .before .loop .inv .1 ∙ ap sumOf (rw e (take-few (a .lengths .now) (a .n) _ (c .before .before .entries-of .ensures) l))
 
 pub octets-to-spec : {M : Type 1} → statement M
 octets-to-spec =
@@ -54,6 +62,7 @@ octets-to-spec =
     (tie.spec
     Inv-loop
     μ-loop
+    entries-of-requires
     loop-holds
     mul-sum
     shared-slice-read-sum

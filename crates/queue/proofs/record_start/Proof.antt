@@ -1,31 +1,57 @@
--- `record_start` meets its contract. Start and sum are each at most the store's length, so their sum is the place or one length of the
--- store past it. Taking that away once is the remainder.
-use mathlib.Core.Path.{sym}
+-- `record_start` meets its contract. The octets before the record end inside the store or reach past its end (laws `start-near`, `start-far`);
+-- what reaches past it by less than a store's length is its own remainder.
+use mathlib.Core.Path.{sym, _∙_}
 use native.Mathlib.Omega.{arith}
 use native.Mathlib.Nat.{mod-eq-of-lt}
-use Rattle.session.proofs.Rings.{place-back}
+use Rattle.queue.proofs.Rings.{start-outside, start-near, start-far}
 use borrow.Author.Needs.{needs}
 use Rattle.queue.proofs.record_start.Statement.{statement}
 use Rattle.queue.proofs.record_start.Tie as tie
 
+returns : tie.Need-returns
+returns c = start-outside _ _ _ _ (c .if1 .taken)
+
 octets-to-requires : tie.Need-octets-to-requires
 octets-to-requires c κs = search needs
 
-cast-at : tie.Need-cast-at
-cast-at c = search needs
+cast-behind : tie.Need-cast-behind
+cast-behind c = search needs
 
-add-at : tie.Need-add-at
-add-at c = search needs
+sub-rest : tie.Need-sub-rest
+sub-rest c = search needs
 
-returns : tie.Need-returns
-returns c =
-    let z = c .before .before in
-    rw (c .before .octets-to .ensures) (sym (mod-eq-of-lt (omega (arith, c .if1 .taken, c .before .octets-to .ensures))))
+add-result : tie.Need-add-result
+add-result c = search needs
 
 returns-2 : tie.Need-returns-2
 returns-2 c =
-    let z = c .before .before in
-    rw (c .before .octets-to .ensures) (place-back _ (z .args .capacity) (omega (arith, c .if1 .left, c .before .octets-to .ensures)) (omega (arith, z .pre .0, z .pre .1 .1 .1)))
+    let z = c .before .before .before in
+    start-near (z .args .capacity) (z .args .start) (z .args .lengths .now) (z .args .i) _ (c .before .octets-to .ensures) (omega arith) (c .if2 .taken)
+
+returns-3 : tie.Need-returns-3
+returns-3 c =
+    let z = c .before .before .before .before in
+    sym (mod-eq-of-lt (c .if3 .taken))
+    ∙ start-far (z .args .capacity) (z .args .start) (z .args .lengths .now) (z .args .i) _ (c .before .before .octets-to .ensures) (omega arith) (c .before .if2 .left)
+
+rem-result : tie.Need-rem-result
+rem-result c = search needs
+
+returns-4 : tie.Need-returns-4
+returns-4 c =
+    let z = c .before .before .before .before in
+    start-far (z .args .capacity) (z .args .start) (z .args .lengths .now) (z .args .i) _ (c .before .before .octets-to .ensures) (omega arith) (c .before .if2 .left)
 
 pub record-start-spec : {M : Type 1} → statement M
-record-start-spec = tie.close (tie.spec octets-to-requires cast-at add-at returns returns-2)
+record-start-spec =
+    tie.close
+    (tie.spec
+    returns
+    octets-to-requires
+    cast-behind
+    sub-rest
+    add-result
+    returns-2
+    returns-3
+    rem-result
+    returns-4)

@@ -3,7 +3,7 @@
 use mathlib.Core.List.{[]}
 use borrow.Author.Tests.{eq-eqb, ne-eqb}
 use Rattle.session.specs.Parts.{stateOf}
-use Rattle.session.proofs.SoundFacts.{sound-facts, passed-sound, failed-sound}
+use Rattle.session.proofs.SoundFacts.{passed-sound, failed-sound}
 use Rattle.putting.proofs.Puts.{refused-first, passed-first}
 use borrow.Author.Needs.{needs}
 use Rattle.putting.proofs.put.put_answer.Statement.{statement}
@@ -35,10 +35,7 @@ returns-3 c =
     (refused-first (a .p) (a .capacity) (a .count) (a .lengths .now) (a .table .now) (a .id) (a .r .now) (c .before .record-answer .result) (c .before .record-answer .ensures) (c .if3 .taken))
 
 room-answer-requires : tie.Need-room-answer-requires
-room-answer-requires c κs =
-    let a = c .before .before .before .before .before .before .before .args in
-    let s = stateOf (a .p) (a .capacity) (a .d) (a .due) (a .count) (a .lengths .now) [] (a .receivers .now) (a .start) 0 in
-    sound-facts s (passed-sound s (c .before .before .before .before .parts-sound .result) (c .before .before .before .before .parts-sound .ensures) (c .before .before .before .if1 .left)) .numbers .few
+room-answer-requires c κs = search needs
 
 returns-4 : tie.Need-returns-4
 returns-4 c =

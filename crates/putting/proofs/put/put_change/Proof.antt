@@ -1,9 +1,11 @@
 -- `put_change` meets its contract. A refusal changes nothing. A record that can be put finds fewer than 64 held and has at most 1,024
 -- octets, so every sum fits; it fills the first unused entries, and its octets follow the held ones.
+use mathlib.Core.Path.{_∙_}
 use native.Mathlib.Omega.{arith}
 use Rattle.session.specs.Parts.{stateOf}
 use Rattle.session.proofs.SoundFacts.{sound-facts}
 use Rattle.putting.proofs.Puts.{put-known, putting-kept, putting-done}
+use Rattle.queue.proofs.Rings.{stored-inside}
 use borrow.Author.Needs.{needs}
 use Rattle.putting.proofs.put.put_change.Statement.{statement}
 use Rattle.putting.proofs.put.put_change.Tie as tie
@@ -31,11 +33,7 @@ returns c =
     putting-kept s (a .store .now) (a .table .now) (a .id) (a .r .now) (j .result) (c .refuse-put .result) (c .before .before .before .before .if1 .taken) (j .ensures) (c .refuse-put .ensures)
 
 octets-to-requires : tie.Need-octets-to-requires
-octets-to-requires c κs =
-    let a = c .before .before .before .before .before .args in
-    let s = stateOf (a .p) (a .capacity) (a .d) (a .due) (a .count) (a .lengths .now) (a .templates .now) (a .receivers .now) (a .start) (a .next) in
-    let f = put-known s (a .store .now) (a .table .now) (a .id) (a .r .now) (c .before .put-answer .result) (c .before .put-answer .ensures) (c .if1 .left) in
-    omega (arith, f .few)
+octets-to-requires c κs = search needs
 
 cast-at : tie.Need-cast-at
 cast-at c = search needs
@@ -49,12 +47,7 @@ add-at c =
     omega (arith, g .fits, g .numbers .inside, g .numbers .settings .smallRoom)
 
 ring-write-requires : tie.Need-ring-write-requires
-ring-write-requires c κs =
-    let a = c .before .before .before .before .before .before .before .args in
-    let s = stateOf (a .p) (a .capacity) (a .d) (a .due) (a .count) (a .lengths .now) (a .templates .now) (a .receivers .now) (a .start) (a .next) in
-    let f = put-known s (a .store .now) (a .table .now) (a .id) (a .r .now) (c .before .before .before .put-answer .result) (c .before .before .before .put-answer .ensures) (c .before .before .if1 .left) in
-    let g = sound-facts s (f .isSound) in
-    (omega (arith, f .stored, g .numbers .inside), omega (arith, f .short, g .fits, g .numbers .inside, g .numbers .settings .smallRoom))
+ring-write-requires c κs = search needs
 
 cast-t33 : tie.Need-cast-t33
 cast-t33 c =
@@ -82,8 +75,11 @@ returns-2 c =
     let s = stateOf (a .p) (a .capacity) (a .d) (a .due) (a .count) (a .lengths .now) (a .templates .now) (a .receivers .now) (a .start) (a .next) in
     let j = c .before .before .before .before .before .before .before .put-answer in
     let n = c .before .before .before .before .before .octets-to in
+    let f = put-known s (a .store .now) (a .table .now) (a .id) (a .r .now) (j .result) (j .ensures) (c .before .before .before .before .before .before .if1 .left) in
+    let g = sound-facts s (f .isSound) in
+    let l = stored-inside (a .store .now) _ (a .r .now) (omega (arith, f .short, f .stored, g .numbers .settings .someRoom)) in
     putting-done s (a .store .now) (a .table .now) (a .id) (a .r .now) (j .result) _ (n .result) _ (j .ensures) (c .before .before .before .before .before .before .if1 .left)
-    (rw (c .wrapping-add-u32 .ensures)) (n .ensures) (c .before .before .before .ring-write .ensures)
+    (rw (c .wrapping-add-u32 .ensures)) (n .ensures) (c .before .before .before .ring-write .ensures ∙ l)
 
 pub put-change-spec : {M : Type 1} → statement M
 put-change-spec =

@@ -1,18 +1,24 @@
 -- `ring_read` meets its contract. Octets that do not reach past the end of the store are one part of it; others are two, up to the end and
--- from the beginning on (laws `read-near` and `read-far`).
+-- from the beginning on. Numbers outside of store and output leave the output as it was (laws `copied-..`).
 use mathlib.Core.Path.{_≡_, refl, sym, ap, _∙_}
 use mathlib.Core.List.{List}
-use Prim.Native.Nat.{ℕ, _+_, _-_}
+use Prim.Native.Nat.{ℕ, _+_, _-_, _≤_}
 use native.Mathlib.Omega.{arith}
 use lib.ListN.{length, take, drop, length-drop}
 use lib.Seq.{length-take-le, take-all}
 use Rattle.octets.specs.Numbers.{putAt}
-use Rattle.session.specs.Queue.{ringRead}
-use Rattle.octets.proofs.Stores.{put-fits, put-join}
-use Rattle.session.proofs.Rings.{read-length, read-near, read-far}
+use Rattle.queue.proofs.Rings.{copied-outside, copied-too-many, copied-short, copied-near, copied-far}
 use borrow.Author.Needs.{needs}
 use Rattle.queue.proofs.ring.ring_read.Statement.{statement}
 use Rattle.queue.proofs.ring.ring_read.Tie as tie
+
+returns : tie.Need-returns
+returns c = let a = c .before .before .before .args in copied-outside (a .store .now) (a .at) (a .n) (a .out .now) (a .place) (c .if1 .taken)
+
+returns-2 : tie.Need-returns-2
+returns-2 c =
+    let a = c .before .before .before .before .args in
+    copied-too-many (a .store .now) (a .at) (a .n) (a .out .now) (a .place) (omega arith) (c .if2 .taken)
 
 sub-first : tie.Need-sub-first
 sub-first c = search needs
@@ -35,16 +41,23 @@ copy-requires c κs = search needs
 same-length : tie.Need-same-length
 same-length c = search needs
 
-returns : tie.Need-returns
-returns c =
-    let a = c .before .before .before .before .before .before .before .before .args in
+returns-3 : tie.Need-returns-3
+returns-3 c =
+    let a = c .before .before .before .before .before .before .before .before .before .before .args in
     let s = a .store .now in
     let e : a .at + a .n - a .at ≡ a .n = omega arith in
-    let r = ringRead (length s) s (a .at) (a .n) in
-    let p : take (a .at + a .n - a .at) (drop (a .at) s) ≡ r = rw e (sym (read-near (length s) s (a .at) (a .n) refl (omega arith))) in
     c .before .before .copy .ensures
-    ∙ ap (putAt (a .out .now) (a .place)) p
-    ∙ put-fits (a .out .now) (a .place) r (omega (arith, read-length (length s) s (a .at) (a .n)))
+    ∙ ap (λ (k : ℕ). putAt (a .out .now) (a .place) (take k (drop (a .at) s))) e
+    ∙ copied-near s (a .at) (a .n) (a .out .now) (a .place) (omega arith) (omega arith)
+
+saturating-sub-requires : tie.Need-saturating-sub-requires
+saturating-sub-requires c κs = search needs
+
+returns-4 : tie.Need-returns-4
+returns-4 c =
+    let a = c .before .before .before .before .before .before .before .args in
+    copied-short (a .store .now) (a .at) (a .n) (a .out .now) (a .place) (omega arith) (omega arith)
+    (omega (arith, c .if4 .taken, c .before .saturating-sub .ensures))
 
 sub-copy-2 : tie.Need-sub-copy-2
 sub-copy-2 c = search needs
@@ -66,7 +79,7 @@ sub-copy-3 c = search needs
 
 slice-aggregate-copy : tie.Need-slice-aggregate-copy
 slice-aggregate-copy c =
-    let a = c .before .before .before .before .before .before .before .before .before .before .args in
+    let a = c .before .before .before .before .before .before .before .before .before .before .before .before .before .before .args in
     sym (length-take-le (a .n - (length (a .store .now) - a .at)) (a .store .now) (omega arith))
 
 copy-requires-3 : tie.Need-copy-requires-3
@@ -75,28 +88,26 @@ copy-requires-3 c κs = search needs
 same-length-2 : tie.Need-same-length-2
 same-length-2 c = search needs
 
-returns-2 : tie.Need-returns-2
-returns-2 c =
-    let a = c .before .before .before .before .before .before .before .before .before .before .before .before .before .args in
+returns-5 : tie.Need-returns-5
+returns-5 c =
+    let w = c .before .before .before .before .before .before .before .before .before .before in
+    let a = w .before .before .before .before .before .before .before .args in
     let s = a .store .now in
     let o = a .out .now in
     let f = length s - a .at in
-    let X = drop (a .at) s in
-    let Y = take (a .n - f) s in
-    let lx : length X ≡ f = length-drop (a .at) s in
-    let ly : length Y ≡ a .n - f = length-take-le (a .n - f) s (omega arith) in
-    let r = ringRead (length s) s (a .at) (a .n) in
+    let l : length (drop (a .at) s) ≤ f = omega (arith, length-drop (a .at) s) in
+    let h : a .place + a .n ≤ length o = omega (arith, w .if4 .left, w .before .saturating-sub .ensures) in
     c .before .before .copy3 .ensures
-    ∙ ap (λ (l : List ℕ). putAt l (a .place + f) Y) (c .before .before .before .before .before .before .before .copy2 .ensures ∙ ap (putAt o (a .place)) (take-all f X (omega arith)))
-    ∙ ap (λ (k : ℕ). putAt (putAt o (a .place) X) (a .place + k) Y) (sym lx)
-    ∙ put-join o (a .place) X Y (omega arith)
-    ∙ ap (putAt o (a .place)) (sym (read-far (length s) s (a .at) (a .n) refl (omega arith) (omega arith) (omega arith)))
-    ∙ put-fits o (a .place) r (omega (arith, read-length (length s) s (a .at) (a .n)))
+    ∙ ap (λ (l : List ℕ). putAt l (a .place + f) (take (a .n - f) s))
+    (c .before .before .before .before .before .before .before .copy2 .ensures ∙ ap (putAt o (a .place)) (take-all f (drop (a .at) s) l))
+    ∙ copied-far s (a .at) (a .n) o (a .place) f refl (omega arith) (omega arith) (omega arith) h
 
 pub ring-read-spec : {M : Type 1} → statement M
 ring-read-spec =
     tie.close
     (tie.spec
+    returns
+    returns-2
     sub-first
     add-copy
     sub-copy
@@ -104,7 +115,9 @@ ring-read-spec =
     part-copy-end
     copy-requires
     same-length
-    returns
+    returns-3
+    saturating-sub-requires
+    returns-4
     sub-copy-2
     part-copy-start-2
     part-copy-end-2
@@ -114,4 +127,4 @@ ring-read-spec =
     slice-aggregate-copy
     copy-requires-3
     same-length-2
-    returns-2)
+    returns-5)

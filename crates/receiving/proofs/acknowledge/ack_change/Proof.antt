@@ -1,11 +1,9 @@
 -- `ack_change` meets its contract. An unsound state and a refused acknowledgement change nothing; else the records that the DSN names are
--- released. These are at most those reached, so the lengths of what is released lie within the store.
+-- released. These are at most those reached, and the ring's start is inside the store.
 use mathlib.Core.List.{[]}
 use mathlib.Core.Path.{sym, _∙_}
 use native.Mathlib.Omega.{arith}
-use Prim.Native.Nat.{_≤_}
 use Rattle.session.specs.Parts.{stateOf}
-use Rattle.session.proofs.Arrays.{sum-fewer}
 use Rattle.session.proofs.SoundFacts.{sound-facts, passed-sound, failed-sound}
 use Rattle.receiving.proofs.Acks.{ack-sound-parts, ack-unsound, answered-ack, refused-ack, accepted-ack, ack-reached}
 use borrow.Author.Needs.{needs}
@@ -59,13 +57,7 @@ accept-ack-requires c κs =
     let f = sound-facts s (passed-sound s (c .before .before .before .before .parts-sound .result) (c .before .before .before .before .parts-sound .ensures) (c .before .before .before .if1 .left)) in
     let n = c .before .before .ack-count .result in
     let g = ack-reached (a .p) (a .d) (a .v) (a .config) n (c .before .ack-answer .result) (c .before .ack-answer .ensures) (c .if2 .left) in
-    let m : n ≤ a .count = omega (arith, g, f .numbers .reachedHeld) in (
-      g,
-      (
-        omega (arith, f .numbers .reachedHeld, f .numbers .few),
-        (f .numbers .inside, (f .numbers .settings .smallRoom, omega (arith, sum-fewer (a .lengths .now) n (a .count) m, f .fits))),
-      ),
-    )
+    (g, f .numbers .inside)
 
 returns-3 : tie.Need-returns-3
 returns-3 c =

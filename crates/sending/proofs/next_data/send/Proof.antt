@@ -1,12 +1,13 @@
 -- `send` meets its contract. In a sound state the record's place and length lie within the store, so the message is the one that the
 -- definition writes. It is refused by the output's length alone; only a message that was written changes anything.
+use mathlib.Core.Path.{_∙_}
 use native.Mathlib.Omega.{arith}
-use Prim.Native.Nat.{_+_, _≤_}
+use Prim.Native.Nat.{_+_}
 use native.Mathlib.Nat.{mod-lt}
 use lib.ListN.{length, take}
 use Rattle.session.specs.Queue.{sumOf}
 use Rattle.session.specs.Parts.{stateOf}
-use Rattle.session.proofs.Arrays.{sum-fewer}
+use Rattle.queue.proofs.Rings.{start-inside}
 use Rattle.session.proofs.SoundFacts.{sound-facts}
 use Rattle.session.proofs.Choice.{active-below}
 use Rattle.sending.proofs.Sends.{sent-few, next-octets, sending-done, sending-refused}
@@ -15,15 +16,7 @@ use Rattle.sending.proofs.next_data.send.Statement.{statement}
 use Rattle.sending.proofs.next_data.send.Tie as tie
 
 record-start-requires : tie.Need-record-start-requires
-record-start-requires c κs =
-    let z = c .before .before in
-    let a = z .args in
-    let s = stateOf (a .p) (a .capacity) (a .d) (a .due) (a .count) (a .lengths .now) (a .templates .now) (a .receivers .now) (a .start) (a .next) in
-    let f = sound-facts s (z .pre .isSound) in
-    let m : a .d .sent ≤ a .count = omega (arith, z .pre .more) in (
-      f .numbers .inside,
-      (f .numbers .settings .smallRoom, (omega (arith, sent-few s (a .store .now) (z .pre)), omega (arith, sum-fewer (a .lengths .now) (a .d .sent) (a .count) m, f .fits))),
-    )
+record-start-requires c κs = search needs
 
 mul-wide : tie.Need-mul-wide
 mul-wide c =
@@ -58,8 +51,9 @@ write-record-requires c κs =
     let f = sound-facts s (z .pre .isSound) in
     let short = f .short (a .d .sent) (z .pre .more) in
     let len = c .before .before .wide .ensures in
+    let e = start-inside (a .capacity) (a .start) (a .lengths .now) (a .d .sent) (f .numbers .inside) in
     let at = mod-lt (a .start + sumOf (take (a .d .sent) (a .lengths .now))) {m = a .capacity} (omega (arith, f .numbers .inside)) in (
-      omega (arith, at, z .pre .stored, c .before .before .before .before .record-start .ensures),
+      omega (arith, at, z .pre .stored, c .before .before .before .before .record-start .ensures ∙ e),
       (omega (arith, short, len, z .pre .stored, f .numbers .settings .someRoom), omega (arith, short, len)),
     )
 

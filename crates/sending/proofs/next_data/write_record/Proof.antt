@@ -9,9 +9,10 @@ use Rattle.wire.specs.Messages.{dataHeadOctets}
 use Rattle.messages.proofs.Messages.{placed-short, placed, sets-then, data-layout, data-length}
 use Rattle.session.specs.Queue.{ringRead}
 use mathlib.Core.List.{_++_}
-use lib.Seq.{sets, length-sets}
+use lib.Seq.{sets}
 use Rattle.session.proofs.Rings.{read-length}
-use Rattle.sending.proofs.Sends.{head-octets, head-refused, head-out, head-kept}
+use Rattle.queue.proofs.Rings.{copied-inside}
+use Rattle.sending.proofs.Sends.{head-octets, head-refused, head-out, head-room, head-kept}
 use borrow.Author.Needs.{needs}
 use Rattle.sending.proofs.next_data.write_record.Statement.{statement}
 use Rattle.sending.proofs.next_data.write_record.Tie as tie
@@ -23,17 +24,7 @@ enum-known-written : tie.Need-enum-known-written
 enum-known-written c = search needs
 
 ring-read-requires : tie.Need-ring-read-requires
-ring-read-requires c κs =
-    let z = c .before .before .before .before .before .before .before .before .before .before in
-    let a = z .args in
-    let w = c .before .before .before .before .before .before in
-    let k = head-octets (a .len) (length (a .out .now)) _ (z .pre .1 .1) (sym (w .write-data-head .ensures .0) ∙ c .before .before .written .given .1) in (
-      z .pre .0,
-      (
-        z .pre .1 .0,
-        rw (w .write-data-head .ensures .1, head-out (a .head) (a .len) (a .out .now) (z .pre .1 .1) (k .1), length-sets (a .out .now) 0 (dataHeadOctets (a .head) (a .len))) (k .1),
-      ),
-    )
+ring-read-requires c κs = search needs
 
 enum-known-written-2 : tie.Need-enum-known-written-2
 enum-known-written-2 c = search needs
@@ -50,8 +41,10 @@ returns c =
     let part = ringRead (length (a .store .now)) (a .store .now) (a .at) (a .len) in
     let n : length part ≡ a .len = read-length (length (a .store .now)) (a .store .now) (a .at) (a .len) in
     let k = head-octets (a .len) (length (a .out .now)) _ (z .pre .1 .1) (sym (w .write-data-head .ensures .0) ∙ c .before .before .before .before .before .written .given .1) in
+    let fits = head-room (a .head) (a .len) (a .out .now) _ (w .write-data-head .ensures .1) (z .pre .1 .1) (k .1) in
     placed _ (a .out .now) _ _ (data-length (a .head) part ∙ ap (λ (m : ℕ). 16 + m) n ∙ sym (k .0)) (omega arith)
     (c .before .before .ring-read .ensures
+    ∙ copied-inside (a .store .now) (a .at) (a .len) _ 16 (z .pre .0) (z .pre .1 .0) fits
     ∙ sets-then (a .out .now) (dataHeadOctets (a .head) (a .len)) part _ 16 (w .write-data-head .ensures .1 ∙ head-out (a .head) (a .len) (a .out .now) (z .pre .1 .1) (k .1)) refl
     ∙ ap (sets (a .out .now) 0) (ap (λ (m : ℕ). dataHeadOctets (a .head) m ++ part) (sym n) ∙ sym (data-layout (a .head) part)))
 

@@ -28,10 +28,7 @@ returns-2 : tie.Need-returns-2
 returns-2 c = unsound _ 1 (sym (c .before .entries-sound .ensures) ∙ not-true _ (c .if2 .taken))
 
 octets-to-requires : tie.Need-octets-to-requires
-octets-to-requires c κs =
-    let a = c .before .before .before .before .args in
-    let f = numbers-facts (a .p) (a .room) (a .d) (a .due) (a .count) (a .start) (rw (← c .before .before .before .numbers-sound .ensures) (not-false _ (c .before .before .if1 .left))) in
-    f .few
+octets-to-requires c κs = search needs
 
 cast-if3 : tie.Need-cast-if3
 cast-if3 c = search needs

@@ -10,8 +10,8 @@ use Rattle.tables.proofs.Each.{every-more}
 use Rattle.session.specs.Queue.{has}
 use Rattle.session.proofs.Arrays.{has-both, has-all}
 use borrow.Author.Needs.{needs}
-use Rattle.queue.proofs.all_received.Statement.{statement}
-use Rattle.queue.proofs.all_received.Tie as tie
+use Rattle.soundness.proofs.sound.all_received.Statement.{statement}
+use Rattle.soundness.proofs.sound.all_received.Tie as tie
 
 abbrev Inv-loop : tie.InvT-loop
 Inv-loop receivers n v common₀ i₀ common i = (i ≤ n) × (has common v ≡ every i (λ j. has (getD receivers j 0) v))

@@ -3,8 +3,8 @@
 use borrow.Author.Tests.{eq-eqb, ne-eqb}
 use Rattle.session.specs.Servers.{acknowledged}
 use borrow.Author.Needs.{needs}
-use Rattle.servers.proofs.acknowledge_delivery.Statement.{statement}
-use Rattle.servers.proofs.acknowledge_delivery.Tie as tie
+use Rattle.receiving.proofs.acknowledge.acknowledge_delivery.Statement.{statement}
+use Rattle.receiving.proofs.acknowledge.acknowledge_delivery.Tie as tie
 
 returns : tie.Need-returns
 unfolding acknowledged

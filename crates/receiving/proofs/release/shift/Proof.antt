@@ -6,8 +6,8 @@ use native.Mathlib.Omega.{arith}
 use lib.ListN.{length}
 use Rattle.session.proofs.Arrays.{Moved, moved-more, moved-all}
 use borrow.Author.Needs.{needs}
-use Rattle.queue.proofs.shift.Statement.{statement}
-use Rattle.queue.proofs.shift.Tie as tie
+use Rattle.receiving.proofs.release.shift.Statement.{statement}
+use Rattle.receiving.proofs.release.shift.Tie as tie
 
 abbrev Inv-loop : tie.InvT-loop
 Inv-loop entries n part moved₀ end i₀ moved i = (i ≤ end) × Moved entries 64 n i moved

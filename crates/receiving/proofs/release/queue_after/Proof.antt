@@ -3,8 +3,8 @@
 use mathlib.Core.Path.{sym}
 use Rattle.receiving.proofs.Acks.{dropped-none}
 use borrow.Author.Needs.{needs}
-use Rattle.receiving.proofs.acknowledge.queue_after.Statement.{statement}
-use Rattle.receiving.proofs.acknowledge.queue_after.Tie as tie
+use Rattle.receiving.proofs.release.queue_after.Statement.{statement}
+use Rattle.receiving.proofs.release.queue_after.Tie as tie
 
 returns : tie.Need-returns
 returns c = rw (c .if1 .taken) (sym (dropped-none _))

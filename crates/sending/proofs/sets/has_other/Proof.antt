@@ -6,8 +6,8 @@ use Prim.Native.Nat.{_-_, _≤_}
 use Rattle.session.specs.Queue.{hasOther}
 use Rattle.session.proofs.Arrays.{other-more}
 use borrow.Author.Needs.{needs}
-use Rattle.queue.proofs.has_other.Statement.{statement}
-use Rattle.queue.proofs.has_other.Tie as tie
+use Rattle.sending.proofs.sets.has_other.Statement.{statement}
+use Rattle.sending.proofs.sets.has_other.Tie as tie
 
 abbrev Inv-loop : tie.InvT-loop
 Inv-loop set v n found₀ k₀ found k = (k ≤ n) × (found ≡ hasOther k v set)

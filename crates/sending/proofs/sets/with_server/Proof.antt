@@ -3,8 +3,8 @@
 use native.Mathlib.Omega.{arith}
 use Rattle.session.proofs.Arrays.{one-shifted}
 use borrow.Author.Needs.{needs}
-use Rattle.queue.proofs.with_server.Statement.{statement}
-use Rattle.queue.proofs.with_server.Tie as tie
+use Rattle.sending.proofs.sets.with_server.Statement.{statement}
+use Rattle.sending.proofs.sets.with_server.Tie as tie
 
 shl-result : tie.Need-shl-result
 shl-result c = search needs

@@ -2,8 +2,8 @@
 -- count, so the subtraction does not go below 0.
 use Rattle.session.specs.Queue.{dropFront}
 use borrow.Author.Needs.{needs}
-use Rattle.receiving.proofs.acknowledge.release_queue.Statement.{statement}
-use Rattle.receiving.proofs.acknowledge.release_queue.Tie as tie
+use Rattle.receiving.proofs.release.release_queue.Statement.{statement}
+use Rattle.receiving.proofs.release.release_queue.Tie as tie
 
 shift-requires : tie.Need-shift-requires
 shift-requires c κs = search needs

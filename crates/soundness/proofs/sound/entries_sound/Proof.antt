@@ -8,8 +8,8 @@ use Rattle.session.specs.Sound.{entrySound}
 use Rattle.tables.proofs.Each.{every-more}
 use Rattle.session.proofs.Arrays.{one-shifted}
 use borrow.Author.Needs.{needs}
-use Rattle.queue.proofs.entries_sound.Statement.{statement}
-use Rattle.queue.proofs.entries_sound.Tie as tie
+use Rattle.soundness.proofs.sound.entries_sound.Statement.{statement}
+use Rattle.soundness.proofs.sound.entries_sound.Tie as tie
 
 abbrev Inv-loop : tie.InvT-loop
 Inv-loop lengths receivers n servers most bound ok₀ i₀ ok i = (i ≤ n) × (ok ≡ every i (entrySound servers lengths receivers))
