@@ -50,10 +50,7 @@ pub fn store_length(tape: &[u8]) -> usize
 pub(crate) fn table_answer(p: Settings, table: &[u8]) -> u8
     ensures { λ r. ⌜ r ≡ tableAnswer p (now (table .entry)) ⌝ }
 {
-    if !wire::table::table_sound(table) {
-        return Answer::UNSOUND_TABLE;
-    }
-    if wire::table::configuration_id(table) != p.config {
+    if !exporter::session_table::is_sessions(p, table) {
         return Answer::UNSOUND_TABLE;
     }
     Answer::DONE
