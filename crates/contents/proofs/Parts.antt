@@ -1,4 +1,4 @@
--- Laws of the parts of a tape, and of its soundness. Assumes nothing.
+-- Laws of the parts of a tape, and of its soundness.
 use mathlib.Core.Path.{_≡_, refl, sym, ap, _∙_}
 use mathlib.Core.Bool.{Bool, true, false, not, cond}
 use mathlib.Core.List.{List, [], _∷_}
@@ -9,7 +9,7 @@ use lib.Seq.{take-all, take-nil}
 use lib.Dec.{eqb, leb}
 use Rattle.octets.specs.Answers.{_when_, judge, done, unsoundTape}
 use Rattle.octets.specs.Numbers.{Octets}
-use Rattle.wire.specs.Each.{every}
+use Rattle.octets.specs.Each.{every}
 use Rattle.wire.proofs.Messages.{take-rest}
 use Rattle.contents.specs.Tape.{eventCount, bodyLength, bodyAt, octetsAt, bodyOf, eventSound, maxTapeOctets, minEvents, maxEvents, tapeSound, tapeAnswer}
 

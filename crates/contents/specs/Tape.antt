@@ -1,4 +1,4 @@
--- The replay tape: its contents, its bodies, and which tapes are sound (01, "Replay tape"). Assumes nothing.
+-- The replay tape: its contents, its bodies, and which tapes are sound (01, "Replay tape").
 use Prim.Native.Nat.{ℕ, zero, suc, _+_, _*_}
 use mathlib.Core.Bool.{Bool, not, _&&_, _||_, cond}
 use mathlib.Core.List.{List, [], _∷_}
@@ -6,7 +6,7 @@ use lib.Dec.{eqb, leb}
 use lib.ListN.{length, take, drop}
 use Rattle.octets.specs.Answers.{_when_, judge, unsoundTape}
 use Rattle.octets.specs.Numbers.{uintAt}
-use Rattle.wire.specs.Each.{every, allOf}
+use Rattle.octets.specs.Each.{every, allOf}
 
 -- ---- the kinds of events
 
@@ -106,11 +106,15 @@ serverFits kind server = eqb server 0 || (eqb kind messageKind || eqb kind downK
 abbrev pub settingsOctets : ℕ
 settingsOctets = 24
 
+-- How many octets the template ID has in front of a put's record.
+abbrev pub templateIdOctets : ℕ
+templateIdOctets = 2
+
 -- Settings have 24 octets, a put at least the two of its template ID; a table and a message have any number, and the other calls none.
 abbrev pub bodyLengthFits : ℕ → ℕ → Bool
 bodyLengthFits kind n =
     cond (eqb kind settingsKind) (eqb n settingsOctets)
-    (cond (eqb kind putKind) (leb 2 n)
+    (cond (eqb kind putKind) (leb templateIdOctets n)
     (eqb kind tableKind || eqb kind messageKind || eqb n 0))
 
 -- Event i is sound.

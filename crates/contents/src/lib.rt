@@ -1,6 +1,8 @@
-// The contents of a tape: how many events there are, and of each its kind, server and body; whether a tape is sound.
+// The contents of a tape: how many events there are, and of each its kind, server and body; whether a tape is sound (`tape_answer`).
+// A tape is borrowed octets, and nothing is copied: a body is a part of it. Every function answers any octets and any event's number; past
+// the end octets read as 0 and parts are empty. `tape` calls these functions to replay a tape, and `replay` takes the size of its input.
 ghost use mathlib.Core.Path.{_≡_};
-ghost use Rattle.wire.specs.Each.{every};
+ghost use Rattle.octets.specs.Each.{every};
 ghost use Rattle.contents.specs.Tape.{eventCount, contentsAt, kindAt, serverAt, bodyLength, bodyAt, octetsAt, bodyOf, kindFits, serverFits, bodyLengthFits, eventSound, tapeAnswer};
 use octets::Answer;
 
@@ -23,7 +25,10 @@ const COUNT_OCTETS: usize = 2;
 const ENTRY_OCTETS: usize = 4;
 
 // The octets of a put's template ID, in front of its record.
-const TEMPLATE_ID_OCTETS: u16 = 2;
+pub const TEMPLATE_ID_OCTETS: usize = 2;
+
+// The least octets of a put: its template ID, of an empty record.
+const MIN_PUT_OCTETS: u16 = TEMPLATE_ID_OCTETS as u16;
 
 // The octets of the settings.
 const SETTINGS_OCTETS: u16 = 24;
@@ -156,7 +161,7 @@ fn body_length_fits(kind: u8, n: u16) -> bool
         return n == SETTINGS_OCTETS;
     }
     if kind == Kind::PUT {
-        return TEMPLATE_ID_OCTETS <= n;
+        return MIN_PUT_OCTETS <= n;
     }
     (kind == Kind::TABLE) | (kind == Kind::MESSAGE) | (n == 0)
 }

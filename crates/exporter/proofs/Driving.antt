@@ -1,7 +1,7 @@
 -- The session of the front page goes as it is written: each call is computed from its definition, on what the call before it left.
 use mathlib.Core.Path.{refl}
 use Rattle.octets.specs.Numbers.{numberOf, uintAt, octetsOf, putAt}
-use Rattle.wire.specs.Each.{every, firstFrom}
+use Rattle.octets.specs.Each.{every, firstFrom}
 use Rattle.wire.specs.FieldTypes.{widthOf, isType, isSigned, isNumber}
 use Rattle.wire.specs.Table.{keySound, blockEnd, headSound, paddingSound, blockSound, blockAt, tableSound, templateIndex, templateAt, findOf, locateOf}
 use Rattle.wire.specs.Record.{fixedLength, blobLength, stringLength, terminatedLength, fieldLength, fieldAt, recordValid, recordAnswer}

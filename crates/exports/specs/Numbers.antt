@@ -1,4 +1,4 @@
--- The numbers by which answers that are enums cross the boundary to C. Assumes nothing.
+-- The numbers by which answers that are enums cross the boundary to C.
 use Prim.Native.Nat.{ℕ, _+_, _%_, _^_}
 use mathlib.Core.Bool.{cond}
 use mathlib.Core.List.{List, [], _∷_}

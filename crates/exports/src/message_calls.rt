@@ -143,12 +143,13 @@ fn written_number(written: Written) -> u64
 }
 
 // Reads a message alone and, where it can be read, writes what it says with its part to the output. Answers a part of what was read and
-// written, by its number: 0 how many octets were written plus 256, or the reading's or else the writing's refusal; 1 and 2 the place and the
-// length of the part that the message carries, 3 its number, 4 its session, 5 its Configuration ID, 6 its boot time or DSN, 7 its template
-// ID, 8 and 9 its flags S and D; 0 for what it does not say, and for what could not be read.
+// written, by its number: 0 how many octets were written plus 256, or the reading's or else the writing's refusal; 1 and 2 the place and
+// the length of the part that the message carries, 3 its number, 4 its session, 5 its Configuration ID, 6 its boot time or DSN, 7 its
+// template ID, 8 and 9 its flags S and D; 0 for what it does not say, and for what could not be read.
 #[no_mangle]
 pub extern "C" fn crane_read_again(message: &[u8], out: &mut [u8], part: u8) -> u64
-    ensures { λ n. ⌜ (n ≡ againPart part (partAt (now (message .entry))) (partOf (now (message .entry))) (now (out .entry)) (readOf (now (message .entry))))
+    ensures { λ n. ⌜ (n ≡ againPart part (partAt (now (message .entry))) (partOf (now (message .entry)))
+        (now (out .entry)) (readOf (now (message .entry))))
         × (now (out .exit) ≡ againOut (partOf (now (message .entry))) (now (out .entry)) (readOf (now (message .entry)))) ⌝ }
 {
     let reading = wire::read::read_message(message);

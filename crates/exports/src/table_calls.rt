@@ -36,8 +36,8 @@ fn template_part(part: u8, m: Template) -> u64
     if i < 3 { parts[i] } else { 0 }
 }
 
-// A part of what finding the template with an ID answers, by its number: 0 the answer, and of a template 1 the place of its first key block,
-// 2 how many key blocks it has.
+// A part of what finding the template with an ID answers, by its number: 0 the answer, and of a template 1 the place of its first key
+// block, 2 how many key blocks it has.
 #[no_mangle]
 pub extern "C" fn crane_find_part(table: &[u8], id: u16, part: u8) -> u64
     ensures { λ n. ⌜ n ≡ foundPart part (findOf (now (table .entry)) id) ⌝ }

@@ -1,6 +1,7 @@
 // The replay program: a tape from standard input, its lines to standard output.
 ghost use Prim.Native.Nat.{_≤_};
 ghost use lib.ListN.{length};
+ghost use Rattle.exporter.specs.Limits.{maxStoreOctets};
 use contents::INPUT_OCTETS;
 use exporter::limits::MAX_STORE_OCTETS;
 use libc::STDIN_FILENO;
@@ -33,7 +34,7 @@ fn replay(tape: &[u8], store: &mut [u8]) {
 
 // Lends a replay the part of the store that the tape's settings name.
 fn lend(tape: &[u8], store: &mut [u8])
-    requires { ⌜ 65536 ≤ length (now store) ⌝ }
+    requires { ⌜ maxStoreOctets ≤ length (now store) ⌝ }
 {
     let len = tape::event::store_length(tape);
     replay(tape, &mut store[..len]);

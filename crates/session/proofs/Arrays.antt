@@ -12,7 +12,7 @@ use lib.Dec.{eqb}
 use lib.Pow.{pow-lt}
 use lib.ListN.{length, getD, set, take, drop, replicate, length-drop, length-replicate, replicate-append-replicate, drop-of-length-le}
 use lib.Seq.{take-suc, take-all, drop-at, getD-drop}
-use Rattle.wire.specs.Each.{every}
+use Rattle.octets.specs.Each.{every}
 use Rattle.octets.proofs.Each.{every-at}
 use Rattle.session.specs.Queue.{sumOf, has, hasOther, shifted}
 

@@ -1,7 +1,7 @@
 -- The starred boundary examples hold: each row is shown by computing the definitions on it.
 use mathlib.Core.Path.{refl}
 use Rattle.octets.specs.Numbers.{numberOf, uintAt, octetsOf}
-use Rattle.wire.specs.Each.{every, firstFrom}
+use Rattle.octets.specs.Each.{every, firstFrom}
 use Rattle.wire.specs.FieldTypes.{isType, widthOf}
 use Rattle.wire.specs.Messages.{isMessage, bodyFits, messageOf, layoutOf, readAnswer, dataHeadOf, meaningOf, readOf, partAt, partOf}
 use Rattle.wire.specs.Table.{keySound, blockEnd, headSound, paddingSound, blockSound, blockAt, tableSound, templateIndex, templateAt}

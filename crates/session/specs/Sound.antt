@@ -4,7 +4,7 @@ use mathlib.Core.Bool.{Bool, not, _&&_, _||_}
 use mathlib.Core.List.{List, [], _∷_}
 use lib.Dec.{eqb, leb, ltb}
 use lib.ListN.{getD}
-use Rattle.wire.specs.Each.{every, allOf}
+use Rattle.octets.specs.Each.{every, allOf}
 use Rattle.wire.specs.Messages.{maxRecordOctets}
 use Rattle.session.specs.Limits.{maxServers, maxThreshold, minStoreOctets, maxStoreOctets, maxHeld}
 use Rattle.session.specs.Servers.{sameActive, chosen}

@@ -1,4 +1,4 @@
--- Laws of a session: what one event is, what a call's answer leaves of a session, and one event more. Assumes nothing.
+-- Laws of a session: what one event is, what a call's answer leaves of a session, and one event more.
 use mathlib.Core.Path.{_≡_, refl, sym, ap, _∙_}
 use mathlib.Core.List.{List, []}
 use Prim.Native.Nat.{ℕ, _+_, _*_}

@@ -1,4 +1,4 @@
--- A session: the calls that a list of events asks for, one after the other, from a fresh exporter on. Assumes nothing.
+-- A session: the calls that a list of events asks for, one after the other, from a fresh exporter on.
 use Prim.Native.Nat.{ℕ, zero, suc, _+_, _*_, _/_, _%_, _^_}
 use mathlib.Core.Path.{_≡_}
 use mathlib.Core.Bool.{cond}

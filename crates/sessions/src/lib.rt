@@ -1,6 +1,6 @@
-// A session, for benchmarks in Rust: an exporter is set up and makes one call after the other, as lent events ask for, since a state does
-// not cross the boundary to C. Each call that it makes stands here once, as in a program that uses the exporter: the compiler then puts it in
-// its caller's place. So nothing else stands in this crate.
+// A session, for benchmarks in Rust, which call `crane_session`: an exporter is set up and makes one call after the other, as lent events
+// ask for, since a state does not cross the boundary to C. Each call that it makes stands here once, as in a program that uses the
+// exporter: the compiler then puts it in its caller's place. So nothing else stands in this crate.
 ghost use mathlib.Core.Path.{_≡_};
 ghost use Prim.Native.Nat.{_+_, _≤_};
 ghost use lib.ListN.{length};
@@ -69,7 +69,9 @@ fn play(
     events: &[u8],
     out: &mut [u8],
 ) -> u64
-    ensures { λ n. ⌜ PlayedTo (played (record { table = now (table .entry); template = id; octets = now (r .entry); events = now (events .entry) }) (eventCount (now (events .entry)))
+    ensures { λ n. ⌜ PlayedTo (played
+        (record { table = now (table .entry); template = id; octets = now (r .entry); events = now (events .entry) })
+        (eventCount (now (events .entry)))
         (progress (made .state) (now (store .entry)) (now (out .entry)) (made .answer))) n (now (store .exit)) (now (out .exit)) ⌝ }
 {
     let mut state = made.state;
@@ -129,7 +131,8 @@ pub extern "C" fn crane_session(
     out: &mut [u8],
 ) -> u64
     ensures { λ n. ⌜ PlayedTo (sessionEnd (settingsOf servers threshold duration initial)
-        (record { table = now (table .entry); template = id; octets = now (r .entry); events = now (events .entry) }) (now (store .entry)) (now (out .entry))) n (now (store .exit)) (now (out .exit)) ⌝ }
+        (record { table = now (table .entry); template = id; octets = now (r .entry); events = now (events .entry) })
+        (now (store .entry)) (now (out .entry))) n (now (store .exit)) (now (out .exit)) ⌝ }
 {
     let made = exporter::set_up::set_up(settings(servers, threshold, duration, initial), store);
     play(made, store, table, id, r, events, out)

@@ -3,7 +3,7 @@ ghost use mathlib.Core.Path.{_≡_};
 ghost use Prim.Native.Nat.{_≤_, _<_};
 ghost use mathlib.Core.List.{[]};
 ghost use lib.ListN.{getD};
-ghost use Rattle.wire.specs.Each.{every};
+ghost use Rattle.octets.specs.Each.{every};
 ghost use Rattle.session.specs.Limits.{maxServers, maxHeld};
 ghost use Rattle.session.specs.Parts.{Below, stateOf};
 ghost use Rattle.session.specs.Queue.{has};

@@ -1,5 +1,5 @@
 -- Laws of the events: the call that an event makes, by its kind, and what the calls without a message write. A kind is tested against each
--- name in turn, so its call is that of the first test that holds. Of the output a call looks at nothing but the length. Assumes nothing.
+-- name in turn, so its call is that of the first test that holds. Of the output a call looks at nothing but the length.
 use mathlib.Core.Path.{_≡_, refl, sym, ap}
 use mathlib.Core.Bool.{Bool, true, false, cond}
 use mathlib.Core.List.{List, []}
@@ -10,6 +10,7 @@ use lib.Dec.{eqb}
 use borrow.Author.Tests.{ne-eqb}
 use Rattle.octets.specs.Numbers.{uintAt, Octets}
 use Rattle.octets.proofs.Numbers.{uint-below}
+use Rattle.session.specs.Limits.{maxStoreOctets}
 use Rattle.session.specs.Servers.{down, offer}
 use Rattle.session.specs.Steps.{put, nextData, tick, move, received, step, written, Outcome, steppedOf, wroteOf, outputAfter, putStep, tickStep, lineDownStep}
 use Rattle.session.proofs.Written.{writes-nothing}
@@ -123,7 +124,7 @@ pub wrote-called : (s : State) (store out : List ℕ) (e f : Event) (x : Wrote) 
 wrote-called s store out e f x after g h k l = rw g (h, (l, k))
 
 -- the store that a tape names is no longer than the longest
-pub store-small : (t : List ℕ) → Octets t → storeLength (bodyOf t 0) ≤ 65536
+pub store-small : (t : List ℕ) → Octets t → storeLength (bodyOf t 0) ≤ maxStoreOctets
 store-small t h =
     let n = uint-below (bodyOf t 0) (octets-part t h (bodyAt t 0) (bodyLength t 0)) 6 2 in
     omega (arith, n)

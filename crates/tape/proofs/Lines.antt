@@ -1,4 +1,4 @@
--- Laws of a line's parts: digits stored one by one are the parts that the definitions name. Assumes nothing.
+-- Laws of a line's parts: digits stored one by one are the parts that the definitions name.
 use mathlib.Core.Path.{_≡_, refl, sym, ap, _∙_}
 use mathlib.Core.List.{List, [], _∷_, _++_, append-assoc}
 use Prim.Native.Nat.{ℕ, suc, _+_, _*_, _/_, _%_, _≤_, _<_}
@@ -12,11 +12,11 @@ use lib.Dec.{ltb}
 use Rattle.octets.specs.Numbers.{octetsOf, putAt}
 use Rattle.octets.proofs.Stores.{cond-cases, put-fits}
 use Rattle.wire.proofs.Messages.{sets-then, put-then}
-use Rattle.tape.specs.Lines.{space, newline, digit, decimal, hex, writtenText, lineOf}
+use Rattle.tape.specs.Lines.{space, newline, digit, decimal, hex, writtenText, lineOf, numberDigits, lineOctets, Stored}
 
 -- A number in decimal was stored at a place, and the place behind it answered.
 abbrev pub Spelt : List ℕ → ℕ → ℕ → ℕ → List ℕ → Type 0
-Spelt text at n place after = (place ≡ at + length (decimal n)) × (after ≡ sets text at (decimal n))
+Spelt text at n = Stored text at (decimal n)
 
 pub one-digit : (text : List ℕ) (at n d : ℕ) → n < 10 → d ≡ digit (n % 10) → Spelt text at n (at + 1) (set text at d)
 unfolding decimal
@@ -40,14 +40,14 @@ three-digits text at n b c d l e f g =
     rw (le-ltb n 10 ten, le-ltb n 100 l) (refl, rw (g, f, e, two, add-one at) refl)
 
 -- a number below 1,000 has one to three digits, and storing it keeps the length
-pub decimal-length : (n : ℕ) → length (decimal n) ≤ 3
+pub decimal-length : (n : ℕ) → length (decimal n) ≤ numberDigits
 unfolding decimal
 decimal-length n =
-    cond-cases (λ (l : List ℕ). length l ≤ 3) (ltb n 10) _ _ (λ e. omega arith)
-    (λ e. cond-cases (λ (l : List ℕ). length l ≤ 3) (ltb n 100) _ _ (λ f. omega arith) (λ f. omega arith))
+    cond-cases (λ (l : List ℕ). length l ≤ numberDigits) (ltb n 10) _ _ (λ e. omega arith)
+    (λ e. cond-cases (λ (l : List ℕ). length l ≤ numberDigits) (ltb n 100) _ _ (λ f. omega arith) (λ f. omega arith))
 
 pub spelt-bounds : (text : List ℕ) (at n place : ℕ) (after : List ℕ) → Spelt text at n place after
-    → (place ≤ at + 3) × (length after ≡ length text)
+    → (place ≤ at + numberDigits) × (length after ≡ length text)
 spelt-bounds text at n place after s =
     (omega (arith, s .0, decimal-length n), ap length (s .1) ∙ length-sets text at (decimal n))
 
@@ -78,7 +78,7 @@ hex-done text k octets i h = rw (drop-of-length-le octets h) refl
 
 -- A space and the digits of some octets were stored at a place, or nothing where there are none.
 abbrev pub Shown : List ℕ → ℕ → List ℕ → ℕ → List ℕ → Type 0
-Shown text at octets place after = (place ≡ at + length (writtenText octets)) × (after ≡ sets text at (writtenText octets))
+Shown text at octets = Stored text at (writtenText octets)
 
 pub nothing-shown : (text : List ℕ) (at : ℕ) (octets : List ℕ) → length octets ≡ 0 → Shown text at octets at text
 nothing-shown text at [] e = (sym (add-zero at), refl)
@@ -99,7 +99,7 @@ shown-bounds text at (x ∷ octets) place after s =
     (omega (arith, s .0, hex-length (x ∷ octets)), ap length (s .1) ∙ length-sets text at (writtenText (x ∷ octets)))
 
 -- the parts of a line, each stored behind the one before it
-pub line-joined : (text octets t₁ t₂ t₃ t₄ t₅ : List ℕ) (p a first second last : ℕ) → 9 + 2 * length octets ≤ length text
+pub line-joined : (text octets t₁ t₂ t₃ t₄ t₅ : List ℕ) (p a first second last : ℕ) → lineOctets (length octets) ≤ length text
     → Spelt text 0 p first t₁ → t₂ ≡ putAt t₁ first (octetsOf 1 space) → Spelt t₂ (first + 1) a second t₃
     → Shown t₃ second octets last t₄ → t₅ ≡ putAt t₄ last (octetsOf 1 newline)
     → (last + 1 ≡ length (lineOf p a octets)) × (t₅ ≡ sets text 0 (lineOf p a octets))

@@ -1,6 +1,6 @@
 -- Turn by turn the lines are those of the whole replay: the bodies of a sound tape follow each other, so each turn takes the event that the
 -- replay has at its place, with the state and the store that the one before left. A tape's calls are a list of calls of demand 3, since
--- its octets are below 256. Assumes nothing.
+-- its octets are below 256.
 use mathlib.Core.Path.{_≡_, refl, sym, ap, _∙_}
 use mathlib.Core.Bool.{Bool, true, false, cond, false≢true}
 use mathlib.Core.List.{List, [], _∷_}
@@ -14,7 +14,7 @@ use lib.ListN.{length, drop, length-take, length-drop}
 use Rattle.octets.specs.Answers.{done}
 use Rattle.octets.specs.Numbers.{Octets}
 use Rattle.octets.proofs.Numbers.{uint-below}
-use Rattle.wire.specs.Each.{every}
+use Rattle.octets.specs.Each.{every}
 use Rattle.session.specs.Steps.{setUp}
 use Rattle.session.specs.Claim.{Event, Put, NextData, Receive, OfferTemplates, LineDown, Tick, sessionOf32, Exporter, outcome, storeLeft, advance, begin, AllOctets}
 use Rattle.session.proofs.Demand.{demand3of32}

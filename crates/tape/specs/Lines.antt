@@ -1,8 +1,11 @@
--- A line of the replay program's output (01, "Replay tape"), as the codes of its characters. Assumes nothing.
-use Prim.Native.Nat.{ℕ, _+_, _/_, _%_}
+-- A line of the replay program's output (01, "Replay tape"), as the codes of its characters.
+use Prim.Native.Nat.{ℕ, _+_, _*_, _/_, _%_}
+use mathlib.Core.Path.{_≡_}
 use mathlib.Core.Bool.{cond}
 use mathlib.Core.List.{List, [], _∷_, _++_}
 use lib.Dec.{ltb}
+use lib.ListN.{length}
+use lib.Seq.{sets}
 
 -- A space.
 abbrev pub space : ℕ
@@ -40,3 +43,31 @@ lineOf place answer octets = decimal place ++ (space ∷ decimal answer) ++ writ
 -- The only line of a tape that is not sound: `tape refused`.
 abbrev pub tapeRefused : List ℕ
 tapeRefused = 116 ∷ 97 ∷ 112 ∷ 101 ∷ space ∷ 114 ∷ 101 ∷ 102 ∷ 117 ∷ 115 ∷ 101 ∷ 100 ∷ newline ∷ []
+
+-- ---- how many octets a line has
+
+-- The most digits of a place or an answer.
+abbrev pub numberDigits : ℕ
+numberDigits = 3
+
+-- The hex digits of n octets.
+abbrev pub hexDigits : ℕ → ℕ
+hexDigits n = 2 * n
+
+-- The most octets of a line beside hex digits: a place, a space, an answer, a space and the end of the line.
+abbrev pub frameOctets : ℕ
+frameOctets = numberDigits + 1 + numberDigits + 1 + 1
+
+-- The most octets of the line of an event that wrote n octets.
+abbrev pub lineOctets : ℕ → ℕ
+lineOctets n = frameOctets + hexDigits n
+
+-- ---- storing a part of a line
+
+-- Characters were stored in a text at a place, which gave the place behind them and the text afterwards.
+abbrev pub Stored : List ℕ → ℕ → List ℕ → ℕ → List ℕ → Type 0
+Stored text at part next after = (next ≡ at + length part) × (after ≡ sets text at part)
+
+-- A whole line was stored from the first octet on, which gave its length and the text afterwards.
+abbrev pub Printed : List ℕ → List ℕ → ℕ → List ℕ → Type 0
+Printed text line len after = (len ≡ length line) × (after ≡ sets text 0 line)

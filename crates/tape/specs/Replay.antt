@@ -1,4 +1,4 @@
--- The whole replay of a tape: from its octets to the lines of the output (01, "Replay tape"). Assumes nothing.
+-- The whole replay of a tape: from its octets to the lines of the output (01, "Replay tape").
 use Prim.Native.Nat.{ℕ, zero, suc, _+_, _-_}
 use mathlib.Core.Bool.{cond, not}
 use mathlib.Core.List.{List, [], _∷_, map}
@@ -9,7 +9,7 @@ use Rattle.octets.specs.Numbers.{uintAt}
 use Rattle.exporter.specs.Steps.{isSessions, setUp}
 use Rattle.exporter.specs.Claim.{Event, Put, NextData, Receive, OfferTemplates, LineDown, Tick, Session, sessionOf32, Exporter, outcome, advance, begin}
 use Rattle.session.specs.declared.state.Settings.{Settings}
-use Rattle.contents.specs.Tape.{eventCount, kindAt, serverAt, bodyOf, tapeSound, putKind, messageKind, downKind, tickKind, nextKind}
+use Rattle.contents.specs.Tape.{eventCount, kindAt, serverAt, bodyOf, tapeSound, templateIdOctets, putKind, messageKind, downKind, tickKind, nextKind}
 use Rattle.tape.specs.Lines.{lineOf, tapeRefused}
 
 -- ---- the first two events
@@ -64,7 +64,7 @@ outputBuffer = replicate outputBufferOctets 0
 -- here; any other counts as an offer.
 unfoldable pub eventCall : ℕ → ℕ → List ℕ → List ℕ → List ℕ → Event
 eventCall kind server b out table =
-    cond (eqb kind putKind) (Put table (uintAt b 0 2) (drop 2 b))
+    cond (eqb kind putKind) (Put table (uintAt b 0 templateIdOctets) (drop templateIdOctets b))
     (cond (eqb kind messageKind) (Receive server b out)
     (cond (eqb kind downKind) (LineDown server)
     (cond (eqb kind tickKind) Tick

@@ -1,7 +1,7 @@
 -- A replay in turns, one line each, as the code takes it: opening a tape, then one event more. What a program prints has no contract, so
 -- the contracts of the turns cite this page, and not the one of the whole replay; `TurnByTurn` below says that the lines are those of
--- `replay`, and the law `turn-by-turn` shows it. Assumes nothing.
-use Prim.Native.Nat.{ℕ, zero, suc, _+_, _-_}
+-- `replay`, and the law `turn-by-turn` shows it.
+use Prim.Native.Nat.{ℕ, zero, suc, _+_, _-_, _≤_}
 use mathlib.Core.Path.{_≡_}
 use mathlib.Core.Bool.{cond, _&&_}
 use mathlib.Core.List.{List, [], _∷_}
@@ -15,8 +15,8 @@ use Rattle.exporter.specs.Claim.{Event, sessionOf32, outcome, storeLeft, Claim}
 use Rattle.session.specs.declared.state.State.{State}
 use Rattle.session.specs.declared.state.Wrote.{Wrote}
 use Rattle.contents.specs.Tape.{eventCount, kindAt, serverAt, bodyLength, bodyAt, bodyOf, octetsAt, tapeSound}
-use Rattle.tape.specs.Lines.{lineOf, tapeRefused}
-use Rattle.tape.specs.Replay.{tableAnswer, outputBuffer, eventCall, tapeSettings, tapeSession, tapeStore, tapeCalls, replay}
+use Rattle.tape.specs.Lines.{lineOf, tapeRefused, lineOctets}
+use Rattle.tape.specs.Replay.{tableAnswer, outputBufferOctets, outputBuffer, eventCall, tapeSettings, tapeSession, tapeStore, tapeCalls, replay}
 use Rattle.tape.specs.declared.replay.Progress.{Progress}
 use Rattle.tape.specs.declared.replay.Turn.{Turn}
 
@@ -69,9 +69,13 @@ indexOf t r = eventCount t - r .left
 abbrev pub nextBody : List ℕ → Progress → List ℕ
 nextBody t r = octetsAt t (r .at) (bodyLength t (indexOf t r))
 
+-- Where that ends.
+abbrev pub nextEnd : List ℕ → Progress → ℕ
+nextEnd t r = r .at + length (nextBody t r)
+
 -- The progress after an event, with a state and a number of events left.
 abbrev pub progressed : List ℕ → Progress → State → ℕ → Progress
-progressed t r s left = record { state = s; left = left; at = r .at + length (nextBody t r) }
+progressed t r s left = record { state = s; left = left; at = nextEnd t r }
 
 -- The table's turn: no event is left after a refusal.
 abbrev pub tableTurn : List ℕ → Progress → List ℕ → Played
@@ -106,9 +110,39 @@ played t r store =
     cond (eqb (r .left) 0) (record { line = []; written = []; progress = r; store = store })
     (cond (eqb (indexOf t r) 1) (tableTurn t r store) (callTurn t r store))
 
+-- ---- what the code needs and gives
+
+-- What taking the table needs, where its body ends at a place.
+pub record TableReady (t : List ℕ) (r : Progress) (at : ℕ) (text : List ℕ) : Type 0 where
+  -- an event is left
+  pub some : 1 ≤ r .left
+  -- where its body ends
+  pub end : at ≡ nextEnd t r
+  -- the text has room for the line of an event that wrote nothing
+  pub room : lineOctets 0 ≤ length text
+
+-- What taking the call of event i needs, whose body is b and ends at a place.
+pub record CallReady (t : List ℕ) (r : Progress) (i : ℕ) (b : List ℕ) (at : ℕ) (out text : List ℕ) : Type 0 where
+  -- an event is left
+  pub some : 1 ≤ r .left
+  -- its place
+  pub place : i ≡ indexOf t r
+  -- its body
+  pub body : b ≡ nextBody t r
+  -- where that ends
+  pub end : at ≡ r .at + length b
+  -- the output has the length of the program's
+  pub lent : length out ≡ outputBufferOctets
+  -- the text has room for the line of a call that fills the output
+  pub room : lineOctets (length out) ≤ length text
+
 -- What the code answers of a turn.
 abbrev pub turnOf : Played → Turn
 turnOf p = record { len = length (p .line); progress = p .progress }
+
+-- The same with the text that it leaves.
+abbrev pub Lined : Played → List ℕ → Turn → List ℕ → Type 0
+Lined p text turn textAfter = (turn ≡ turnOf p) × (textAfter ≡ sets text 0 (p .line))
 
 -- The same with the store, the output and the text that it leaves.
 abbrev pub Turned : Played → List ℕ → List ℕ → Turn → List ℕ → List ℕ → List ℕ → Type 0
@@ -133,8 +167,8 @@ turns t store = opened t store .line ∷ turnsFrom t (eventCount t) (opened t st
 abbrev pub TurnByTurn : Type 0
 TurnByTurn = (t : List ℕ) → turns t (tapeStore t) ≡ replay t
 
--- Of any octets whose settings would be answered 0, the calls are a list of calls from a fresh exporter, and the exporter's claim (demand 3)
--- holds of it, whatever the table is.
+-- Of any octets whose settings would be answered 0, the calls are a list of calls from a fresh exporter, and the exporter's claim (demand
+-- 3) holds of it, whatever the table is.
 abbrev pub CallsClaimed : Type 0
 CallsClaimed =
     (t : List ℕ) → Octets t → setUp (tapeSettings t) (length (tapeStore t)) .answer ≡ done

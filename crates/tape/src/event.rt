@@ -1,10 +1,11 @@
 // The events of a tape: settings, table, and the six calls.
 ghost use mathlib.Core.Path.{_≡_};
 ghost use lib.ListN.{drop};
-ghost use Rattle.contents.specs.Tape.{bodyOf};
+ghost use Rattle.contents.specs.Tape.{bodyOf, templateIdOctets};
 ghost use Rattle.tape.specs.Replay.{settingsOf, storeLength, tableAnswer, eventCall};
 ghost use Rattle.tape.specs.Turns.{Called};
 use contents::Kind;
+use contents::TEMPLATE_ID_OCTETS;
 use exporter::state::Settings;
 use exporter::state::State;
 use exporter::state::Stepped;
@@ -49,10 +50,7 @@ pub fn store_length(tape: &[u8]) -> usize
 pub(crate) fn table_answer(p: Settings, table: &[u8]) -> u8
     ensures { λ r. ⌜ r ≡ tableAnswer p (now (table .entry)) ⌝ }
 {
-    if !wire::table::table_sound(table) {
-        return Answer::UNSOUND_TABLE;
-    }
-    if wire::table::configuration_id(table) != p.config {
+    if !exporter::session_table::is_sessions(p, table) {
         return Answer::UNSOUND_TABLE;
     }
     Answer::DONE
@@ -60,13 +58,13 @@ pub(crate) fn table_answer(p: Settings, table: &[u8]) -> u8
 
 // The record in a put's body.
 fn record_of(b: &[u8]) -> &[u8]
-    ensures { λ r. ⌜ now r ≡ drop 2 (now (b .entry)) ⌝ }
+    ensures { λ r. ⌜ now r ≡ drop templateIdOctets (now (b .entry)) ⌝ }
 {
     let len = b.len();
-    if len < 2 {
+    if len < TEMPLATE_ID_OCTETS {
         return &b[len..];
     }
-    &b[2..]
+    &b[TEMPLATE_ID_OCTETS..]
 }
 
 // The answer of a call without output, in the form of one with it.
@@ -91,7 +89,8 @@ pub(crate) fn call<'a>(
     store: &mut [u8],
     out: &mut [u8],
 ) -> Wrote
-    ensures { λ r. ⌜ Called (now (table .entry)) s (now (store .entry)) (now (out .entry)) (eventCall kind server (now (b .entry)) (now (out .entry))) r (now (store .exit)) (now (out .exit)) ⌝ }
+    ensures { λ r. ⌜ Called (now (table .entry)) s (now (store .entry)) (now (out .entry))
+        (eventCall kind server (now (b .entry)) (now (out .entry))) r (now (store .exit)) (now (out .exit)) ⌝ }
 {
     if kind == Kind::PUT {
         let id = octets::get_u16(b, 0);

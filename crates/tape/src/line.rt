@@ -1,10 +1,12 @@
 // A line of output: the place of an event, its answer, and the octets that it wrote in hex.
 ghost use mathlib.Core.Path.{_≡_};
-ghost use mathlib.Core.List.{[], _∷_};
-ghost use Prim.Native.Nat.{_+_, _*_, _≤_, _<_};
+ghost use Prim.Native.Nat.{_+_, _≤_, _<_};
 ghost use lib.ListN.{length};
 ghost use lib.Seq.{sets};
-ghost use Rattle.tape.specs.Lines.{digit, decimal, hex, writtenText, lineOf, tapeRefused};
+ghost use Rattle.tape.specs.Lines.{digit, decimal, hex, writtenText, lineOf, tapeRefused, numberDigits, hexDigits, lineOctets, Stored, Printed};
+
+// How many octets the line of a tape that is not sound has.
+const REFUSED_OCTETS: usize = 13;
 
 // The character of a digit below 16.
 fn digit_of(d: u8) -> u8
@@ -16,8 +18,8 @@ fn digit_of(d: u8) -> u8
 
 // A number below 1,000 in decimal to a place; answers the place behind it.
 fn write_decimal(text: &mut [u8], at: usize, n: usize) -> usize
-    requires { ⌜ at + 3 ≤ length (now text) ⌝ }
-    ensures { λ r. ⌜ (r ≡ at + length (decimal n)) × (now (text .exit) ≡ sets (now (text .entry)) at (decimal n)) ⌝ }
+    requires { ⌜ at + numberDigits ≤ length (now text) ⌝ }
+    ensures { λ r. ⌜ Stored (now (text .entry)) at (decimal n) r (now (text .exit)) ⌝ }
 {
     let ones = digit_of((n % 10) as u8);
     if n < 10 {
@@ -38,7 +40,7 @@ fn write_decimal(text: &mut [u8], at: usize, n: usize) -> usize
 
 // Octets in hex to a place.
 fn write_hex(octets: &[u8], text: &mut [u8], at: usize)
-    requires { ⌜ at + 2 * length (now octets) ≤ length (now text) ⌝ }
+    requires { ⌜ at + hexDigits (length (now octets)) ≤ length (now text) ⌝ }
     ensures { λ _. ⌜ now (text .exit) ≡ sets (now (text .entry)) at (hex (now (octets .entry))) ⌝ }
 {
     let mut i: usize = 0;
@@ -52,8 +54,8 @@ fn write_hex(octets: &[u8], text: &mut [u8], at: usize)
 
 // A space and octets in hex to a place, or nothing where there are none; answers the place behind it.
 fn write_written(octets: &[u8], text: &mut [u8], at: usize) -> usize
-    requires { ⌜ at + 1 + 2 * length (now octets) ≤ length (now text) ⌝ }
-    ensures { λ r. ⌜ (r ≡ at + length (writtenText (now (octets .entry)))) × (now (text .exit) ≡ sets (now (text .entry)) at (writtenText (now (octets .entry)))) ⌝ }
+    requires { ⌜ at + 1 + hexDigits (length (now octets)) ≤ length (now text) ⌝ }
+    ensures { λ r. ⌜ Stored (now (text .entry)) at (writtenText (now (octets .entry))) r (now (text .exit)) ⌝ }
 {
     let n = octets.len();
     if n == 0 {
@@ -66,8 +68,8 @@ fn write_written(octets: &[u8], text: &mut [u8], at: usize) -> usize
 
 // The line of an event to the first octets; answers how many they are.
 pub(crate) fn write_line(place: usize, answer: u8, octets: &[u8], text: &mut [u8]) -> usize
-    requires { ⌜ 9 + 2 * length (now octets) ≤ length (now text) ⌝ }
-    ensures { λ r. ⌜ (r ≡ length (lineOf place answer (now (octets .entry)))) × (now (text .exit) ≡ sets (now (text .entry)) 0 (lineOf place answer (now (octets .entry)))) ⌝ }
+    requires { ⌜ lineOctets (length (now octets)) ≤ length (now text) ⌝ }
+    ensures { λ r. ⌜ Printed (now (text .entry)) (lineOf place answer (now (octets .entry))) r (now (text .exit)) ⌝ }
 {
     let first = write_decimal(text, 0, place);
     octets::put_u8(text, first, b' ');
@@ -79,9 +81,9 @@ pub(crate) fn write_line(place: usize, answer: u8, octets: &[u8], text: &mut [u8
 
 // The line of a tape that is not sound to the first octets; answers how many they are.
 pub(crate) fn write_refused(text: &mut [u8]) -> usize
-    requires { ⌜ 13 ≤ length (now text) ⌝ }
-    ensures { λ r. ⌜ (r ≡ length tapeRefused) × (now (text .exit) ≡ sets (now (text .entry)) 0 tapeRefused) ⌝ }
+    requires { ⌜ length tapeRefused ≤ length (now text) ⌝ }
+    ensures { λ r. ⌜ Printed (now (text .entry)) tapeRefused r (now (text .exit)) ⌝ }
 {
     octets::copy(text, 0, b"tape refused\n");
-    13
+    REFUSED_OCTETS
 }

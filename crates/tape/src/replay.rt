@@ -1,20 +1,21 @@
 // A replay, one line at a time: the tape is opened, then each event is taken in its turn.
 ghost use mathlib.Core.Path.{_≡_};
 ghost use mathlib.Core.List.{[]};
-ghost use Prim.Native.Nat.{_+_, _-_, _*_, _≤_};
-ghost use lib.ListN.{length};
+ghost use Prim.Native.Nat.{_-_};
 ghost use lib.Seq.{sets};
 ghost use Rattle.contents.specs.Tape.{eventCount};
-ghost use Rattle.tape.specs.Replay.{outputBufferOctets};
-ghost use Rattle.tape.specs.Turns.{opened, indexOf, nextBody, tableTurn, callTurn, played, turnOf, Turned};
+ghost use Rattle.tape.specs.Turns.{opened, tableTurn, callTurn, played, TableReady, CallReady, turnOf, Lined, Turned};
 use exporter::state::State;
 use octets::Answer;
 
 // How many octets the calls of a replay are lent as output.
 pub const OUTPUT_OCTETS: usize = 16392;
 
-// Enough for any line: two numbers of three digits, two spaces, the end of the line, and two digits for each octet of output.
-pub const LINE_OCTETS: usize = 32793;
+// The most octets of a line beside hex digits: two numbers of three digits, two spaces and the end of the line.
+const FRAME_OCTETS: usize = 9;
+
+// Enough for any line: two digits for each octet of output, and what stands beside them.
+pub const LINE_OCTETS: usize = FRAME_OCTETS + 2 * OUTPUT_OCTETS;
 
 // How far a replay is, between two events.
 pub struct Progress {
@@ -33,7 +34,8 @@ pub struct Turn {
 
 // Opens a tape over a lent store and writes its first line: `tape refused`, or that of the settings. After a refusal no event is left.
 pub fn open_tape(tape: &[u8], store: &[u8], text: &mut [u8; LINE_OCTETS]) -> Turn
-    ensures { λ r. ⌜ (r ≡ turnOf (opened (now (tape .entry)) (now (store .entry)))) × (now (text .exit) ≡ sets (now (text .entry)) 0 (opened (now (tape .entry)) (now (store .entry)) .line)) ⌝ }
+    ensures { λ r. ⌜ (r ≡ turnOf (opened (now (tape .entry)) (now (store .entry))))
+        × (now (text .exit) ≡ sets (now (text .entry)) 0 (opened (now (tape .entry)) (now (store .entry)) .line)) ⌝ }
 {
     let settings = crate::event::settings_of(contents::body(tape, 0));
     let made = exporter::set_up::set_up(settings, store);
@@ -60,8 +62,8 @@ pub fn open_tape(tape: &[u8], store: &[u8], text: &mut [u8; LINE_OCTETS]) -> Tur
 
 // Takes the table, whose body ends at a place.
 fn take_table(r: Progress, tape: &[u8], at: usize, text: &mut [u8]) -> Turn
-    requires { ⌜ (1 ≤ r .left) × ((at ≡ r .at + length (nextBody (now tape) r)) × (9 ≤ length (now text))) ⌝ }
-    ensures { λ x. ⌜ (x ≡ turnOf (tableTurn (now (tape .entry)) r [])) × (now (text .exit) ≡ sets (now (text .entry)) 0 (tableTurn (now (tape .entry)) r [] .line)) ⌝ }
+    requires { ⌜ TableReady (now tape) r at (now text) ⌝ }
+    ensures { λ x. ⌜ Lined (tableTurn (now (tape .entry)) r []) (now (text .entry)) x (now (text .exit)) ⌝ }
 {
     let settings = crate::event::settings_of(contents::body(tape, 0));
     let answer = crate::event::table_answer(settings, contents::body(tape, 1));
@@ -99,8 +101,9 @@ fn take_call<'a>(
     out: &mut [u8],
     text: &mut [u8],
 ) -> Turn
-    requires { ⌜ (1 ≤ r .left) × ((i ≡ indexOf (now tape) r) × ((now b ≡ nextBody (now tape) r) × ((at ≡ r .at + length (now b)) × ((length (now out) ≡ outputBufferOctets) × (9 + 2 * length (now out) ≤ length (now text)))))) ⌝ }
-    ensures { λ x. ⌜ Turned (callTurn (now (tape .entry)) r (now (store .entry))) (now (out .entry)) (now (text .entry)) x (now (store .exit)) (now (out .exit)) (now (text .exit)) ⌝ }
+    requires { ⌜ CallReady (now tape) r i (now b) at (now out) (now text) ⌝ }
+    ensures { λ x. ⌜ Turned (callTurn (now (tape .entry)) r (now (store .entry))) (now (out .entry)) (now (text .entry)) x
+        (now (store .exit)) (now (out .exit)) (now (text .exit)) ⌝ }
 {
     let table = contents::body(tape, 1);
     let kind = contents::kind_at(tape, i);
@@ -110,13 +113,10 @@ fn take_call<'a>(
     let written = wrote.written;
     let len = crate::line::write_line(i as usize, wrote.answer, &out[..written], text);
     let state = wrote.state;
+    let left = r.left - 1;
     Turn {
         len,
-        progress: Progress {
-            state,
-            left: r.left - 1,
-            at,
-        },
+        progress: Progress { state, left, at },
     }
 }
 
@@ -128,7 +128,8 @@ pub fn take_event(
     out: &mut [u8; OUTPUT_OCTETS],
     text: &mut [u8; LINE_OCTETS],
 ) -> Turn
-    ensures { λ x. ⌜ Turned (played (now (tape .entry)) r (now (store .entry))) (now (out .entry)) (now (text .entry)) x (now (store .exit)) (now (out .exit)) (now (text .exit)) ⌝ }
+    ensures { λ x. ⌜ Turned (played (now (tape .entry)) r (now (store .entry))) (now (out .entry)) (now (text .entry)) x
+        (now (store .exit)) (now (out .exit)) (now (text .exit)) ⌝ }
 {
     if r.left == 0 {
         return Turn {

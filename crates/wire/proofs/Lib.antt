@@ -1,6 +1,5 @@
 -- The claim of demand 2, and the laws of the crates below, passed on.
 pub mod Demand2
-pub use Rattle.octets.proofs.Each
 pub use Rattle.field_types.proofs.FieldTypes
 pub use Rattle.field_types.proofs.TypeFacts
 pub use Rattle.tables.proofs.Tables

@@ -1,5 +1,4 @@
 -- The definitions of messages, tables and records, in reading order, passed on from the crates that hold them.
-pub use Rattle.octets.specs.Each
 pub use Rattle.field_types.specs.FieldTypes
 pub use Rattle.tables.specs.Table
 pub use Rattle.records.specs.Record

@@ -1,4 +1,4 @@
--- `put_many` is safe and ends: the loop counts down. Assumes nothing.
+-- `put_many` is safe and ends: the loop counts down.
 use mathlib.Core.Path.{_≡_}
 use native.Mathlib.Omega.{arith}
 use lib.ListN.{length}

@@ -1,4 +1,4 @@
--- `body` meets its contract: the part at the place and of the length that the contents give. Assumes nothing.
+-- `body` meets its contract: the part at the place and of the length that the contents give.
 use mathlib.Core.Path.{refl}
 use borrow.Author.Needs.{needs}
 use Rattle.contents.proofs.body.Statement.{statement}

@@ -1,5 +1,5 @@
 -- `body_at` meets its contract. The loop's invariant: at is where the body of event k begins, and is small enough that no sum wraps.
--- At the end k is i. Assumes nothing.
+-- At the end k is i.
 use mathlib.Core.Path.{_≡_, refl}
 use Prim.Native.Nat.{_+_, _*_, _-_, _≤_}
 use native.Mathlib.Numerals.{add-one}

@@ -1,4 +1,4 @@
--- `event_sound` meets its contract: each part of the test is the definition's. Assumes nothing.
+-- `event_sound` meets its contract: each part of the test is the definition's.
 use mathlib.Core.Path.{refl}
 use Rattle.contents.specs.Tape.{eventSound}
 use lib.Dec.{eqb}

@@ -1,8 +1,8 @@
--- `events_sound` meets its contract. The loop's invariant: ok says whether the events passed are sound. Assumes nothing.
+-- `events_sound` meets its contract. The loop's invariant: ok says whether the events passed are sound.
 use mathlib.Core.Path.{_≡_, _∙_, sym}
 use Prim.Native.Nat.{_≤_, _-_}
 use native.Mathlib.Omega.{arith}
-use Rattle.wire.specs.Each.{every}
+use Rattle.octets.specs.Each.{every}
 use Rattle.octets.proofs.Each.{every-more}
 use Rattle.contents.specs.Tape.{eventSound}
 use mathlib.Core.Path.{_≡_, _∙_}

@@ -1,4 +1,4 @@
--- `part` meets its contract: what is taken of the octets behind the place is nothing, all of them, or the first n. Assumes nothing.
+-- `part` meets its contract: what is taken of the octets behind the place is nothing, all of them, or the first n.
 use mathlib.Core.Path.{_≡_}
 use mathlib.Core.Path.{ap}
 use Prim.Native.Nat.{ℕ, _+_, _-_}

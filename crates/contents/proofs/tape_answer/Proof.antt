@@ -1,4 +1,4 @@
--- `tape_answer` meets its contract: the tests on the way to each return are those that judge a tape, in order. Assumes nothing.
+-- `tape_answer` meets its contract: the tests on the way to each return are those that judge a tape, in order.
 use mathlib.Core.Path.{refl}
 use Rattle.contents.proofs.Parts.{tape-judged}
 use Rattle.octets.proofs.Judging.{tests}

@@ -1,4 +1,4 @@
--- `lend` is safe: the number of 16 bits that a tape's settings have, and 1, is at most the store's length. Assumes nothing.
+-- `lend` is safe: the number of 16 bits that a tape's settings have, and 1, is at most the store's length.
 use mathlib.Core.Path.{sym}
 use native.Mathlib.Omega.{arith}
 use lib.Seq.{length-take-le}

@@ -1,4 +1,4 @@
--- `print` is safe: what it writes is no longer than the text. Assumes nothing.
+-- `print` is safe: what it writes is no longer than the text.
 use mathlib.Core.Path.{sym}
 use lib.Seq.{length-take-le}
 use borrow.Author.Needs.{needs}

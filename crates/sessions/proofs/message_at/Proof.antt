@@ -1,4 +1,4 @@
--- `message_at` meets its contract: the part has as many octets as its end is past its start. Assumes nothing.
+-- `message_at` meets its contract: the part has as many octets as its end is past its start.
 use mathlib.Core.Path.{_≡_, ap}
 use Prim.Native.Nat.{ℕ, _+_, _-_, _%_}
 use native.Mathlib.Omega.{arith}

@@ -1,6 +1,5 @@
 -- `play` meets its contract. The loop's invariant: the session stands where the events passed have brought it, and store and output keep
 -- their lengths. Each arm makes the call of one kind of event, whose contract says what the definition has after that event.
--- Assumes nothing.
 use mathlib.Core.Path.{_≡_, refl, ap, _∙_}
 use mathlib.Core.Logic.{⊎-elim}
 use Prim.Native.Nat.{_+_, _-_, _*_, _≤_}

@@ -1,4 +1,4 @@
--- `crane_append` meets its contract: its calls answer what their definitions say, one of the other. Assumes nothing.
+-- `crane_append` meets its contract: its calls answer what their definitions say, one of the other.
 use borrow.Author.Needs.{needs}
 use Rattle.exports.proofs.fields.crane_append.Statement.{statement}
 use Rattle.exports.proofs.fields.crane_append.Tie as tie

@@ -1,4 +1,4 @@
--- `crane_step_part` meets its contract, by the case of what the step answered. Assumes nothing.
+-- `crane_step_part` meets its contract, by the case of what the step answered.
 use mathlib.Core.Path.{sym, _∙_}
 use borrow.Author.Needs.{needs}
 use Rattle.exports.proofs.fields.crane_step_part.Statement.{statement}

@@ -1,4 +1,4 @@
--- `field_part` meets its contract: the array holds the parts in order, and past them stands 0. Assumes nothing.
+-- `field_part` meets its contract: the array holds the parts in order, and past them stands 0.
 use mathlib.Core.Path.{_≡_, sym, ap}
 use Prim.Native.Nat.{ℕ}
 use mathlib.Core.List.{List, [], _∷_}

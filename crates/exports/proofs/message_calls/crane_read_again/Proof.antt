@@ -1,5 +1,5 @@
 -- `crane_read_again` meets its contract: what was read is written with the part that the message carries, which lies where `part_place`
--- says, since a message that was read is not refused. A message that cannot be read leaves the output. Assumes nothing.
+-- says, since a message that was read is not refused. A message that cannot be read leaves the output.
 use mathlib.Core.Path.{_≡_, sym, _∙_, ap}
 use Prim.Native.Nat.{ℕ}
 use mathlib.Core.List.{List, _∷_}

@@ -1,4 +1,4 @@
--- `crane_table_answer` meets its contract: soundness is what `table_sound` answered. Assumes nothing.
+-- `crane_table_answer` meets its contract: soundness is what `table_sound` answered.
 use mathlib.Core.Path.{sym, _∙_}
 use Rattle.exports.specs.Numbers.{tableFormAnswer}
 use borrow.Author.Needs.{needs}

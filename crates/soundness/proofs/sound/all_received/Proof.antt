@@ -5,7 +5,7 @@ use mathlib.Core.Bool.{Bool, _&&_}
 use native.Mathlib.Omega.{arith}
 use Prim.Native.Nat.{_-_, _≤_}
 use lib.ListN.{getD}
-use Rattle.wire.specs.Each.{every}
+use Rattle.octets.specs.Each.{every}
 use Rattle.octets.proofs.Each.{every-more}
 use Rattle.session.specs.Queue.{has}
 use Rattle.session.proofs.Arrays.{has-both, has-all}

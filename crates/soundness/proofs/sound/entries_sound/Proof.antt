@@ -3,7 +3,7 @@
 use mathlib.Core.Path.{_≡_, refl}
 use native.Mathlib.Omega.{arith}
 use Prim.Native.Nat.{_-_, _≤_}
-use Rattle.wire.specs.Each.{every}
+use Rattle.octets.specs.Each.{every}
 use Rattle.session.specs.Sound.{entrySound}
 use Rattle.octets.proofs.Each.{every-more}
 use Rattle.session.proofs.Arrays.{one-shifted}

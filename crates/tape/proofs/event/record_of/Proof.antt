@@ -1,4 +1,4 @@
--- `record_of` meets its contract: what lies behind the first two octets, nothing where there are fewer. Assumes nothing.
+-- `record_of` meets its contract: what lies behind the first two octets, nothing where there are fewer.
 use mathlib.Core.Path.{_∙_, sym}
 use native.Mathlib.Omega.{arith}
 use lib.ListN.{length, drop-of-length-le}

@@ -1,4 +1,4 @@
--- `settings_of` meets its contract: each number is read where the definition reads it. Assumes nothing.
+-- `settings_of` meets its contract: each number is read where the definition reads it.
 use mathlib.Core.Path.{refl}
 use Rattle.tape.specs.Replay.{settingsOf}
 use borrow.Author.Needs.{needs}

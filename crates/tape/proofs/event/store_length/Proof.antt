@@ -1,4 +1,4 @@
--- `store_length` meets its contract: the number in the body of event 0, and one more. Assumes nothing.
+-- `store_length` meets its contract: the number in the body of event 0, and one more.
 use mathlib.Core.Path.{refl}
 use borrow.Author.Needs.{needs}
 use Rattle.tape.proofs.event.store_length.Statement.{statement}

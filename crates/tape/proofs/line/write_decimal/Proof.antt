@@ -1,4 +1,4 @@
--- `write_decimal` meets its contract: the tests on the way to each return say how many digits there are. Assumes nothing.
+-- `write_decimal` meets its contract: the tests on the way to each return say how many digits there are.
 use native.Mathlib.Omega.{arith}
 use lib.ListN.{length-set}
 use Rattle.tape.proofs.Lines.{one-digit, two-digits, three-digits}

@@ -1,5 +1,5 @@
 -- `write_hex` meets its contract. The loop's invariant is what is left to do: storing the digits of the octets not yet written gives the
--- whole. Assumes nothing.
+-- whole.
 use mathlib.Core.Path.{_≡_, refl, sym, _∙_}
 use Prim.Native.Nat.{_+_, _*_, _-_, _≤_}
 use native.Mathlib.Nat.{add-zero}

@@ -1,4 +1,4 @@
--- `write_line` meets its contract: each part is stored behind the one before it, and all of them fit. Assumes nothing.
+-- `write_line` meets its contract: each part is stored behind the one before it, and all of them fit.
 use native.Mathlib.Omega.{arith}
 use Rattle.tape.proofs.Lines.{spelt-bounds, shown-bounds, line-joined}
 use borrow.Author.Needs.{needs}

@@ -1,5 +1,4 @@
 -- `open_tape` meets its contract: the tests on the way to each return say whether the tape is sound and its settings were accepted.
--- Assumes nothing.
 use Rattle.tape.specs.Lines.{lineOf, tapeRefused}
 use mathlib.Core.List.{[]}
 use mathlib.Core.Path.{refl, sym, ap, _∙_}

@@ -1,5 +1,4 @@
 -- `take_call` meets its contract: the call is the event's, and its line has what the call wrote, which stands in the output.
--- Assumes nothing.
 use mathlib.Core.Path.{refl, sym, _∙_}
 use native.Mathlib.Omega.{arith}
 use lib.Seq.{length-take-le}
@@ -28,12 +27,12 @@ slice-aggregate-write-line c = sym (length-take-le _ _ (omega (arith, called-fit
 
 write-line-requires : tie.Need-write-line-requires
 write-line-requires c κs =
-    let z = c .before .before .before .before .before .before .before .before .before .before .before .before .before .before .before .before .before .before in
-    let a = z .args in
-    line-fits _ _ (a .out .now) (a .text .now) (called-fits _ _ _ _ _ _ _ _ _ _ (c .before .before .before .before .before .before .call .ensures)) (z .pre .1 .1 .1 .1 .1 .1)
+    let k = c .before .before .before .before .before .before in
+    let z = k .before .before .before .before .before .before .before .before .before .before .before .before in
+    line-fits _ _ (z .args .out .now) (z .args .text .now) (called-fits _ _ _ _ _ _ _ _ _ _ (k .call .ensures)) (z .pre .room)
 
-sub-t25 : tie.Need-sub-t25
-sub-t25 c = c .before .before .before .before .before .before .before .before .before .before .before .before .before .before .before .before .before .before .before .before .before .before .before .pre .0
+sub-left : tie.Need-sub-left
+sub-left c = c .before .before .before .before .before .before .before .before .before .before .before .before .before .before .before .before .before .before .before .before .before .before .before .pre .some
 
 same-length : tie.Need-same-length
 same-length c = search needs
@@ -46,10 +45,13 @@ same-length-3 c = search needs
 
 returns : tie.Need-returns
 returns c =
-    let z = c .before .before .before .before .before .before .before .before .before .before .before .before .before .before .before .before .before .before .before .before .before .before .before in
+    let w = c .before .before .before .before in
+    let k = w .before .before .before .before .before .before .before in
+    let z = k .before .before .before .before .before .before .before .before .before .before .before .before in
     let a = z .args in
-    call-turn (a .tape .now) (a .r) (a .store .now) (a .out .now) (a .text .now) (a .i) _ _ (a .b .now) _ _ _ _ _ _ _ (z .pre .1 .1 .0) (z .pre .1 .1 .1 .0) (z .pre .1 .1 .1 .1 .0) (z .pre .1 .1 .1 .1 .1 .0)
-    (c .before .before .before .before .before .before .before .before .before .before .before .before .before .before .before .before .before .body .ensures) (c .before .before .before .before .before .before .before .before .before .before .before .before .before .before .before .before .kind-at .ensures) (c .before .before .before .before .before .before .before .before .before .before .before .before .before .before .before .server-at .ensures) (c .before .before .before .before .before .before .before .before .before .before .before .call .ensures) (c .before .before .before .before .write-line .ensures .0) (c .before .before .before .before .write-line .ensures .1)
+    call-turn (a .tape .now) (a .r) (a .store .now) (a .out .now) (a .text .now) (a .i) _ _ (a .b .now) _ _ _ _ _ _ _ (z .pre)
+    (k .before .before .before .before .before .before .body .ensures) (k .before .before .before .before .before .kind-at .ensures) (k .before .before .before .before .server-at .ensures) (k .call .ensures)
+    (w .write-line .ensures .0) (w .write-line .ensures .1)
 
 pub take-call-spec : {M : Type 1} → statement M
 take-call-spec =
@@ -62,7 +64,7 @@ take-call-spec =
     slice-reshare-prefix-write-line
     slice-aggregate-write-line
     write-line-requires
-    sub-t25
+    sub-left
     same-length
     same-length-2
     same-length-3

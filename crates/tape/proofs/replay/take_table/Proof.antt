@@ -1,4 +1,4 @@
--- `take_table` meets its contract: the run goes on where the table is the session's. Assumes nothing.
+-- `take_table` meets its contract: the run goes on where the table is the session's.
 use mathlib.Core.Path.{refl, _∙_}
 use borrow.Author.Tests.{eq-eqb, ne-eqb}
 use Rattle.tape.proofs.Turns.{table-turn}
@@ -32,18 +32,24 @@ same-length c = search needs
 
 returns : tie.Need-returns
 returns c =
-    let z = c .before .before .before .before .before .before .before .before .before .before .before .before .before .before in
-    let a = z .args in
-    table-turn (a .tape .now) (a .r) _ _ _ _ _ _ (z .pre .1 .0) (c .before .before .before .before .before .before .before .before .table-answer .ensures ∙ rw (c .before .before .before .before .before .before .before .before .before .body2 .ensures, c .before .before .before .before .before .before .before .before .before .before .settings-of .ensures, c .before .before .before .before .before .before .before .before .before .before .before .body .ensures) refl) (rw (eq-eqb _ _ (c .before .if1 .taken)) refl) (c .before .before .before .before .before .write-line .ensures .0) (c .before .before .before .before .before .write-line .ensures .1)
+    let w = c .before .before .before .before .before in
+    let k = w .before .before .before in
+    let z = k .before .before .before .before .before .before in
+    table-turn (z .args .tape .now) (z .args .r) _ _ _ _ _ _ (z .pre .end)
+    (k .table-answer .ensures ∙ rw (k .before .body2 .ensures, k .before .before .settings-of .ensures, k .before .before .before .body .ensures) refl)
+    (rw (eq-eqb _ _ (c .before .if1 .taken)) refl) (w .write-line .ensures .0) (w .write-line .ensures .1)
 
 same-length-2 : tie.Need-same-length-2
 same-length-2 c = search needs
 
 returns-2 : tie.Need-returns-2
 returns-2 c =
-    let z = c .before .before .before .before .before .before .before .before .before .before .before .before .before in
-    let a = z .args in
-    table-turn (a .tape .now) (a .r) _ _ _ _ _ _ (z .pre .1 .0) (c .before .before .before .before .before .before .before .table-answer .ensures ∙ rw (c .before .before .before .before .before .before .before .before .body2 .ensures, c .before .before .before .before .before .before .before .before .before .settings-of .ensures, c .before .before .before .before .before .before .before .before .before .before .body .ensures) refl) (rw (ne-eqb _ _ (c .if1 .left)) refl) (c .before .before .before .before .write-line .ensures .0) (c .before .before .before .before .write-line .ensures .1)
+    let w = c .before .before .before .before in
+    let k = w .before .before .before in
+    let z = k .before .before .before .before .before .before in
+    table-turn (z .args .tape .now) (z .args .r) _ _ _ _ _ _ (z .pre .end)
+    (k .table-answer .ensures ∙ rw (k .before .body2 .ensures, k .before .before .settings-of .ensures, k .before .before .before .body .ensures) refl)
+    (rw (ne-eqb _ _ (c .if1 .left)) refl) (w .write-line .ensures .0) (w .write-line .ensures .1)
 
 pub take-table-spec : {M : Type 1} → statement M
 take-table-spec =
