@@ -23,8 +23,9 @@ use Rattle.putting.specs.declared.put.Putting.{Putting}
 use Rattle.session.specs.declared.state.Settings.{Settings}
 use Rattle.session.specs.declared.state.Stepped.{Stepped}
 use Rattle.session.specs.declared.state.State.{State}
-use Rattle.session.proofs.SoundFacts.{sound-facts, parts-of}
-use Rattle.session.specs.Parts.{partsIn}
+use Rattle.session.proofs.SoundFacts.{sound-facts}
+use Rattle.soundness.proofs.Parts.{parts-of}
+use Rattle.soundness.specs.Parts.{partsIn}
 use Rattle.session.proofs.StepLaws.{settled-same, step-done, step-refused}
 
 -- wire's answer to a record, with the Configuration ID and the limit of 1,024 octets judged in their turn: whether the table is sound, its

@@ -7,7 +7,7 @@ ghost use lib.ListN.{length};
 ghost use Rattle.octets.specs.Answers.{_when_, judge, unsoundState};
 ghost use Rattle.session.specs.Sound.{sound};
 ghost use Rattle.putting.specs.Puttings.{puttingOf};
-ghost use Rattle.session.specs.Parts.{stateOf};
+ghost use Rattle.soundness.specs.Parts.{stateOf};
 ghost use Rattle.session.specs.Steps.{putStep, steppedOf, recordChecks, roomChecks};
 use octets::Answer;
 use session::limits::MAX_HELD;
@@ -171,8 +171,8 @@ fn put_change<'a, 'b, 'c>(
     }
 }
 
-// Puts a record under a template ID of the lent table: it takes the next DSN, and its octets follow the held ones in the store. Refused with
-// 1, 21, 15, 17, 16, 18 or 19.
+// Puts a record under a template ID of the lent table: it takes the next DSN, and its octets follow the held ones in the store. Refused
+// with 1, 21, 15, 17, 16, 18 or 19.
 pub fn put(s: State, store: &mut [u8], table: &[u8], id: u16, r: &[u8]) -> Stepped
     ensures { λ x. ⌜ (x ≡ steppedOf (putStep 32 s (now (store .entry)) (now (table .entry)) id (now (r .entry))))
         × (now (store .exit) ≡ putStep 32 s (now (store .entry)) (now (table .entry)) id (now (r .entry)) .store) ⌝ }

@@ -15,7 +15,7 @@ use Rattle.session.specs.Servers.{chosen, withCounts, acknowledged}
 use Rattle.session.specs.Queue.{octetsTo, shifted, dropFront}
 use Rattle.session.specs.Sound.{sound}
 use Rattle.session.specs.Steps.{ackCount, ack, checks, answer, after, settled, written, step, wroteOf, outputAfter, ackCountBy, ackChecks}
-use Rattle.session.specs.Parts.{stateOf}
+use Rattle.soundness.specs.Parts.{stateOf}
 use Rattle.receiving.specs.Requests.{ackChangeOf}
 use Rattle.receiving.specs.declared.acknowledge.AckChange.{AckChange}
 use Rattle.session.specs.declared.state.Queue.{Queue}
@@ -24,7 +24,7 @@ use Rattle.session.specs.declared.state.Delivery.{Delivery}
 use Rattle.session.specs.declared.state.State.{State}
 use Rattle.session.specs.declared.state.Wrote.{Wrote}
 use Rattle.session.proofs.SoundFacts.{sound-facts}
-use Rattle.session.specs.Parts.{partsIn}
+use Rattle.soundness.specs.Parts.{partsIn}
 use Rattle.session.proofs.StepLaws.{settled-same, step-refused, step-done}
 
 -- ---- numbers that wrap at m

@@ -1,5 +1,5 @@
--- What the values of private functions stand for: requests and readings, and what an acknowledgement changes. These definitions render no rule
--- of 01: the rules are in Steps, and every public contract cites those.
+-- What the values of private functions stand for: requests and readings, and what an acknowledgement changes. These definitions render no
+-- rule of 01: the rules are in Steps, and every public contract cites those.
 use Prim.Native.Nat.{ℕ}
 use mathlib.Core.Bool.{cond}
 use lib.Dec.{eqb}

@@ -6,7 +6,7 @@ ghost use Rattle.octets.specs.Answers.{judge, done};
 ghost use Rattle.session.specs.Limits.{maxHeld};
 ghost use Rattle.session.specs.Servers.{acknowledged};
 ghost use Rattle.session.specs.Queue.{ringPlace};
-ghost use Rattle.session.specs.Parts.{stateOf};
+ghost use Rattle.soundness.specs.Parts.{stateOf};
 ghost use Rattle.session.specs.Steps.{ack, step, wroteOf, ackCountBy, ackChecks};
 ghost use Rattle.receiving.specs.Requests.{ackChangeOf};
 use octets::Answer;
@@ -138,8 +138,9 @@ fn ack_change<'a>(
     dsn: u32,
     config: u8,
 ) -> AckChange
-    ensures { λ r. ⌜ r ≡ ackChangeOf (ackCountBy 32 next count dsn)
-        (step 32 [] 0 (ack v dsn config) (stateOf p capacity d due count (now (lengths .entry)) [] (now (receivers .entry)) start next) []) ⌝ }
+    ensures { λ r. ⌜
+        (let s = stateOf p capacity d due count (now (lengths .entry)) [] (now (receivers .entry)) start next in
+        r ≡ ackChangeOf (ackCountBy 32 next count dsn) (step 32 [] 0 (ack v dsn config) s [])) ⌝ }
 {
     if !soundness::sound::parts_sound(p, capacity, d, due, count, lengths, receivers, start) {
         return refuse_ack(Answer::UNSOUND_STATE, d, start);

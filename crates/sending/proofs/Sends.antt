@@ -24,15 +24,16 @@ use Rattle.session.specs.Queue.{ringRead, recordAt, octetsTo, markedSet, marked
 use Rattle.session.specs.Sound.{sound}
 use Rattle.session.specs.Steps.{Outcome, headOf, sendChecks, nextData, answer, checks, soundFor, after, settled, written, nextDataStep, wroteOf, outputAfter}
 use Rattle.sending.specs.Sendings.{SendFacts, sendingOf}
-use Rattle.session.specs.Parts.{stateOf}
+use Rattle.soundness.specs.Parts.{stateOf}
 use Rattle.sending.specs.declared.next_data.Sending.{Sending}
 use Rattle.session.specs.declared.state.State.{State}
 use Rattle.session.specs.declared.state.Wrote.{Wrote}
 use Rattle.session.proofs.Rings.{read-same}
 use Rattle.queue.specs.Rings.{recordStart}
 use Rattle.queue.proofs.Rings.{start-inside}
-use Rattle.session.proofs.SoundFacts.{sound-facts, parts-of}
-use Rattle.session.specs.Parts.{partsIn}
+use Rattle.session.proofs.SoundFacts.{sound-facts}
+use Rattle.soundness.proofs.Parts.{parts-of}
+use Rattle.soundness.specs.Parts.{partsIn}
 use Rattle.session.proofs.StepLaws.{settled-same, step-done, step-refused}
 
 -- ---- writing a head for a record of at most 1,024 octets

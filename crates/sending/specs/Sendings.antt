@@ -24,11 +24,12 @@ pub record SendFacts (s : State) (store : List ℕ) : Type 0 where
 abbrev pub sendingOf : State → Outcome → Sending
 sendingOf s o =
     let accepted = eqb (o .answer) done in
+    let sets = s .queue .receivers in
     record {
       answer = o .answer;
       written = length (o .written);
       place = cond accepted (s .delivery .sent) 0;
-      set = cond accepted (markedSet (s .delivery .active) (getD (s .queue .receivers) (s .delivery .sent) 0)) (getD (s .queue .receivers) 0 0);
+      set = cond accepted (markedSet (s .delivery .active) (getD sets (s .delivery .sent) 0)) (getD sets 0 0);
       sent = o .state .delivery .sent;
       reached = o .state .delivery .reached;
       due = o .state .due;

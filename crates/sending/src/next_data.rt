@@ -12,7 +12,7 @@ ghost use Rattle.session.specs.Limits.{maxServers, maxHeld};
 ghost use Rattle.session.specs.Queue.{markedSet, ringRead};
 ghost use Rattle.session.specs.Sound.{sound};
 ghost use Rattle.sending.specs.Sendings.{SendFacts, sendingOf};
-ghost use Rattle.session.specs.Parts.{Below, stateOf};
+ghost use Rattle.soundness.specs.Parts.{Below, stateOf};
 ghost use Rattle.session.specs.Steps.{dsnAtBy, isDuplicate, headOf, sendChecks, nextDataStep, wroteOf, outputAfter};
 use octets::Answer;
 use session::limits::MAX_HELD;

@@ -13,7 +13,6 @@ use borrow.Author.Tests.{eq-eqb, ne-eqb, ltb-true, ltb-false}
 use Rattle.session.specs.Limits.{maxServers}
 use Rattle.session.specs.Servers.{server, phaseAt, isAgreed, beats, choose, Best, IsChoice, isNobody, otherAgreed, sameActive, chosen, changed, activated, settle}
 use Rattle.session.specs.Sound.{sound}
-use Rattle.session.specs.Parts.{Below}
 use Rattle.session.specs.declared.state.Phase.the-variants.{Closed, Late}
 use Rattle.session.specs.declared.state.Server as serverOf
 use Rattle.session.specs.declared.state.Active.{Active}
@@ -128,15 +127,3 @@ all-closed priorities m n = nobody-none priorities (replicate m (server Closed))
     closed zero n = refl
     closed (suc m) zero = refl
     closed (suc m) (suc n) = closed m n
-
--- an active server that is chosen among at most m is one of m
-pub choice-below : (p : Settings) (d : Delivery) (m : ℕ) → d .active ≡ chosen p d → p .servers ≤ m → Below m (d .active)
-choice-below p d m e l = go (d .active) refl
-  where
-    go : (a : Active) → d .active ≡ a → Below m a
-    go Nobody k = tt
-    go (Server v) k = omega (arith, chosen-below (p .priorities) (d .servers) (p .servers) v (sym e ∙ k))
-
--- a sound state's active server is one of those that an exporter has at most
-pub active-below : (s : State) → sound s ≡ true → Below maxServers (s .delivery .active)
-active-below s e = let f = sound-facts s e in choice-below (s .settings) (s .delivery) maxServers (f .choice) (f .numbers .settings .fewServers)

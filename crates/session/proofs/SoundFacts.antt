@@ -14,7 +14,6 @@ use Rattle.session.specs.Limits.{maxServers, maxThreshold, minStoreOctet
 use Rattle.session.specs.Servers.{sameActive, chosen}
 use Rattle.session.specs.Queue.{heldOctets, has}
 use Rattle.session.specs.Sound.{settingsSound, numbersSound, entrySound, activationSound, sound}
-use Rattle.session.specs.Parts.{stateOf}
 use Rattle.session.specs.declared.state.Active.{Active}
 use Rattle.session.specs.declared.state.Active.the-variants.{Nobody, Server}
 use Rattle.session.specs.declared.state.Settings.{Settings}
@@ -235,12 +234,6 @@ facts-sound s f =
     sent : (a : Active) → s .delivery .active ≡ a → activationSound (s .delivery) (s .queue .receivers) a ≡ true
     sent Nobody k = let e = f .idle k in rw (e .sent, e .reached, e .timer)
     sent (Server v) k = every-intro (s .delivery .reached) (λ i. has (getD (s .queue .receivers) i 0) v) (f .received v k)
-
--- a state is sound where its parts are
-pub parts-of : (s : State)
-    → sound (stateOf (s .settings) (s .capacity) (s .delivery) (s .due) (s .queue .count) (s .queue .lengths) [] (s .queue .receivers) (s .start) 0) ≡ sound s
-unfolding sound
-parts-of s = refl
 
 -- a state that passed the test, and one that failed it, by what the test came to
 pub passed-sound : (s : State) (b : Bool) → b ≡ sound s → not b ≡ false → sound s ≡ true

@@ -241,7 +241,8 @@ pub record ReleasedBy (h : History) (c : Call) (q : ℕ) : Type 0 where
   pub wasWritten : writtenIn (h .ledger .writings) q server (h .ledger .activation) ≡ true
 
 -- Answers, messages and releases, sentence by sentence.
-pub record CallClaim (z : Session) (capacity room : ℕ) (table : List ℕ) (h : History) (hs : List Entry) (c : Call) (o : Outcome) : Type 0 where
+pub record CallClaim (z : Session) (capacity room : ℕ) (table : List ℕ) (h : History) (hs : List Entry) (c : Call) (o : Outcome)
+    : Type 0 where
   -- the answer is the first refusal that is due, and so never 1
   pub answered : o .answer ≡ judge (dueChecks z capacity room table h hs c)
   pub neverUnsound : o .answer ≢ unsoundState
@@ -254,9 +255,10 @@ pub record CallClaim (z : Session) (capacity room : ℕ) (table : List ℕ) (h :
   -- an accepted DATA ACK names one place
   pub names : (v d config : ℕ) → c ≡ ack v d config → o .answer ≡ done → Named (z .width) (z .settings) (h .ledger) d
   -- whatever a call releases was written to the acknowledging server in its activation
-  pub releases : (q : ℕ) → h .ledger .released < q → q ≤ afterCall (z .width) (z .settings) c (o .answer) h .ledger .released → ReleasedBy h c q
-  -- a sentence of the demand, which follows from `answered`: under a sound table of the session's Configuration ID a valid record of at most
-  -- 1,024 octets is refused exactly where 64 are held or its octets do not fit beside the held ones
+  pub releases : (q : ℕ) → h .ledger .released < q → q ≤ afterCall (z .width) (z .settings) c (o .answer) h .ledger .released
+      → ReleasedBy h c q
+  -- a sentence of the demand, which follows from `answered`: under a sound table of the session's Configuration ID a valid record of at
+  -- most 1,024 octets is refused exactly where 64 are held or its octets do not fit beside the held ones
   pub putting : (id : ℕ) (r : List ℕ) → c ≡ put id r → isSessions (z .settings) table ≡ true → isMissing table id ≡ false
       → recordValid table (templateOf table id) r ≡ true → length r ≤ maxRecordOctets
       → not (eqb (o .answer) done) ≡ (leb maxHeld (length hs) || ltb capacity (octetsIn hs + length r))

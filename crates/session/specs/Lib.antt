@@ -1,4 +1,5 @@
--- The definitions, in reading order: limits, servers, the queue, sound states, the calls and their steps, the history, the claim and the examples.
+-- The definitions, in reading order: limits, servers, the queue, sound states, the calls and their steps, the history, the claim and the
+-- examples.
 pub mod Limits
 pub mod Servers
 pub mod Queue
@@ -7,4 +8,3 @@ pub mod Steps
 pub mod History
 pub mod Claim
 pub mod Examples
-pub mod Parts

@@ -5,7 +5,7 @@ ghost use mathlib.Core.List.{[]};
 ghost use lib.ListN.{getD};
 ghost use Rattle.octets.specs.Each.{every};
 ghost use Rattle.session.specs.Limits.{maxServers, maxHeld};
-ghost use Rattle.session.specs.Parts.{Below, stateOf};
+ghost use Rattle.soundness.specs.Parts.{Below, stateOf};
 ghost use Rattle.session.specs.Queue.{has};
 ghost use Rattle.session.specs.Sound.{settingsSound, numbersSound, entrySound, activationSound, sound};
 use session::limits::MAX_HELD;

@@ -25,7 +25,7 @@ use Rattle.session.specs.Servers.{phaseAt, Transition, start, stop, negotiate, 
 use Rattle.session.specs.Steps.{move, answer, replyTo, transitionChecks, isSessions, turnChecks}
 use Rattle.session.specs.Sound.{sound}
 use Rattle.session.specs.declared.state.State.{State}
-use Rattle.servers.proofs.Changes.{move-judged}
+use Rattle.transitions.proofs.Changes.{move-judged}
 use Rattle.transitions.specs.Moves.{tableFits, replyOf}
 use Rattle.transitions.specs.declared.transition.Reply.{Reply}
 use Rattle.transitions.specs.declared.transition.Reply.the-variants as reply

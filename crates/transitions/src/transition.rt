@@ -8,7 +8,7 @@ ghost use Rattle.wire.specs.Messages.{Placed};
 ghost use Rattle.session.specs.Servers.{offer, agree, transition, withServers};
 ghost use Rattle.session.specs.Steps.{move, step, replyTo, outputAfter, wroteOf, negotiateChecks, turnChecks};
 ghost use Rattle.servers.specs.Changes.{changeOf};
-ghost use Rattle.session.specs.Parts.{stateOf};
+ghost use Rattle.soundness.specs.Parts.{stateOf};
 ghost use Rattle.transitions.specs.Moves.{transitionOf, tableFits, replyOf};
 use octets::Answer;
 use servers::change::Change;

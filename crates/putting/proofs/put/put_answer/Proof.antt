@@ -2,7 +2,7 @@
 -- list, and where there is none the room decides (laws `refused-first` and `passed-first`).
 use mathlib.Core.List.{[]}
 use borrow.Author.Tests.{eq-eqb, ne-eqb}
-use Rattle.session.specs.Parts.{stateOf}
+use Rattle.soundness.specs.Parts.{stateOf}
 use Rattle.session.proofs.SoundFacts.{passed-sound, failed-sound}
 use Rattle.putting.proofs.Puts.{refused-first, passed-first}
 use borrow.Author.Needs.{needs}

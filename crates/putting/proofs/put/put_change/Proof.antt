@@ -2,7 +2,7 @@
 -- octets, so every sum fits; it fills the first unused entries, and its octets follow the held ones.
 use mathlib.Core.Path.{_∙_}
 use native.Mathlib.Omega.{arith}
-use Rattle.session.specs.Parts.{stateOf}
+use Rattle.soundness.specs.Parts.{stateOf}
 use Rattle.session.proofs.SoundFacts.{sound-facts}
 use Rattle.putting.proofs.Puts.{put-known, putting-kept, putting-done}
 use Rattle.queue.proofs.Rings.{stored-inside}

@@ -3,7 +3,7 @@
 use mathlib.Core.List.{[]}
 use mathlib.Core.Path.{sym, _∙_}
 use native.Mathlib.Omega.{arith}
-use Rattle.session.specs.Parts.{stateOf}
+use Rattle.soundness.specs.Parts.{stateOf}
 use Rattle.session.proofs.SoundFacts.{sound-facts, passed-sound, failed-sound}
 use Rattle.receiving.proofs.Acks.{ack-sound-parts, ack-unsound, answered-ack, refused-ack, accepted-ack, ack-reached}
 use borrow.Author.Needs.{needs}

@@ -2,7 +2,7 @@
 -- the call requires.
 use mathlib.Core.Path.{subst}
 use Rattle.session.specs.Limits.{maxServers}
-use Rattle.session.specs.Parts.{Below}
+use Rattle.soundness.specs.Parts.{Below}
 use borrow.Author.Needs.{needs}
 use Rattle.sending.proofs.next_data.marked_set.Statement.{statement}
 use Rattle.sending.proofs.next_data.marked_set.Tie as tie

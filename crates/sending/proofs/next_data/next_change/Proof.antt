@@ -1,7 +1,7 @@
 -- `next_change` meets its contract. What is refused before the output is looked at (1, 13, 14) is refused by the definition with the same
 -- number and changes nothing. Else there is a record to send and somebody to send it to, which is what `send` requires.
 use Rattle.sending.proofs.Sends.{send-facts, sending-kept}
-use Rattle.session.specs.Parts.{stateOf}
+use Rattle.soundness.specs.Parts.{stateOf}
 use borrow.Author.Needs.{needs}
 use Rattle.sending.proofs.next_data.next_change.Statement.{statement}
 use Rattle.sending.proofs.next_data.next_change.Tie as tie

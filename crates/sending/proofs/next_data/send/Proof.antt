@@ -6,10 +6,10 @@ use Prim.Native.Nat.{_+_}
 use native.Mathlib.Nat.{mod-lt}
 use lib.ListN.{length, take}
 use Rattle.session.specs.Queue.{sumOf}
-use Rattle.session.specs.Parts.{stateOf}
+use Rattle.soundness.specs.Parts.{stateOf}
 use Rattle.queue.proofs.Rings.{start-inside}
 use Rattle.session.proofs.SoundFacts.{sound-facts}
-use Rattle.session.proofs.Choice.{active-below}
+use Rattle.soundness.proofs.Parts.{active-below}
 use Rattle.sending.proofs.Sends.{sent-few, next-octets, sending-done, sending-refused}
 use borrow.Author.Needs.{needs}
 use Rattle.sending.proofs.next_data.send.Statement.{statement}

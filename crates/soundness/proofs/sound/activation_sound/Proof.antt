@@ -3,7 +3,7 @@
 use mathlib.Core.Path.{subst}
 use native.Mathlib.Omega.{arith}
 use Rattle.session.specs.Limits.{maxServers}
-use Rattle.session.specs.Parts.{Below}
+use Rattle.soundness.specs.Parts.{Below}
 use borrow.Author.Needs.{needs}
 use Rattle.soundness.proofs.sound.activation_sound.Statement.{statement}
 use Rattle.soundness.proofs.sound.activation_sound.Tie as tie

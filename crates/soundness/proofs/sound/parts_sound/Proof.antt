@@ -7,7 +7,7 @@ use Rattle.octets.proofs.Each.{clause-last}
 use Rattle.session.specs.Limits.{maxServers}
 use Rattle.session.specs.Sound.{sound}
 use Rattle.session.proofs.SoundFacts.{numbers-facts, unsound, same-active}
-use Rattle.session.proofs.Choice.{choice-below}
+use Rattle.soundness.proofs.Parts.{choice-below}
 use borrow.Author.Needs.{needs}
 use Rattle.soundness.proofs.sound.parts_sound.Statement.{statement}
 use Rattle.soundness.proofs.sound.parts_sound.Tie as tie

@@ -1,7 +1,8 @@
 -- `tick` meets its contract. Soundness is judged once; the clock and the choice then give what a tick changes, which is applied to the
 -- state. The law `tick-turned` says that this is the step of the definition, also for an unsound state.
 use mathlib.Core.Path.{sym, _∙_}
-use Rattle.session.proofs.SoundFacts.{sound-facts, parts-of}
+use Rattle.session.proofs.SoundFacts.{sound-facts}
+use Rattle.soundness.proofs.Parts.{parts-of}
 use Rattle.ticking.proofs.Ticks.{tick-turned}
 use borrow.Author.Needs.{needs}
 use Rattle.ticking.proofs.tick.tick.Statement.{statement}

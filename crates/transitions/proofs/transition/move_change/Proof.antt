@@ -6,11 +6,11 @@ use mathlib.Core.Bool.{true, false}
 use native.Mathlib.Omega.{arith}
 use borrow.Author.Tests.{le-leb, lt-leb}
 use lib.ListN.{length}
-use Rattle.session.specs.Parts.{stateOf}
+use Rattle.soundness.specs.Parts.{stateOf}
 use Rattle.session.specs.Steps.{move}
 use Rattle.transitions.specs.Moves.{transitionOf}
 use Rattle.session.proofs.SoundFacts.{passed-sound, failed-sound}
-use Rattle.servers.proofs.Changes.{move-unsound, move-unknown, refused-change, moved-change}
+use Rattle.transitions.proofs.Changes.{move-unsound, move-unknown, refused-change, moved-change}
 use Rattle.transitions.proofs.Moves.{table-fits, move-refused, move-roomed, fitted, unfitted}
 use borrow.Author.Needs.{needs}
 use Rattle.transitions.proofs.transition.move_change.Statement.{statement}

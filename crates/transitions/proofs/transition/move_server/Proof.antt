@@ -2,7 +2,7 @@
 -- applied` it is what the transition of the whole state changes.
 use lib.ListN.{length}
 use Rattle.transitions.specs.Moves.{transitionOf}
-use Rattle.servers.proofs.Changes.{moved-applied}
+use Rattle.transitions.proofs.Changes.{moved-applied}
 use borrow.Author.Needs.{needs}
 use Rattle.transitions.proofs.transition.move_server.Statement.{statement}
 use Rattle.transitions.proofs.transition.move_server.Tie as tie

@@ -26,6 +26,8 @@ abbrev pub Below : ℕ → Active → Type 0
 Below n active.Nobody = Unit {0}
 Below n (active.Server v) = v < n
 
--- the parts of a state that soundness looks at
+-- The parts of a state that soundness looks at.
 abbrev pub partsIn : State → State
-partsIn s = stateOf (s .settings) (s .capacity) (s .delivery) (s .due) (s .queue .count) (s .queue .lengths) [] (s .queue .receivers) (s .start) 0
+partsIn s =
+    let q = s .queue in
+    stateOf (s .settings) (s .capacity) (s .delivery) (s .due) (q .count) (q .lengths) [] (q .receivers) (s .start) 0

@@ -12,12 +12,12 @@ use Rattle.octets.specs.Answers.{judge, done, unsoundState, noSuchServer}
 use Rattle.session.specs.Servers.{chosen, settle, changed, phaseAt, withServers, Transition, transition}
 use Rattle.session.specs.Sound.{sound}
 use Rattle.session.specs.Steps.{Outcome, Call, step, answer, checks, after, settled, storeAfter, written, move, replyTo, transitionChecks, outputAfter, wroteOf}
 use Rattle.servers.specs.Changes.{changeOf, appliedTo, settledChange, refusedChange}
-use Rattle.session.specs.Parts.{stateOf, partsIn}
+use Rattle.soundness.specs.Parts.{stateOf, partsIn}
 use Rattle.servers.specs.declared.change.Change.{Change}
 use Rattle.session.specs.declared.state.State.{State}
 use Rattle.session.specs.declared.state.Wrote.{Wrote}
-use Rattle.session.proofs.SoundFacts.{parts-of}
+use Rattle.soundness.proofs.Parts.{parts-of}
 use Rattle.session.proofs.StepLaws.{settled-same, step-refused, step-done}
 
 -- ---- transitions
