@@ -1,4 +1,5 @@
--- Laws of the parts of a tape, and of its soundness.
+-- Laws of the parts of a tape, and of its soundness. A part ends no further on than the tape and is made of its octets; a tape is judged
+-- by five tests, one after the other.
 use mathlib.Core.Path.{_≡_, refl, sym, ap, _∙_}
 use mathlib.Core.Bool.{Bool, true, false, not, cond}
 use mathlib.Core.List.{List, [], _∷_}

@@ -1,4 +1,5 @@
--- Laws of a session: what one event is, what a call's answer leaves of a session, and one event more.
+-- Laws of a session: what one event is, what a call's answer leaves of a session, and one event more. Each call's law takes what the exporter
+-- ensures of it to what the definition has after that event.
 use mathlib.Core.Path.{_≡_, refl, sym, ap, _∙_}
 use mathlib.Core.List.{List, []}
 use Prim.Native.Nat.{ℕ, _+_, _*_}

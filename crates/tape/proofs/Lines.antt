@@ -1,4 +1,5 @@
--- Laws of a line's parts: digits stored one by one are the parts that the definitions name.
+-- Laws of a line's parts: digits stored one by one are the parts that the definitions name. Each part says where it ends and keeps the
+-- text's length, so that the next can be stored behind it.
 use mathlib.Core.Path.{_≡_, refl, sym, ap, _∙_}
 use mathlib.Core.List.{List, [], _∷_, _++_, append-assoc}
 use Prim.Native.Nat.{ℕ, suc, _+_, _*_, _/_, _%_, _≤_, _<_}

@@ -1,4 +1,5 @@
--- Laws of turns: what a call writes fits the output, and what opening, a table and a call give is what the definitions say.
+-- Laws of turns: what a call writes fits the output, and what opening, a table and a call give is what the definitions say. The functions'
+-- proofs hand over the facts that they have, in the order of the code.
 use mathlib.Core.Path.{_≡_, refl, sym, ap, _∙_}
 use mathlib.Core.Bool.{cond, _&&_}
 use mathlib.Core.List.{List, []}

@@ -1,4 +1,4 @@
--- `put_many` is safe and ends: the loop counts down.
+-- `put_many` is safe and ends: the loop counts down. What a put answers does not matter to that, since a put takes any state.
 use mathlib.Core.Path.{_≡_}
 use native.Mathlib.Omega.{arith}
 use lib.ListN.{length}

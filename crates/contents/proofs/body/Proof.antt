@@ -1,4 +1,5 @@
--- `body` meets its contract: the part at the place and of the length that the contents give.
+-- `body` meets its contract: it is the part at the place and of the length that the contents give. `part` says what that is where the tape
+-- ends before.
 use mathlib.Core.Path.{refl}
 use borrow.Author.Needs.{needs}
 use Rattle.contents.proofs.body.Statement.{statement}

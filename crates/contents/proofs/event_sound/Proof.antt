@@ -1,4 +1,5 @@
--- `event_sound` meets its contract: each part of the test is the definition's.
+-- `event_sound` meets its contract: each part of the test is the definition's. What is read for it is what the contents have at the
+-- event's place.
 use mathlib.Core.Path.{refl}
 use Rattle.contents.specs.Tape.{eventSound}
 use lib.Dec.{eqb}

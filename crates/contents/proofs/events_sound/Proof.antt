@@ -1,4 +1,4 @@
--- `events_sound` meets its contract. The loop's invariant: ok says whether the events passed are sound.
+-- `events_sound` meets its contract. The loop's invariant: ok says whether the events passed are sound. At the end all n are passed.
 use mathlib.Core.Path.{_≡_, _∙_, sym}
 use Prim.Native.Nat.{_≤_, _-_}
 use native.Mathlib.Omega.{arith}

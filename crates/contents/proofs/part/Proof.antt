@@ -1,4 +1,5 @@
--- `part` meets its contract: what is taken of the octets behind the place is nothing, all of them, or the first n.
+-- `part` meets its contract: what is taken of the octets behind the place is nothing, all of them, or the first n. The tests say which: by
+-- the tape's end, then by what is left of it.
 use mathlib.Core.Path.{_≡_}
 use mathlib.Core.Path.{ap}
 use Prim.Native.Nat.{ℕ, _+_, _-_}

@@ -1,4 +1,4 @@
--- `server_at` meets its contract: the octets are read where the contents name the event. Their place cannot wrap, since an event's number has
+-- `server_at` meets its contract: the octet is read where the contents name the event. Its place cannot wrap, since an event's number has
 -- 16 bits.
 use mathlib.Core.Path.{refl, _∙_}
 use borrow.Author.Needs.{needs}

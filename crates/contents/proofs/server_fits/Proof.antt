@@ -1,4 +1,4 @@
--- `server_fits` meets its contract: its tests are the definition's, in the same order.
+-- `server_fits` meets its contract: its tests are the definition's, in the same order. So the two sides are equal by computation.
 use mathlib.Core.Path.{refl}
 use Rattle.contents.proofs.server_fits.Statement.{statement}
 use Rattle.contents.proofs.server_fits.Tie as tie

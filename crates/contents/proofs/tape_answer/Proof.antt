@@ -1,4 +1,5 @@
--- `tape_answer` meets its contract: the tests on the way to each return are those that judge a tape, in order.
+-- `tape_answer` meets its contract: the tests on the way to each return are those that judge a tape, in order. The law `tape-judged`
+-- writes the definition as these five tests.
 use mathlib.Core.Path.{refl}
 use Rattle.contents.proofs.Parts.{tape-judged}
 use Rattle.octets.proofs.Judging.{tests}

@@ -1,4 +1,5 @@
--- `lend` is safe: the number of 16 bits that a tape's settings have, and 1, is at most the store's length.
+-- `lend` is safe: the length that a tape's settings name is a number of 16 bits and 1. So it is at most that of the longest store, and the
+-- part that is lent lies within.
 use mathlib.Core.Path.{sym}
 use native.Mathlib.Omega.{arith}
 use lib.Seq.{length-take-le}

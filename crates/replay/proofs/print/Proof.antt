@@ -1,4 +1,4 @@
--- `print` is safe: what it writes is no longer than the text.
+-- `print` is safe: what it writes is no longer than the text. The test before says so.
 use mathlib.Core.Path.{sym}
 use lib.Seq.{length-take-le}
 use borrow.Author.Needs.{needs}

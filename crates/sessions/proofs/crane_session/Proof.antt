@@ -1,4 +1,4 @@
--- `crane_session` meets its contract: set-up leaves a fresh exporter under the settings, and the events are played from there on.
+-- `crane_session` meets its contract: set-up leaves a fresh exporter under the settings. The events are played from there on.
 use borrow.Author.Needs.{needs}
 use Rattle.sessions.proofs.crane_session.Statement.{statement}
 use Rattle.sessions.proofs.crane_session.Tie as tie

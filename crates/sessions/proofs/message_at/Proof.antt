@@ -1,4 +1,5 @@
--- `message_at` meets its contract: the part has as many octets as its end is past its start.
+-- `message_at` meets its contract: the part has as many octets as its end is past its start. It lies within the event, whose last 16
+-- octets hold any message.
 use mathlib.Core.Path.{_≡_, ap}
 use Prim.Native.Nat.{ℕ, _+_, _-_, _%_}
 use native.Mathlib.Omega.{arith}

@@ -1,4 +1,4 @@
--- `appended_number` meets its contract, by the case of what appending answered.
+-- `appended_number` meets its contract, by the case of what appending answered. A place has 256 added to it, a refusal stays.
 use borrow.Author.Needs.{needs}
 use Rattle.exports.proofs.fields.appended_number.Statement.{statement}
 use Rattle.exports.proofs.fields.appended_number.Tie as tie

@@ -1,4 +1,4 @@
--- `crane_append` meets its contract: its calls answer what their definitions say, one of the other.
+-- `crane_append` meets its contract: its calls answer what their definitions say, one of the other. The output is what `append` leaves.
 use borrow.Author.Needs.{needs}
 use Rattle.exports.proofs.fields.crane_append.Statement.{statement}
 use Rattle.exports.proofs.fields.crane_append.Tie as tie

@@ -1,4 +1,4 @@
--- `crane_count_fields` meets its contract, by the case of what counting answered: a count has 256 added, a refusal is its number.
+-- `crane_count_fields` meets its contract, by the case of what counting answered. A count has 256 added, a refusal is its number.
 use mathlib.Core.Path.{sym, _∙_}
 use borrow.Author.Needs.{needs}
 use Rattle.exports.proofs.fields.crane_count_fields.Statement.{statement}

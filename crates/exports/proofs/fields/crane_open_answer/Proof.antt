@@ -1,4 +1,4 @@
--- `crane_open_answer` meets its contract, by the case of what opening answered: a start is answered 0, a refusal by its number.
+-- `crane_open_answer` meets its contract, by the case of what opening answered. A start is answered 0, a refusal by its number.
 use mathlib.Core.Path.{sym, _∙_}
 use borrow.Author.Needs.{needs}
 use Rattle.exports.proofs.fields.crane_open_answer.Statement.{statement}

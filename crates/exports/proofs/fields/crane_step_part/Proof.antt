@@ -1,4 +1,4 @@
--- `crane_step_part` meets its contract, by the case of what the step answered.
+-- `crane_step_part` meets its contract, by the case of what the step answered. A field has eight parts; the end and a refusal are alone.
 use mathlib.Core.Path.{sym, _∙_}
 use borrow.Author.Needs.{needs}
 use Rattle.exports.proofs.fields.crane_step_part.Statement.{statement}

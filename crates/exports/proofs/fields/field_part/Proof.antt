@@ -1,4 +1,5 @@
--- `field_part` meets its contract: the array holds the parts in order, and past them stands 0.
+-- `field_part` meets its contract: the array holds the parts in order, and past them stands 0. A value's sort and size are what their
+-- functions answer.
 use mathlib.Core.Path.{_≡_, sym, ap}
 use Prim.Native.Nat.{ℕ}
 use mathlib.Core.List.{List, [], _∷_}

@@ -1,4 +1,4 @@
--- `value_of` meets its contract: each return is the case of the sort that the tests found.
+-- `value_of` meets its contract: each return is the case of the sort that the tests found. Any other sort is octets on both sides.
 use Rattle.octets.proofs.Judging.{tests}
 use Rattle.exports.specs.Numbers.{valueOf}
 use Rattle.exports.proofs.fields.value_of.Statement.{statement}

@@ -1,4 +1,4 @@
--- `data_parts` meets its contract: the array holds what the head says, in order, its flags as `bit` gives them.
+-- `data_parts` meets its contract: the array holds what the head says, in order. Its flags are as `bit` gives them.
 use borrow.Author.Needs.{needs}
 use Rattle.exports.proofs.message_calls.data_parts.Statement.{statement}
 use Rattle.exports.proofs.message_calls.data_parts.Tie as tie

@@ -1,4 +1,4 @@
--- `message_parts` meets its contract, by the case of the message: each has the parts that its row names.
+-- `message_parts` meets its contract, by the case of the message. Each case calls the function whose parts the definition names for it.
 use borrow.Author.Needs.{needs}
 use Rattle.exports.proofs.message_calls.message_parts.Statement.{statement}
 use Rattle.exports.proofs.message_calls.message_parts.Tie as tie

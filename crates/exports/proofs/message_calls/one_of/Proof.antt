@@ -1,4 +1,4 @@
--- `one_of` meets its contract: below 10 the array is read, and past its entries stands 0.
+-- `one_of` meets its contract: below 10 the array is read. Past its entries stands 0, as the definition has it.
 use mathlib.Core.Path.{sym}
 use Prim.Native.Nat.{_≤_}
 use lib.ListN.{length, List·getD-eq-default}

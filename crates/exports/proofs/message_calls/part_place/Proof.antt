@@ -1,5 +1,5 @@
--- `part_place` meets its contract: a DATA and a TMPL DATA that are not refused carry their part behind their heads, and any other message
--- carries none.
+-- `part_place` meets its contract: a DATA and a TMPL DATA that are not refused carry their part behind their heads. Any other message
+-- carries none, at place 0.
 use mathlib.Core.Path.{sym, _∙_}
 use Rattle.wire.proofs.Messages.{part-of-data, part-of-table, part-of-other}
 use borrow.Author.Needs.{needs}

@@ -1,4 +1,4 @@
--- `written_number` meets its contract, by the case of what writing answered: a count has 256 added to it, a refusal stays.
+-- `written_number` meets its contract, by the case of what writing answered. A count has 256 added to it, a refusal stays.
 use borrow.Author.Needs.{needs}
 use Rattle.exports.proofs.message_calls.written_number.Statement.{statement}
 use Rattle.exports.proofs.message_calls.written_number.Tie as tie

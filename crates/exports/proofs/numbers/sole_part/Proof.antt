@@ -1,4 +1,4 @@
--- `sole_part` meets its contract: the list has one entry, and past it stands 0.
+-- `sole_part` meets its contract: the list has one entry. Past it stands 0.
 use mathlib.Core.Path.{sym}
 use mathlib.Core.List.{[], _∷_}
 use lib.ListN.{List·getD-eq-default}

@@ -1,4 +1,4 @@
--- `crane_find_part` meets its contract, by the case of what finding answered: a template has three parts, a refusal is alone.
+-- `crane_find_part` meets its contract, by the case of what finding answered. A template has three parts, a refusal is alone.
 use mathlib.Core.Path.{sym, _∙_}
 use borrow.Author.Needs.{needs}
 use Rattle.exports.proofs.table_calls.crane_find_part.Statement.{statement}

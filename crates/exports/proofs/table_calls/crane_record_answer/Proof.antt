@@ -1,4 +1,4 @@
--- `crane_record_answer` meets its contract: it hands on what `record_answer` answers.
+-- `crane_record_answer` meets its contract: it hands on what `record_answer` answers. That is of the same table, ID and record.
 use borrow.Author.Needs.{needs}
 use Rattle.exports.proofs.table_calls.crane_record_answer.Statement.{statement}
 use Rattle.exports.proofs.table_calls.crane_record_answer.Tie as tie

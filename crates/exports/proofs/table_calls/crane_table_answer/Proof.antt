@@ -1,4 +1,5 @@
--- `crane_table_answer` meets its contract: soundness is what `table_sound` answered.
+-- `crane_table_answer` meets its contract: soundness is what `table_sound` answered. The test on it chooses between 0 and 21 as the
+-- definition does.
 use mathlib.Core.Path.{sym, _∙_}
 use Rattle.exports.specs.Numbers.{tableFormAnswer}
 use borrow.Author.Needs.{needs}

@@ -1,4 +1,4 @@
--- `template_part` meets its contract: the array holds the parts in order, and past them stands 0.
+-- `template_part` meets its contract: the array holds the parts in order. Past them stands 0, as the definition has it.
 use mathlib.Core.Path.{sym}
 use lib.ListN.{List·getD-eq-default}
 use Rattle.exports.specs.Numbers.{templateParts}

@@ -1,4 +1,5 @@
--- `call` meets its contract: the tests on the way to each call say which kind the event has, and the call is that kind's.
+-- `call` meets its contract: the tests on the way to each call say which kind the event has, and the call is that kind's. What the
+-- exporter ensures of the call is its outcome by the definition.
 use mathlib.Core.Path.{refl}
 use Rattle.tape.proofs.Events.{is-put, is-message, is-down, is-tick, is-next, is-offer, put-called, down-called, tick-called, wrote-called}
 use borrow.Author.Needs.{needs}

@@ -1,4 +1,4 @@
--- `record_of` meets its contract: what lies behind the first two octets, nothing where there are fewer.
+-- `record_of` meets its contract: it is what lies behind the template ID. Where the body is shorter than that, both sides are empty.
 use mathlib.Core.Path.{_∙_, sym}
 use native.Mathlib.Omega.{arith}
 use lib.ListN.{length, drop-of-length-le}

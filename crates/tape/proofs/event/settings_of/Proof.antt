@@ -1,4 +1,4 @@
--- `settings_of` meets its contract: each number is read where the definition reads it.
+-- `settings_of` meets its contract: each number is read where the definition reads it. Past the end of the body both read 0.
 use mathlib.Core.Path.{refl}
 use Rattle.tape.specs.Replay.{settingsOf}
 use borrow.Author.Needs.{needs}

@@ -1,4 +1,5 @@
--- `store_length` meets its contract: the number in the body of event 0, and one more.
+-- `store_length` meets its contract: it is the number in the body of event 0, and one more. The sum does not wrap, since the number has 16
+-- bits.
 use mathlib.Core.Path.{refl}
 use borrow.Author.Needs.{needs}
 use Rattle.tape.proofs.event.store_length.Statement.{statement}

@@ -1,4 +1,5 @@
--- `table_answer` meets its contract: the exporter's own test says whether the table is the session's.
+-- `table_answer` meets its contract: the exporter's own test says whether the table is the session's. The answer is chosen by it as in the
+-- definition.
 use mathlib.Core.Path.{refl, sym, _∙_}
 use borrow.Author.Tests.{not-true, not-false}
 use borrow.Author.Needs.{needs}

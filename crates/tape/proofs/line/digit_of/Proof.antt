@@ -1,4 +1,4 @@
--- `digit_of` meets its contract: the test is the definition's.
+-- `digit_of` meets its contract: the test is the definition's. The sums do not wrap, since a digit is below 16.
 use Rattle.octets.proofs.Judging.{tests}
 use borrow.Author.Needs.{needs}
 use Rattle.tape.proofs.line.digit_of.Statement.{statement}

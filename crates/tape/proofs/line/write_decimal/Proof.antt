@@ -1,4 +1,5 @@
--- `write_decimal` meets its contract: the tests on the way to each return say how many digits there are.
+-- `write_decimal` meets its contract: the tests on the way to each return say how many digits there are. They are stored from the first to
+-- the last, each as the definition has it.
 use native.Mathlib.Omega.{arith}
 use lib.ListN.{length-set}
 use Rattle.tape.proofs.Lines.{one-digit, two-digits, three-digits}

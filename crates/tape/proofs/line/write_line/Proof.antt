@@ -1,4 +1,4 @@
--- `write_line` meets its contract: each part is stored behind the one before it, and all of them fit.
+-- `write_line` meets its contract: each part is stored behind the one before it. All of them fit, since a number has at most three digits.
 use native.Mathlib.Omega.{arith}
 use Rattle.tape.proofs.Lines.{spelt-bounds, shown-bounds, line-joined}
 use borrow.Author.Needs.{needs}

@@ -1,4 +1,4 @@
--- `write_refused` meets its contract: the characters are the line's, and they fit.
+-- `write_refused` meets its contract: the characters are the line's. They fit, as is required.
 use mathlib.Core.Path.{refl, _∙_}
 use native.Mathlib.Omega.{arith}
 use Rattle.octets.proofs.Stores.{put-fits}

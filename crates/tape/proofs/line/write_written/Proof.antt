@@ -1,4 +1,4 @@
--- `write_written` meets its contract: the digits follow the space, and nothing is written of no octets.
+-- `write_written` meets its contract: the digits follow the space. Nothing is written of no octets.
 use native.Mathlib.Omega.{arith}
 use Rattle.tape.proofs.Lines.{nothing-shown, some-shown}
 use borrow.Author.Needs.{needs}

@@ -1,4 +1,5 @@
--- `open_tape` meets its contract: the tests on the way to each return say whether the tape is sound and its settings were accepted.
+-- `open_tape` meets its contract: the tests on the way to each return say whether the tape is sound and its settings were accepted. They
+-- choose the line, and whether events are left, as in the definition.
 use Rattle.tape.specs.Lines.{lineOf, tapeRefused}
 use mathlib.Core.List.{[]}
 use mathlib.Core.Path.{refl, sym, ap, _∙_}

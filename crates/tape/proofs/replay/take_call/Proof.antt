@@ -1,4 +1,5 @@
--- `take_call` meets its contract: the call is the event's, and its line has what the call wrote, which stands in the output.
+-- `take_call` meets its contract: the call is the event's, and its line has what the call wrote, which stands in the output. What was
+-- written is no longer than the output, so the line fits the text.
 use mathlib.Core.Path.{refl, sym, _∙_}
 use native.Mathlib.Omega.{arith}
 use lib.Seq.{length-take-le}

@@ -1,4 +1,5 @@
--- `take_event` meets its contract: nothing is left, or the event at the replay's place is the table or a call, and is taken as such.
+-- `take_event` meets its contract: nothing is left, or the event at the replay's place is the table or a call, and is taken as such. The
+-- part that is taken for its body is the next body, since its length is the one in the contents.
 use mathlib.Core.Path.{refl, ap}
 use mathlib.Core.List.{List}
 use Prim.Native.Nat.{ℕ, _+_}

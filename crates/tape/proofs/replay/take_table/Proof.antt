@@ -1,4 +1,4 @@
--- `take_table` meets its contract: the run goes on where the table is the session's.
+-- `take_table` meets its contract: its line has the table's answer. The run goes on where that is 0, and else no event is left.
 use mathlib.Core.Path.{refl, _∙_}
 use borrow.Author.Tests.{eq-eqb, ne-eqb}
 use Rattle.tape.proofs.Turns.{table-turn}
