@@ -11,7 +11,7 @@ use lib.Dec.{eqb, leb}
 use Rattle.octets.specs.Answers.{_when_, judge, done, unsoundTape}
 use Rattle.octets.specs.Numbers.{Octets}
 use Rattle.octets.specs.Each.{every}
-use Rattle.wire.proofs.Messages.{take-rest}
+use Rattle.octets.proofs.Stores.{take-rest}
 use Rattle.contents.specs.Tape.{eventCount, bodyLength, bodyAt, octetsAt, bodyOf, eventSound, maxTapeOctets, minEvents, maxEvents, tapeSound, tapeAnswer}
 
 -- from a place past the end on nothing is left

@@ -11,7 +11,7 @@ use lib.ListN.{length, take, drop, length-drop}
 use lib.Seq.{take-all, sets, length-sets}
 use Rattle.octets.specs.Answers.{judge, done, messageNotAccepted, bodyLengthWrong, outputTooShort, unsoundTable}
 use Rattle.octets.specs.Numbers.{octetsOf, putAt}
-use Rattle.octets.proofs.Stores.{put-fits, put-short, sets-append}
+use Rattle.octets.proofs.Stores.{put-fits, put-short, put-then, sets-append}
 use Rattle.messages.specs.Messages.{Form, ofForm, forms, isMessage, bodyFits, messageNumber, versionOf, lengthField, headerChecks, bodyChecks, headerAnswer, readAnswer, sessionOf, meaningOf, readWhere, readTable, readOf, partAt, partOf, tmplData, dataNumber}
 use Rattle.tables.specs.Table.{tableSound}
 use Rattle.messages.specs.Messages.{headerOctets, protocolVersion, dataHeadLength, maxRecordOctets, headerOctetsOf, messageOf, dataFront, dataHeadOctets, Placed, isTmplData, isData, layoutOf, writeChecks, writeAnswer, writeOf, writeOut, headWriteAnswer, headWriteOut}
@@ -23,10 +23,6 @@ use Rattle.messages.specs.declared.message.Written.{Written}
 use Rattle.messages.specs.declared.message.Written.the-variants as written
 use Rattle.octets.proofs.Judging.{passed, judged-done, judged-first, judged-next}
 use Rattle.octets.proofs.Each.{and-false}
-
--- what is left behind the first n octets
-pub take-rest : (m : List ℕ) (n : ℕ) → take (length m - n) (drop n m) ≡ drop n m
-take-rest m n = take-all (length m - n) (drop n m) (omega (arith, length-drop n m))
 
 -- ---- rows
 
@@ -190,15 +186,6 @@ pub sound-read : (m : List ℕ) → headerAnswer m ≡ done → messageNumber m 
 sound-read m h e t = answer-table m h e ∙ rw t
 
 -- ---- writing
-
--- octets behind those that were written from the first octet on
-pub sets-then : (out a b l : List ℕ) (at : ℕ) → l ≡ sets out 0 a → length a ≡ at → sets l at b ≡ sets out 0 (a ++ b)
-sets-then out a b l at e n =
-    ap (λ (x : List ℕ). sets x at b) e ∙ ap (λ (k : ℕ). sets (sets out 0 a) k b) (sym n ∙ sym (zero-add (length a))) ∙ sets-append a out 0 b
-
-pub put-then : (out a b l : List ℕ) (at : ℕ) → l ≡ sets out 0 a → length a ≡ at → at + length b ≤ length out → putAt l at b ≡ sets out 0 (a ++ b)
-put-then out a b l at e n h =
-    put-fits l at b (omega (arith, ap length e, length-sets out 0 a)) ∙ sets-then out a b l at e n
 
 -- octets that find no room
 pub placed-short : (octets out : List ℕ) → length out < length octets → Placed octets out (written.Refused outputTooShort) out

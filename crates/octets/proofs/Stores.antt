@@ -8,8 +8,8 @@ use native.Mathlib.Nat.{add-suc, add-zero, suc-add, zero-add}
 use native.Mathlib.Numerals.{add-one}
 use native.Mathlib.Omega.{arith}
 use borrow.Author.Tests.{le-leb, lt-leb}
-use lib.ListN.{length, getD, take, drop, set, length-append, drop-of-length-le, List·getD-append}
-use lib.Seq.{sets, sets-eq, length-sets, drop-cons, length-take-le, getD-append-add, set-comm}
+use lib.ListN.{length, getD, take, drop, set, length-append, drop-of-length-le, List·getD-append, length-drop}
+use lib.Seq.{sets, sets-eq, length-sets, drop-cons, length-take-le, getD-append-add, set-comm, take-all}
 use Rattle.octets.specs.Numbers.{uintAt, octetsOf, putAt}
 use Rattle.octets.proofs.Numbers.{uint-same, octets-length, octets-join, octets-mod, read-back}
 
@@ -111,3 +111,18 @@ sets-step out at octets i h = rw (add-one, add-suc, drop-cons octets i 0)
 -- nothing is left to store
 pub sets-done : (out : List ℕ) (k : ℕ) (octets : List ℕ) (i : ℕ) → length octets ≤ i → sets out k (drop i octets) ≡ out
 sets-done out k octets i h = rw (drop-of-length-le octets h)
+
+-- ---- octets one behind the other
+
+-- what is left behind the first n octets
+pub take-rest : (m : List ℕ) (n : ℕ) → take (length m - n) (drop n m) ≡ drop n m
+take-rest m n = take-all (length m - n) (drop n m) (omega (arith, length-drop n m))
+
+-- octets behind those that were written from the first octet on
+pub sets-then : (out a b l : List ℕ) (at : ℕ) → l ≡ sets out 0 a → length a ≡ at → sets l at b ≡ sets out 0 (a ++ b)
+sets-then out a b l at e n =
+    ap (λ (x : List ℕ). sets x at b) e ∙ ap (λ (k : ℕ). sets (sets out 0 a) k b) (sym n ∙ sym (zero-add (length a))) ∙ sets-append a out 0 b
+
+pub put-then : (out a b l : List ℕ) (at : ℕ) → l ≡ sets out 0 a → length a ≡ at → at + length b ≤ length out → putAt l at b ≡ sets out 0 (a ++ b)
+put-then out a b l at e n h =
+    put-fits l at b (omega (arith, ap length e, length-sets out 0 a)) ∙ sets-then out a b l at e n

@@ -21,7 +21,7 @@ use Rattle.session.proofs.Demand.{demand3of32}
 use Rattle.session.specs.declared.state.Settings.{Settings}
 use Rattle.session.specs.declared.state.State.{State}
 use Rattle.contents.specs.Tape.{eventCount, kindAt, serverAt, bodyLength, bodyAt, octetsAt, bodyOf, eventSound, maxTapeOctets, minEvents, maxEvents, tapeSound}
-use Rattle.tape.specs.Lines.{lineOf}
+use Rattle.lines.specs.Lines.{lineOf}
 use Rattle.tape.specs.Replay.{tableAnswer, outputBuffer, eventCall, callsFrom, linesOf, ifDone, tapeSettings, tapeSession, tapeStore, tapeCalls, replay, settingsOf}
 use Rattle.tape.specs.Turns.{Played, opened, played, turnsFrom, turns, TurnByTurn, CallsClaimed}
 use Rattle.tape.specs.declared.replay.Progress.{Progress}

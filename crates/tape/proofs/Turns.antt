@@ -18,7 +18,7 @@ use Rattle.session.specs.declared.state.State.{State}
 use Rattle.session.specs.declared.state.Made.{Made}
 use Rattle.session.specs.declared.state.Wrote.{Wrote}
 use Rattle.contents.specs.Tape.{eventCount, kindAt, serverAt, bodyLength, bodyAt, octetsAt, bodyOf, tapeSound}
-use Rattle.tape.specs.Lines.{lineOf, tapeRefused, lineOctets}
+use Rattle.lines.specs.Lines.{lineOf, tapeRefused, lineOctets}
 use Rattle.tape.specs.Replay.{tableAnswer, outputBufferOctets, outputBuffer, eventCall, tapeSettings}
 use Rattle.tape.specs.Turns.{effect, Gives, Called, opened, indexOf, nextBody, nextEnd, tableTurn, nextCall, callTurn, played, CallReady, turnOf, Lined, Turned}
 use Rattle.tape.specs.declared.replay.Progress.{Progress}

@@ -10,7 +10,7 @@ use Rattle.exporter.specs.Steps.{isSessions, setUp}
 use Rattle.exporter.specs.Claim.{Event, Put, NextData, Receive, OfferTemplates, LineDown, Tick, Session, sessionOf32, Exporter, outcome, advance, begin}
 use Rattle.session.specs.declared.state.Settings.{Settings}
 use Rattle.contents.specs.Tape.{eventCount, kindAt, serverAt, bodyOf, tapeSound, templateIdOctets, putKind, messageKind, downKind, tickKind, nextKind}
-use Rattle.tape.specs.Lines.{lineOf, tapeRefused}
+use Rattle.lines.specs.Lines.{lineOf, tapeRefused}
 
 -- ---- the first two events
 

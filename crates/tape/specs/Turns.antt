@@ -15,7 +15,7 @@ use Rattle.exporter.specs.Claim.{Event, sessionOf32, outcome, storeLeft, Claim}
 use Rattle.session.specs.declared.state.State.{State}
 use Rattle.session.specs.declared.state.Wrote.{Wrote}
 use Rattle.contents.specs.Tape.{eventCount, kindAt, serverAt, bodyLength, bodyAt, bodyOf, octetsAt, tapeSound}
-use Rattle.tape.specs.Lines.{lineOf, tapeRefused, lineOctets}
+use Rattle.lines.specs.Lines.{lineOf, tapeRefused, lineOctets}
 use Rattle.tape.specs.Replay.{tableAnswer, outputBufferOctets, outputBuffer, eventCall, tapeSettings, tapeSession, tapeStore, tapeCalls, replay}
 use Rattle.tape.specs.declared.replay.Progress.{Progress}
 use Rattle.tape.specs.declared.replay.Turn.{Turn}

@@ -13,5 +13,4 @@
 //
 // `event` reads settings, table and calls from the events' bodies, `replay` takes the turns. Every function answers any octets.
 pub mod event;
-mod line;
 pub mod replay;

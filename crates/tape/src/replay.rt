@@ -11,11 +11,8 @@ use octets::Answer;
 // How many octets the calls of a replay are lent as output.
 pub const OUTPUT_OCTETS: usize = 16392;
 
-// The most octets of a line beside hex digits: two numbers of three digits, two spaces and the end of the line.
-const FRAME_OCTETS: usize = 9;
-
 // Enough for any line: two digits for each octet of output, and what stands beside them.
-pub const LINE_OCTETS: usize = FRAME_OCTETS + 2 * OUTPUT_OCTETS;
+pub const LINE_OCTETS: usize = lines::FRAME_OCTETS + 2 * OUTPUT_OCTETS;
 
 // How far a replay is, between two events.
 pub struct Progress {
@@ -43,13 +40,13 @@ pub fn open_tape(tape: &[u8], store: &[u8], text: &mut [u8; LINE_OCTETS]) -> Tur
     let at = contents::body_at(tape, 1);
     let part = &mut text[..];
     if contents::tape_answer(tape) != Answer::DONE {
-        let len = crate::line::write_refused(part);
+        let len = lines::write_refused(part);
         return Turn {
             len,
             progress: Progress { state, left: 0, at },
         };
     }
-    let len = crate::line::write_line(0, made.answer, &tape[..0], part);
+    let len = lines::write_line(0, made.answer, &tape[..0], part);
     let mut left: usize = 0;
     if made.answer == Answer::DONE {
         left = octets::saturating_sub(contents::event_count(tape) as usize, 1);
@@ -67,7 +64,7 @@ fn take_table(r: Progress, tape: &[u8], at: usize, text: &mut [u8]) -> Turn
 {
     let settings = crate::event::settings_of(contents::body(tape, 0));
     let answer = crate::event::table_answer(settings, contents::body(tape, 1));
-    let len = crate::line::write_line(1, answer, &tape[..0], text);
+    let len = lines::write_line(1, answer, &tape[..0], text);
     let state = r.state;
     let mut left: usize = 0;
     if answer == Answer::DONE {
@@ -111,7 +108,7 @@ fn take_call<'a>(
     let old = r.state;
     let wrote = crate::event::call(old, kind, server, b, table, store, out);
     let written = wrote.written;
-    let len = crate::line::write_line(i as usize, wrote.answer, &out[..written], text);
+    let len = lines::write_line(i as usize, wrote.answer, &out[..written], text);
     let state = wrote.state;
     let left = r.left - 1;
     Turn {

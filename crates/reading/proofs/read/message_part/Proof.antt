@@ -6,7 +6,8 @@ use native.Mathlib.Nat.{zero-add}
 use native.Mathlib.Omega.{arith}
 use Rattle.octets.proofs.Numbers.{uint-one}
 use Rattle.tables.specs.Table.{tableSound}
-use Rattle.messages.proofs.Messages.{header-refused, header-long, take-rest, part-of-data, part-of-table, part-of-refused, part-of-other, short-refused, long-read, unsound-refused, sound-read}
+use Rattle.messages.proofs.Messages.{header-refused, header-long, part-of-data, part-of-table, part-of-refused, part-of-other, short-refused, long-read, unsound-refused, sound-read}
+use Rattle.octets.proofs.Stores.{take-rest}
 use borrow.Author.Needs.{needs}
 use Rattle.reading.proofs.read.message_part.Statement.{statement}
 use Rattle.reading.proofs.read.message_part.Tie as tie

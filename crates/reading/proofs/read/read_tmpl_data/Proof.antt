@@ -2,7 +2,7 @@
 use mathlib.Core.Path.{sym, ap, _∙_}
 use Rattle.octets.proofs.Numbers.{uint-one}
 use Rattle.tables.specs.Table.{tableSound}
-use Rattle.messages.proofs.Messages.{take-rest}
+use Rattle.octets.proofs.Stores.{take-rest}
 use borrow.Author.Needs.{needs}
 use Rattle.reading.proofs.read.read_tmpl_data.Statement.{statement}
 use Rattle.reading.proofs.read.read_tmpl_data.Tie as tie

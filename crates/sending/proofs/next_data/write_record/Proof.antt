@@ -6,7 +6,8 @@ use Prim.Native.Nat.{ℕ, _+_}
 use lib.ListN.{length}
 use Rattle.octets.specs.Numbers.{octetsOf}
 use Rattle.wire.specs.Messages.{dataHeadOctets}
-use Rattle.wire.proofs.Messages.{placed-short, placed, sets-then, data-layout, data-length}
+use Rattle.wire.proofs.Messages.{placed-short, placed, data-layout, data-length}
+use Rattle.octets.proofs.Stores.{sets-then}
 use Rattle.session.specs.Queue.{ringRead}
 use mathlib.Core.List.{_++_}
 use lib.Seq.{sets}

@@ -2,7 +2,7 @@
 use mathlib.Core.Path.{_∙_, sym}
 use native.Mathlib.Omega.{arith}
 use lib.ListN.{length, drop-of-length-le}
-use Rattle.wire.proofs.Messages.{take-rest}
+use Rattle.octets.proofs.Stores.{take-rest}
 use borrow.Author.Needs.{needs}
 use Rattle.tape.proofs.event.record_of.Statement.{statement}
 use Rattle.tape.proofs.event.record_of.Tie as tie

@@ -3,6 +3,7 @@
 use mathlib.Core.Path.{refl, sym, _∙_}
 use native.Mathlib.Omega.{arith}
 use lib.Seq.{length-take-le}
+use Rattle.lines.proofs.Lines.{printed-whole}
 use Rattle.tape.proofs.Turns.{called-fits, line-fits, call-turn}
 use borrow.Author.Needs.{needs}
 use Rattle.tape.proofs.replay.take_call.Statement.{statement}
@@ -27,10 +28,7 @@ slice-aggregate-write-line : tie.Need-slice-aggregate-write-line
 slice-aggregate-write-line c = sym (length-take-le _ _ (omega (arith, called-fits _ _ _ _ _ _ _ _ _ _ (c .before .before .before .before .before .call .ensures))))
 
 write-line-requires : tie.Need-write-line-requires
-write-line-requires c κs =
-    let k = c .before .before .before .before .before .before in
-    let z = k .before .before .before .before .before .before .before .before .before .before .before .before in
-    line-fits _ _ (z .args .out .now) (z .args .text .now) (called-fits _ _ _ _ _ _ _ _ _ _ (k .call .ensures)) (z .pre .room)
+write-line-requires c κs = search needs
 
 sub-left : tie.Need-sub-left
 sub-left c = c .before .before .before .before .before .before .before .before .before .before .before .before .before .before .before .before .before .before .before .before .before .before .before .pre .some
@@ -50,9 +48,11 @@ returns c =
     let k = w .before .before .before .before .before .before .before in
     let z = k .before .before .before .before .before .before .before .before .before .before .before .before in
     let a = z .args in
+    let fits = line-fits _ _ (a .out .now) (a .text .now) (called-fits _ _ _ _ _ _ _ _ _ _ (k .call .ensures)) (z .pre .room) in
+    let l = printed-whole (a .text .now) _ _ _ _ fits (w .write-line .ensures) in
     call-turn (a .tape .now) (a .r) (a .store .now) (a .out .now) (a .text .now) (a .i) _ _ (a .b .now) _ _ _ _ _ _ _ (z .pre)
     (k .before .before .before .before .before .before .body .ensures) (k .before .before .before .before .before .kind-at .ensures) (k .before .before .before .before .server-at .ensures) (k .call .ensures)
-    (w .write-line .ensures .0) (w .write-line .ensures .1)
+    (l .0) (l .1)
 
 pub take-call-spec : {M : Type 1} → statement M
 take-call-spec =

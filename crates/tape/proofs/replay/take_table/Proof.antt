@@ -1,6 +1,9 @@
 -- `take_table` meets its contract: its line has the table's answer. The run goes on where that is 0, and else no event is left.
 use mathlib.Core.Path.{refl, _∙_}
 use borrow.Author.Tests.{eq-eqb, ne-eqb}
+use mathlib.Core.List.{[]}
+use Rattle.lines.specs.Lines.{lineOf, lineOctets}
+use Rattle.lines.proofs.Lines.{printed-whole}
 use Rattle.tape.proofs.Turns.{table-turn}
 use borrow.Author.Needs.{needs}
 use Rattle.tape.proofs.replay.take_table.Statement.{statement}
@@ -35,9 +38,10 @@ returns c =
     let w = c .before .before .before .before .before in
     let k = w .before .before .before in
     let z = k .before .before .before .before .before .before in
+    let l = printed-whole (z .args .text .now) (lineOf 1 (k .table-answer .result) []) (lineOctets 0) _ _ (z .pre .room) (w .write-line .ensures) in
     table-turn (z .args .tape .now) (z .args .r) _ _ _ _ _ _ (z .pre .end)
     (k .table-answer .ensures ∙ rw (k .before .body2 .ensures, k .before .before .settings-of .ensures, k .before .before .before .body .ensures) refl)
-    (rw (eq-eqb _ _ (c .before .if1 .taken)) refl) (w .write-line .ensures .0) (w .write-line .ensures .1)
+    (rw (eq-eqb _ _ (c .before .if1 .taken)) refl) (l .0) (l .1)
 
 same-length-2 : tie.Need-same-length-2
 same-length-2 c = search needs
@@ -47,9 +51,10 @@ returns-2 c =
     let w = c .before .before .before .before in
     let k = w .before .before .before in
     let z = k .before .before .before .before .before .before in
+    let l = printed-whole (z .args .text .now) (lineOf 1 (k .table-answer .result) []) (lineOctets 0) _ _ (z .pre .room) (w .write-line .ensures) in
     table-turn (z .args .tape .now) (z .args .r) _ _ _ _ _ _ (z .pre .end)
     (k .table-answer .ensures ∙ rw (k .before .body2 .ensures, k .before .before .settings-of .ensures, k .before .before .before .body .ensures) refl)
-    (rw (ne-eqb _ _ (c .if1 .left)) refl) (w .write-line .ensures .0) (w .write-line .ensures .1)
+    (rw (ne-eqb _ _ (c .if1 .left)) refl) (l .0) (l .1)
 
 pub take-table-spec : {M : Type 1} → statement M
 take-table-spec =

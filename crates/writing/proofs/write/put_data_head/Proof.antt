@@ -8,7 +8,7 @@ use lib.Seq.{sets}
 use lib.ListN.{length-set}
 use Rattle.octets.specs.Numbers.{octetsOf}
 use Rattle.messages.specs.Messages.{headerOctetsOf, dataNumber}
-use Rattle.messages.proofs.Messages.{put-then, sets-then}
+use Rattle.octets.proofs.Stores.{put-then, sets-then}
 use Rattle.writing.proofs.write.put_data_head.Statement.{statement}
 use Rattle.writing.proofs.write.put_data_head.Tie as tie
 

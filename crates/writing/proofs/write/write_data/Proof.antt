@@ -9,7 +9,8 @@ use lib.ListN.{length}
 use Rattle.octets.specs.Answers.{recordTooLong}
 use Rattle.octets.specs.Numbers.{octetsOf}
 use Rattle.messages.specs.Messages.{dataHeadOctets, writeAnswer}
-use Rattle.messages.proofs.Messages.{placed-short, placed, put-then, allowed, refused, data-length, data-layout}
+use Rattle.messages.proofs.Messages.{placed-short, placed, allowed, refused, data-length, data-layout}
+use Rattle.octets.proofs.Stores.{put-then}
 use Rattle.writing.proofs.write.write_data.Statement.{statement}
 use Rattle.writing.proofs.write.write_data.Tie as tie
 

@@ -6,7 +6,8 @@ use borrow.Author.Needs.{needs}
 use lib.ListN.{length-set}
 use Rattle.octets.specs.Numbers.{octetsOf}
 use Rattle.messages.specs.Messages.{headerOctetsOf, messageOf, dataAck}
-use Rattle.messages.proofs.Messages.{placed-short, placed, put-then, sets-then}
+use Rattle.messages.proofs.Messages.{placed-short, placed}
+use Rattle.octets.proofs.Stores.{put-then, sets-then}
 use Rattle.writing.proofs.write.write_data_ack.Statement.{statement}
 use Rattle.writing.proofs.write.write_data_ack.Tie as tie
 

@@ -3,7 +3,8 @@ use mathlib.Core.Path.{refl, _∙_}
 use borrow.Author.Needs.{needs}
 use Rattle.octets.specs.Numbers.{octetsOf}
 use Rattle.messages.specs.Messages.{headerOctetsOf, messageOf, startAck}
-use Rattle.messages.proofs.Messages.{placed-short, placed, put-then}
+use Rattle.messages.proofs.Messages.{placed-short, placed}
+use Rattle.octets.proofs.Stores.{put-then}
 use Rattle.writing.proofs.write.write_start_ack.Statement.{statement}
 use Rattle.writing.proofs.write.write_start_ack.Tie as tie
 

@@ -9,7 +9,8 @@ use lib.ListN.{length}
 use Rattle.octets.specs.Answers.{unsoundTable}
 use Rattle.octets.specs.Numbers.{octetsOf}
 use Rattle.messages.specs.Messages.{headerOctetsOf, messageOf, tmplData, layoutOf, writeAnswer}
-use Rattle.messages.proofs.Messages.{placed-short, placed, put-then, allowed, refused, message-length}
+use Rattle.messages.proofs.Messages.{placed-short, placed, allowed, refused, message-length}
+use Rattle.octets.proofs.Stores.{put-then}
 use Rattle.tables.proofs.Tables.{table-facts}
 use Rattle.writing.proofs.write.write_tmpl_data.Statement.{statement}
 use Rattle.writing.proofs.write.write_tmpl_data.Tie as tie

@@ -1,8 +1,8 @@
 -- `digit_of` meets its contract: the test is the definition's. The sums do not wrap, since a digit is below 16.
 use Rattle.octets.proofs.Judging.{tests}
 use borrow.Author.Needs.{needs}
-use Rattle.tape.proofs.line.digit_of.Statement.{statement}
-use Rattle.tape.proofs.line.digit_of.Tie as tie
+use Rattle.lines.proofs.digit_of.Statement.{statement}
+use Rattle.lines.proofs.digit_of.Tie as tie
 
 add-result : tie.Need-add-result
 add-result c = search needs

@@ -1,9 +1,9 @@
 -- `write_written` meets its contract: the digits follow the space. Nothing is written of no octets.
 use native.Mathlib.Omega.{arith}
-use Rattle.tape.proofs.Lines.{nothing-shown, some-shown}
+use Rattle.lines.proofs.Lines.{nothing-shown, some-shown}
 use borrow.Author.Needs.{needs}
-use Rattle.tape.proofs.line.write_written.Statement.{statement}
-use Rattle.tape.proofs.line.write_written.Tie as tie
+use Rattle.lines.proofs.write_written.Statement.{statement}
+use Rattle.lines.proofs.write_written.Tie as tie
 
 returns : tie.Need-returns
 returns c =

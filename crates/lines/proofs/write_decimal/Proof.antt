@@ -2,10 +2,10 @@
 -- the last, each as the definition has it.
 use native.Mathlib.Omega.{arith}
 use lib.ListN.{length-set}
-use Rattle.tape.proofs.Lines.{one-digit, two-digits, three-digits}
+use Rattle.lines.proofs.Lines.{one-digit, two-digits, three-digits}
 use borrow.Author.Needs.{needs}
-use Rattle.tape.proofs.line.write_decimal.Statement.{statement}
-use Rattle.tape.proofs.line.write_decimal.Tie as tie
+use Rattle.lines.proofs.write_decimal.Statement.{statement}
+use Rattle.lines.proofs.write_decimal.Tie as tie
 
 cast-digit-of : tie.Need-cast-digit-of
 cast-digit-of c = search needs

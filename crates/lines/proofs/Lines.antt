@@ -6,14 +6,13 @@ use Prim.Native.Nat.{ℕ, suc, _+_, _*_, _/_, _%_, _≤_, _<_}
 use native.Mathlib.Nat.{add-zero}
 use native.Mathlib.Numerals.{add-one}
 use native.Mathlib.Omega.{arith}
-use borrow.Author.Tests.{lt-ltb, le-ltb}
+use borrow.Author.Tests.{lt-ltb, le-ltb, le-leb, lt-leb}
 use lib.ListN.{length, getD, set, drop, length-append, drop-of-length-le}
 use lib.Seq.{sets, length-sets, drop-cons}
 use lib.Dec.{ltb}
 use Rattle.octets.specs.Numbers.{octetsOf, putAt}
-use Rattle.octets.proofs.Stores.{cond-cases, put-fits}
-use Rattle.wire.proofs.Messages.{sets-then, put-then}
-use Rattle.tape.specs.Lines.{space, newline, digit, decimal, hex, writtenText, lineOf, numberDigits, lineOctets, Stored}
+use Rattle.octets.proofs.Stores.{cond-cases, put-fits, sets-then, put-then}
+use Rattle.lines.specs.Lines.{space, newline, digit, decimal, hex, writtenText, lineOf, numberDigits, lineOctets, fitted, Stored, Printed}
 
 -- A number in decimal was stored at a place, and the place behind it answered.
 abbrev pub Spelt : List ℕ → ℕ → ℕ → ℕ → List ℕ → Type 0
@@ -127,3 +126,18 @@ line-joined text octets t₁ t₂ t₃ t₄ t₅ p a first second last h s₁ e�
     let j₅ = e₅ ∙ put-then text (((d ++ sp) ++ da) ++ w) (newline ∷ []) t₄ last j₄ l₄ (omega (arith, b₄ .0, s₃ .0, l₁, m₁, m₃)) in
     let q = ap (λ (l : List ℕ). (l ++ w) ++ (newline ∷ [])) (append-assoc d sp da) in
     (omega (arith, n₅, l₄) ∙ ap length q, j₅ ∙ ap (sets text 0) q)
+
+-- ---- a line where there is room for it
+
+-- a text with room takes the line
+pub printed-whole : (text line : List ℕ) (need len : ℕ) (after : List ℕ) → need ≤ length text
+    → Printed text (fitted (length text) need line) len after → Printed text line len after
+printed-whole text line need len after h p = rw (le-leb need (length text) h) at p
+
+pub whole-printed : (text line : List ℕ) (need len : ℕ) (after : List ℕ) → need ≤ length text
+    → Printed text line len after → Printed text (fitted (length text) need line) len after
+whole-printed text line need len after h p = rw (le-leb need (length text) h) p
+
+-- one without room takes nothing
+pub printed-none : (text line : List ℕ) (need : ℕ) → length text < need → Printed text (fitted (length text) need line) 0 text
+printed-none text line need h = rw (lt-leb need (length text) h) (refl, refl)

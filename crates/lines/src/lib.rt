@@ -1,9 +1,14 @@
-// A line of output: the place of an event, its answer, and the octets that it wrote in hex.
+// A line of the replay program's output: the place of an event, its answer, and the octets that it wrote in hex.
+//
+// Every function that is seen is total: where the text has no room for any line of as many octets nothing is written, and 0 answered.
 ghost use mathlib.Core.Path.{_≡_};
 ghost use Prim.Native.Nat.{_+_, _≤_, _<_};
 ghost use lib.ListN.{length};
 ghost use lib.Seq.{sets};
-ghost use Rattle.tape.specs.Lines.{digit, decimal, hex, writtenText, lineOf, tapeRefused, numberDigits, hexDigits, lineOctets, Stored, Printed};
+ghost use Rattle.lines.specs.Lines.{digit, decimal, hex, writtenText, lineOf, tapeRefused, numberDigits, hexDigits, lineOctets, fitted, Stored, Printed};
+
+// The most octets of a line beside hex digits: two numbers of three digits, two spaces and the end of the line.
+pub const FRAME_OCTETS: usize = 9;
 
 // How many octets the line of a tape that is not sound has.
 const REFUSED_OCTETS: usize = 13;
@@ -67,7 +72,7 @@ fn write_written(octets: &[u8], text: &mut [u8], at: usize) -> usize
 }
 
 // The line of an event to the first octets; answers how many they are.
-pub(crate) fn write_line(place: usize, answer: u8, octets: &[u8], text: &mut [u8]) -> usize
+fn store_line(place: usize, answer: u8, octets: &[u8], text: &mut [u8]) -> usize
     requires { ⌜ lineOctets (length (now octets)) ≤ length (now text) ⌝ }
     ensures { λ r. ⌜ Printed (now (text .entry)) (lineOf place answer (now (octets .entry))) r (now (text .exit)) ⌝ }
 {
@@ -79,11 +84,31 @@ pub(crate) fn write_line(place: usize, answer: u8, octets: &[u8], text: &mut [u8
     last + 1
 }
 
-// The line of a tape that is not sound to the first octets; answers how many they are.
-pub(crate) fn write_refused(text: &mut [u8]) -> usize
-    requires { ⌜ length tapeRefused ≤ length (now text) ⌝ }
-    ensures { λ r. ⌜ Printed (now (text .entry)) tapeRefused r (now (text .exit)) ⌝ }
+// The line of an event to the first octets of a text with room for it; answers how many they are.
+pub fn write_line(place: usize, answer: u8, octets: &[u8], text: &mut [u8]) -> usize
+    ensures { λ r. ⌜
+        (let line = lineOf place answer (now (octets .entry)) in
+        Printed (now (text .entry)) (fitted (length (now (text .entry))) (lineOctets (length (now (octets .entry)))) line) r (now (text .exit))) ⌝ }
 {
+    let room = text.len();
+    if room < FRAME_OCTETS {
+        return 0;
+    }
+    if (room - FRAME_OCTETS) / 2 < octets.len() {
+        return 0;
+    }
+    store_line(place, answer, octets, text)
+}
+
+// The line of a tape that is not sound to the first octets of a text with room for it; answers how many they are.
+pub fn write_refused(text: &mut [u8]) -> usize
+    ensures { λ r. ⌜
+        (let line = fitted (length (now (text .entry))) (length tapeRefused) tapeRefused in
+        Printed (now (text .entry)) line r (now (text .exit))) ⌝ }
+{
+    if text.len() < REFUSED_OCTETS {
+        return 0;
+    }
     octets::copy(text, 0, b"tape refused\n");
     REFUSED_OCTETS
 }

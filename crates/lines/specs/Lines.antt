@@ -3,7 +3,7 @@ use Prim.Native.Nat.{ℕ, _+_, _*_, _/_, _%_}
 use mathlib.Core.Path.{_≡_}
 use mathlib.Core.Bool.{cond}
 use mathlib.Core.List.{List, [], _∷_, _++_}
-use lib.Dec.{ltb}
+use lib.Dec.{leb, ltb}
 use lib.ListN.{length}
 use lib.Seq.{sets}
 
@@ -61,6 +61,10 @@ frameOctets = numberDigits + 1 + numberDigits + 1 + 1
 -- The most octets of the line of an event that wrote n octets.
 abbrev pub lineOctets : ℕ → ℕ
 lineOctets n = frameOctets + hexDigits n
+
+-- What of a line is written to a text of `room` octets: the line where there is room for `need` octets, else nothing.
+abbrev pub fitted : ℕ → ℕ → List ℕ → List ℕ
+fitted room need line = cond (leb need room) line []
 
 -- ---- storing a part of a line
 

@@ -6,10 +6,10 @@ use native.Mathlib.Nat.{add-zero}
 use native.Mathlib.Omega.{arith}
 use lib.ListN.{length, drop, length-set}
 use lib.Seq.{sets}
-use Rattle.tape.specs.Lines.{hex}
-use Rattle.tape.proofs.Lines.{hex-step, hex-done}
-use Rattle.tape.proofs.line.write_hex.Statement.{statement}
-use Rattle.tape.proofs.line.write_hex.Tie as tie
+use Rattle.lines.specs.Lines.{hex}
+use Rattle.lines.proofs.Lines.{hex-step, hex-done}
+use Rattle.lines.proofs.write_hex.Statement.{statement}
+use Rattle.lines.proofs.write_hex.Tie as tie
 
 abbrev Inv-loop : tie.InvT-loop
 Inv-loop octets text₀ at i₀ text i = (i ≤ length octets) × ((length text ≡ length text₀) × (sets text (at + 2 * i) (hex (drop i octets)) ≡ sets text₀ at (hex octets)))

@@ -1,9 +1,9 @@
--- `write_line` meets its contract: each part is stored behind the one before it. All of them fit, since a number has at most three digits.
+-- `store_line` meets its contract: each part is stored behind the one before it. All of them fit, since a number has at most three digits.
 use native.Mathlib.Omega.{arith}
-use Rattle.tape.proofs.Lines.{spelt-bounds, shown-bounds, line-joined}
+use Rattle.lines.proofs.Lines.{spelt-bounds, shown-bounds, line-joined}
 use borrow.Author.Needs.{needs}
-use Rattle.tape.proofs.line.write_line.Statement.{statement}
-use Rattle.tape.proofs.line.write_line.Tie as tie
+use Rattle.lines.proofs.store_line.Statement.{statement}
+use Rattle.lines.proofs.store_line.Tie as tie
 
 write-decimal-requires : tie.Need-write-decimal-requires
 write-decimal-requires c κs = search needs
@@ -37,8 +37,8 @@ returns c =
     line-joined (a .text .now) (a .octets .now) _ _ _ _ _ (a .place) (a .answer) _ _ _ (omega arith) (c .before .before .before .before .before .before .before .before .before .before .before .before .before .before .before .before .before .before .write-decimal .ensures) (c .before .before .before .before .before .before .before .before .before .before .before .before .before .before .put-u8 .ensures)
     (c .before .before .before .before .before .before .before .before .before .before .write-decimal2 .ensures) (c .before .before .before .before .before .before .write-written .ensures) (c .before .before .put-u82 .ensures)
 
-pub write-line-spec : {M : Type 1} → statement M
-write-line-spec =
+pub store-line-spec : {M : Type 1} → statement M
+store-line-spec =
     tie.close
     (tie.spec
     write-decimal-requires
