@@ -88,7 +88,8 @@ fn store_line(place: usize, answer: u8, octets: &[u8], text: &mut [u8]) -> usize
 pub fn write_line(place: usize, answer: u8, octets: &[u8], text: &mut [u8]) -> usize
     ensures { λ r. ⌜
         (let line = lineOf place answer (now (octets .entry)) in
-        Printed (now (text .entry)) (fitted (length (now (text .entry))) (lineOctets (length (now (octets .entry)))) line) r (now (text .exit))) ⌝ }
+        let need = lineOctets (length (now (octets .entry))) in
+        Printed (now (text .entry)) (fitted (length (now (text .entry))) need line) r (now (text .exit))) ⌝ }
 {
     let room = text.len();
     if room < FRAME_OCTETS {
