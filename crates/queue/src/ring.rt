@@ -20,7 +20,7 @@ pub fn ring_write(store: &mut [u8], at: usize, octets: &[u8])
     if room < octets.len() {
         return;
     }
-    if room == 0 {
+    if octets.len() == 0 {
         return;
     }
     let mut place = at % room;

@@ -1,5 +1,5 @@
 -- `ring_write` meets its contract. The loop's invariant: what is left to write, written from here on, makes the store that all octets make,
--- and place is where the next one goes. At the end nothing is left. More octets than places, and a store without places, leave it as it was.
+-- and place is where the next one goes. At the end nothing is left. More octets than places, and no octets, leave the store as it was.
 use mathlib.Core.Path.{_≡_, refl, sym, _∙_}
 use Prim.Native.Nat.{_+_, _-_, _%_, _≤_}
 use native.Mathlib.Nat.{mod-lt, mod-add-mod, add-zero, add-assoc}
