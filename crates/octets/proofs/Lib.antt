@@ -1,6 +1,5 @@
--- The laws of this crate, which other crates cite: numbers in octets, octets stored at a place, tests of every number below a bound, and
--- judging. The proof of each function stands in the folder of its name.
-pub mod Numbers
-pub mod Stores
-pub mod Each
-pub mod Judging
+-- The laws of `numbers`, passed on.
+pub use Rattle.numbers.proofs.Numbers
+pub use Rattle.numbers.proofs.Stores
+pub use Rattle.numbers.proofs.Each
+pub use Rattle.numbers.proofs.Judging

@@ -36,7 +36,7 @@ fn replay(tape: &[u8], store: &mut [u8]) {
 fn lend(tape: &[u8], store: &mut [u8])
     requires { ⌜ maxStoreOctets ≤ length (now store) ⌝ }
 {
-    let len = tape::event::store_length(tape);
+    let len = events::store_length(tape);
     replay(tape, &mut store[..len]);
 }
 

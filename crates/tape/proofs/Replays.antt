@@ -22,11 +22,12 @@ use Rattle.session.specs.declared.state.Settings.{Settings}
 use Rattle.session.specs.declared.state.State.{State}
 use Rattle.contents.specs.Tape.{eventCount, kindAt, serverAt, bodyLength, bodyAt, octetsAt, bodyOf, eventSound, maxTapeOctets, minEvents, maxEvents, tapeSound}
 use Rattle.lines.specs.Lines.{lineOf}
-use Rattle.tape.specs.Replay.{tableAnswer, outputBuffer, eventCall, callsFrom, linesOf, ifDone, tapeSettings, tapeSession, tapeStore, tapeCalls, replay, settingsOf}
+use Rattle.tape.specs.Replay.{outputBuffer, callsFrom, linesOf, ifDone, tapeSettings, tapeSession, tapeStore, tapeCalls, replay}
+use Rattle.events.specs.Events.{tableAnswer, eventCall, settingsOf}
 use Rattle.tape.specs.Turns.{Played, opened, played, turnsFrom, turns, TurnByTurn, CallsClaimed}
 use Rattle.tape.specs.declared.replay.Progress.{Progress}
 use Rattle.contents.proofs.Parts.{octets-part}
-use Rattle.tape.proofs.Events.{by-kind}
+use Rattle.events.proofs.Events.{by-kind}
 
 -- the settings that count are the state's
 pub outcome-settings : (p q : Settings) (x : Exporter) (e : Event) → outcome (sessionOf32 p) x e ≡ outcome (sessionOf32 q) x e

@@ -19,11 +19,13 @@ use Rattle.session.specs.declared.state.Made.{Made}
 use Rattle.session.specs.declared.state.Wrote.{Wrote}
 use Rattle.contents.specs.Tape.{eventCount, kindAt, serverAt, bodyLength, bodyAt, octetsAt, bodyOf, tapeSound}
 use Rattle.lines.specs.Lines.{lineOf, tapeRefused, lineOctets}
-use Rattle.tape.specs.Replay.{tableAnswer, outputBufferOctets, outputBuffer, eventCall, tapeSettings}
-use Rattle.tape.specs.Turns.{effect, Gives, Called, opened, indexOf, nextBody, nextEnd, tableTurn, nextCall, callTurn, played, CallReady, turnOf, Lined, Turned}
+use Rattle.tape.specs.Replay.{outputBufferOctets, outputBuffer, tapeSettings}
+use Rattle.events.specs.Events.{tableAnswer, eventCall}
+use Rattle.tape.specs.Turns.{opened, indexOf, nextBody, nextEnd, tableTurn, nextCall, callTurn, played, CallReady, turnOf, Lined, Turned}
+use Rattle.events.specs.Events.{effect, Gives, Called}
 use Rattle.tape.specs.declared.replay.Progress.{Progress}
 use Rattle.tape.specs.declared.replay.Turn.{Turn}
-use Rattle.tape.proofs.Events.{by-kind, same-call}
+use Rattle.events.proofs.Events.{by-kind, same-call}
 
 -- ---- what a call writes fits
 

@@ -1,41 +1,18 @@
 -- The whole replay of a tape: from its octets to the lines of the output (01, "Replay tape").
 use Prim.Native.Nat.{ℕ, zero, suc, _+_, _-_}
-use mathlib.Core.Bool.{cond, not}
-use mathlib.Core.List.{List, [], _∷_, map}
+use mathlib.Core.Bool.{cond}
+use mathlib.Core.List.{List, [], _∷_}
 use lib.Dec.{eqb}
-use lib.ListN.{length, drop, replicate}
-use Rattle.octets.specs.Answers.{_when_, judge, done, unsoundTable}
-use Rattle.octets.specs.Numbers.{uintAt}
-use Rattle.exporter.specs.Steps.{isSessions, setUp}
-use Rattle.exporter.specs.Claim.{Event, Put, NextData, Receive, OfferTemplates, LineDown, Tick, Session, sessionOf32, Exporter, outcome, advance, begin}
+use lib.ListN.{length, replicate}
+use Rattle.octets.specs.Answers.{done}
+use Rattle.exporter.specs.Steps.{setUp}
+use Rattle.exporter.specs.Claim.{Event, Session, sessionOf32, Exporter, outcome, advance, begin}
 use Rattle.session.specs.declared.state.Settings.{Settings}
-use Rattle.contents.specs.Tape.{eventCount, kindAt, serverAt, bodyOf, tapeSound, templateIdOctets, putKind, messageKind, downKind, tickKind, nextKind}
+use Rattle.contents.specs.Tape.{eventCount, kindAt, serverAt, bodyOf, tapeSound}
+use Rattle.events.specs.Events.{settingsOf, storeLength, tableAnswer, eventCall}
 use Rattle.lines.specs.Lines.{lineOf, tapeRefused}
 
--- ---- the first two events
-
--- The settings in the body of event 0: session, configuration, servers, threshold, duration, the length of the store (`storeLength`), the
--- first DSN, boot time and 8 priorities.
-unfoldable pub settingsOf : List ℕ → Settings
-settingsOf b =
-    record {
-      session = uintAt b 0 1;
-      config = uintAt b 1 1;
-      servers = uintAt b 2 1;
-      threshold = uintAt b 3 1;
-      duration = uintAt b 4 2;
-      initial = uintAt b 8 4;
-      boot = uintAt b 12 4;
-      priorities = map (λ k. uintAt b (16 + k) 1) (0 ∷ 1 ∷ 2 ∷ 3 ∷ 4 ∷ 5 ∷ 6 ∷ 7 ∷ []);
-    }
-
--- The length of the store; the body holds it minus 1.
-abbrev pub storeLength : List ℕ → ℕ
-storeLength b = uintAt b 6 2 + 1
-
--- Event 1 is judged as a put judges the table that it is lent.
-abbrev pub tableAnswer : Settings → List ℕ → ℕ
-tableAnswer p table = judge ((unsoundTable when not (isSessions p table)) ∷ [])
+-- ---- the session
 
 -- The settings of a tape.
 abbrev pub tapeSettings : List ℕ → Settings
@@ -58,18 +35,6 @@ outputBufferOctets = 16392
 -- The output buffer: a call looks at its length only.
 abbrev pub outputBuffer : List ℕ
 outputBuffer = replicate outputBufferOctets 0
-
--- The call of an event of a kind, with the server that it names, its body, and the output and the table that are lent; `Event` is the
--- exporter's name for a call with its arguments. A put's body is the template ID and the record. A sound tape has only the kinds 2 to 7
--- here; any other counts as an offer.
-unfoldable pub eventCall : ℕ → ℕ → List ℕ → List ℕ → List ℕ → Event
-eventCall kind server b out table =
-    cond (eqb kind putKind) (Put table (uintAt b 0 templateIdOctets) (drop templateIdOctets b))
-    (cond (eqb kind messageKind) (Receive server b out)
-    (cond (eqb kind downKind) (LineDown server)
-    (cond (eqb kind tickKind) Tick
-    (cond (eqb kind nextKind) (NextData out)
-    (OfferTemplates server table out)))))
 
 -- The calls of the n events from event i on: each put and offer is lent the tape's table, the body of event 1.
 unfoldable pub callsFrom : List ℕ → ℕ → ℕ → List Event

@@ -10,32 +10,15 @@ use lib.ListN.{length}
 use lib.Seq.{sets}
 use Rattle.octets.specs.Answers.{done}
 use Rattle.octets.specs.Numbers.{Octets}
-use Rattle.exporter.specs.Steps.{Outcome, setUp, wroteOf, outputAfter}
-use Rattle.exporter.specs.Claim.{Event, sessionOf32, outcome, storeLeft, Claim}
+use Rattle.exporter.specs.Steps.{setUp}
+use Rattle.exporter.specs.Claim.{Event, Claim}
 use Rattle.session.specs.declared.state.State.{State}
-use Rattle.session.specs.declared.state.Wrote.{Wrote}
 use Rattle.contents.specs.Tape.{eventCount, kindAt, serverAt, bodyLength, bodyAt, bodyOf, octetsAt, tapeSound}
 use Rattle.lines.specs.Lines.{lineOf, tapeRefused, lineOctets}
-use Rattle.tape.specs.Replay.{tableAnswer, outputBufferOctets, outputBuffer, eventCall, tapeSettings, tapeSession, tapeStore, tapeCalls, replay}
+use Rattle.events.specs.Events.{tableAnswer, eventCall, effect, effectStore}
+use Rattle.tape.specs.Replay.{outputBufferOctets, outputBuffer, tapeSettings, tapeSession, tapeStore, tapeCalls, replay}
 use Rattle.tape.specs.declared.replay.Progress.{Progress}
 use Rattle.tape.specs.declared.replay.Turn.{Turn}
-
--- The outcome of a call of an exporter with a state and a store.
-abbrev pub effect : State → List ℕ → Event → Outcome
-effect s store e = outcome (sessionOf32 (s .settings)) (record { state = s; store = store }) e
-
--- The store after that call.
-abbrev pub effectStore : State → List ℕ → Event → List ℕ
-effectStore s store e = storeLeft (record { state = s; store = store }) e (effect s store e)
-
--- A call gives this answer, and leaves this store and this output.
-abbrev pub Gives : State → List ℕ → List ℕ → Event → Wrote → List ℕ → List ℕ → Type 0
-Gives s store out e r storeAfter outAfter =
-    (r ≡ wroteOf (effect s store e)) × ((storeAfter ≡ effectStore s store e) × (outAfter ≡ outputAfter out (effect s store e)))
-
--- The same of an event's call, which is lent this table.
-abbrev pub Called : List ℕ → State → List ℕ → List ℕ → (List ℕ → Event) → Wrote → List ℕ → List ℕ → Type 0
-Called table s store out call r storeAfter outAfter = Gives s store out (call table) r storeAfter outAfter
 
 -- What a turn gives: its line, the octets that its call wrote, how far the replay is and the store afterwards.
 pub record Played : Type 0 where

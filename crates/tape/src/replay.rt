@@ -34,7 +34,7 @@ pub fn open_tape(tape: &[u8], store: &[u8], text: &mut [u8; LINE_OCTETS]) -> Tur
     ensures { λ r. ⌜ (r ≡ turnOf (opened (now (tape .entry)) (now (store .entry))))
         × (now (text .exit) ≡ sets (now (text .entry)) 0 (opened (now (tape .entry)) (now (store .entry)) .line)) ⌝ }
 {
-    let settings = crate::event::settings_of(contents::body(tape, 0));
+    let settings = events::settings_of(contents::body(tape, 0));
     let made = exporter::set_up::set_up(settings, store);
     let state = made.state;
     let at = contents::body_at(tape, 1);
@@ -62,8 +62,8 @@ fn take_table(r: Progress, tape: &[u8], at: usize, text: &mut [u8]) -> Turn
     requires { ⌜ TableReady (now tape) r at (now text) ⌝ }
     ensures { λ x. ⌜ Lined (tableTurn (now (tape .entry)) r []) (now (text .entry)) x (now (text .exit)) ⌝ }
 {
-    let settings = crate::event::settings_of(contents::body(tape, 0));
-    let answer = crate::event::table_answer(settings, contents::body(tape, 1));
+    let settings = events::settings_of(contents::body(tape, 0));
+    let answer = events::table_answer(settings, contents::body(tape, 1));
     let len = lines::write_line(1, answer, &tape[..0], text);
     let state = r.state;
     let mut left: usize = 0;
@@ -106,7 +106,7 @@ fn take_call<'a>(
     let kind = contents::kind_at(tape, i);
     let server = contents::server_at(tape, i);
     let old = r.state;
-    let wrote = crate::event::call(old, kind, server, b, table, store, out);
+    let wrote = events::call(old, kind, server, b, table, store, out);
     let written = wrote.written;
     let len = lines::write_line(i as usize, wrote.answer, &out[..written], text);
     let state = wrote.state;

@@ -3,7 +3,7 @@
 use mathlib.Core.Path.{sym}
 use native.Mathlib.Omega.{arith}
 use lib.Seq.{length-take-le}
-use Rattle.tape.proofs.Events.{store-small}
+use Rattle.events.proofs.Events.{store-small}
 use borrow.Author.Needs.{needs}
 use Rattle.replay.proofs.lend.Statement.{statement}
 use Rattle.replay.proofs.lend.Tie as tie

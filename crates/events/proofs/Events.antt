@@ -1,0 +1,130 @@
+-- Laws of the events: the call that an event makes, by its kind, and what the calls without a message write. A kind is tested against each
+-- name in turn, so its call is that of the first test that holds. Of the output a call looks at nothing but the length.
+use mathlib.Core.Path.{_≡_, refl, sym, ap}
+use mathlib.Core.Bool.{Bool, true, false, cond}
+use mathlib.Core.List.{List, []}
+use Prim.Native.Nat.{ℕ, _≤_}
+use native.Mathlib.Omega.{arith}
+use lib.ListN.{length, drop}
+use lib.Dec.{eqb}
+use borrow.Author.Tests.{ne-eqb}
+use Rattle.octets.specs.Numbers.{uintAt, Octets}
+use Rattle.octets.proofs.Numbers.{uint-below}
+use Rattle.session.specs.Limits.{maxStoreOctets}
+use Rattle.session.specs.Servers.{down, offer}
+use Rattle.session.specs.Steps.{put, nextData, tick, move, received, step, written, Outcome, steppedOf, wroteOf, outputAfter, putStep, tickStep, lineDownStep}
+use Rattle.session.proofs.Written.{writes-nothing}
+use Rattle.session.specs.Claim.{Event, Put, NextData, Receive, OfferTemplates, LineDown, Tick}
+use Rattle.session.specs.declared.state.State.{State}
+use Rattle.session.specs.declared.state.Stepped.{Stepped}
+use Rattle.session.specs.declared.state.Wrote.{Wrote}
+use Rattle.contents.specs.Tape.{putKind, messageKind, downKind, tickKind, nextKind, bodyLength, bodyAt, bodyOf}
+use Rattle.contents.proofs.Parts.{octets-part}
+use Rattle.events.specs.Events.{eventCall, storeLength}
+use Rattle.events.specs.Events.{effect, effectStore, Gives}
+
+-- ---- the call by the kind
+
+pub is-put : (kind server : ℕ) (b out table : List ℕ) (id : ℕ) (r : List ℕ) → kind ≡ putKind → id ≡ uintAt b 0 2 → r ≡ drop 2 b → eventCall kind server b out table ≡ Put table id r
+unfolding eventCall
+is-put kind server b out table id r e f g = rw (e, f, g) refl
+
+pub is-message : (kind server : ℕ) (b out table : List ℕ) → kind ≡ messageKind → eventCall kind server b out table ≡ Receive server b out
+unfolding eventCall
+is-message kind server b out table e = rw e refl
+
+pub is-down : (kind server : ℕ) (b out table : List ℕ) → kind ≡ downKind → eventCall kind server b out table ≡ LineDown server
+unfolding eventCall
+is-down kind server b out table e = rw e refl
+
+pub is-tick : (kind server : ℕ) (b out table : List ℕ) → kind ≡ tickKind → eventCall kind server b out table ≡ Tick
+unfolding eventCall
+is-tick kind server b out table e = rw e refl
+
+pub is-next : (kind server : ℕ) (b out table : List ℕ) → kind ≡ nextKind → eventCall kind server b out table ≡ NextData out
+unfolding eventCall
+is-next kind server b out table e = rw e refl
+
+-- any other kind
+pub is-offer : (kind server : ℕ) (b out table : List ℕ) → (kind ≡ putKind → ⊥) → (kind ≡ messageKind → ⊥) → (kind ≡ downKind → ⊥)
+    → (kind ≡ tickKind → ⊥) → (kind ≡ nextKind → ⊥) → eventCall kind server b out table ≡ OfferTemplates server table out
+unfolding eventCall
+is-offer kind server b out table p m d t n =
+    rw (ne-eqb kind putKind p, ne-eqb kind messageKind m, ne-eqb kind downKind d, ne-eqb kind tickKind t, ne-eqb kind nextKind n) refl
+
+-- What holds of the calls of each kind, lent one output and another, holds of an event's calls.
+pub by-kind : (R : Event → Event → Type 0) (kind server : ℕ) (b out more table : List ℕ)
+    → R (Put table (uintAt b 0 2) (drop 2 b)) (Put table (uintAt b 0 2) (drop 2 b)) → R (Receive server b out) (Receive server b more)
+    → R (LineDown server) (LineDown server) → R Tick Tick → R (NextData out) (NextData more) → R (OfferTemplates server table out) (OfferTemplates server table more)
+    → R (eventCall kind server b out table) (eventCall kind server b more table)
+unfolding eventCall
+by-kind R kind server b out more table p m d k n o = go (eqb kind putKind) (eqb kind messageKind) (eqb kind downKind) (eqb kind tickKind) (eqb kind nextKind)
+  where
+    of : Bool → Bool → Bool → Bool → Bool → List ℕ → Event
+    of c₁ c₂ c₃ c₄ c₅ lent = cond c₁ (Put table (uintAt b 0 2) (drop 2 b)) (cond c₂ (Receive server b lent) (cond c₃ (LineDown server) (cond c₄ Tick (cond c₅ (NextData lent) (OfferTemplates server table lent)))))
+
+    go : (c₁ c₂ c₃ c₄ c₅ : Bool) → R (of c₁ c₂ c₃ c₄ c₅ out) (of c₁ c₂ c₃ c₄ c₅ more)
+    go true c₂ c₃ c₄ c₅ = p
+    go false true c₃ c₄ c₅ = m
+    go false false true c₄ c₅ = d
+    go false false false true c₅ = k
+    go false false false false true = n
+    go false false false false false = o
+
+-- the same outcome, and the same store after it
+abbrev pub Same : State → List ℕ → Event → Event → Type 0
+Same s store e f = (effect s store e ≡ effect s store f) × (effectStore s store e ≡ effectStore s store f)
+
+-- A call looks at the output's length only.
+pub same-call : (table : List ℕ) (s : State) (store : List ℕ) (kind server : ℕ) (b out more : List ℕ) → length out ≡ length more
+    → Same s store (eventCall kind server b out table) (eventCall kind server b more table)
+same-call table s store kind server b out more e =
+    by-kind (Same s store) kind server b out more table (refl, refl)
+    (ap (λ (n : ℕ). step 32 [] n (received (s .settings) server b) s []) e, refl) (refl, refl) (refl, refl)
+    (ap (λ (n : ℕ). step 32 [] n nextData s store) e, refl)
+    (ap (λ (n : ℕ). step 32 table n (move server offer) s []) e, refl)
+
+-- ---- calls that write nothing
+
+-- what such a call hands back
+pub stepped : (o : Outcome) (s : Stepped) (r : Wrote) → o .written ≡ [] → s ≡ steppedOf o
+    → r ≡ record { answer = s .answer; written = 0; state = s .state } → r ≡ wroteOf o
+stepped o s r e f g = rw (g, f) (ap (λ (l : List ℕ). record { answer = o .answer; written = length l; state = o .state }) (sym e))
+
+-- ---- each call, by what the exporter ensures of it
+
+pub put-called : (s : State) (store out : List ℕ) (e : Event) (table : List ℕ) (id : ℕ) (r : List ℕ) (st : Stepped) (x : Wrote) (after : List ℕ)
+    → e ≡ Put table id r → st ≡ steppedOf (putStep 32 s store table id r) → after ≡ putStep 32 s store table id r .store
+    → x ≡ record { answer = st .answer; written = 0; state = st .state } → Gives s store out e x after out
+unfolding written
+put-called s store out e table id r st x after f g h k =
+    let q = writes-nothing 32 table 0 (put id r) s store refl in
+    rw f (stepped (putStep 32 s store table id r) st x q g k, (h, rw q refl))
+
+pub down-called : (s : State) (store out : List ℕ) (e : Event) (v : ℕ) (st : Stepped) (x : Wrote)
+    → e ≡ LineDown v → st ≡ steppedOf (lineDownStep 32 s v)
+    → x ≡ record { answer = st .answer; written = 0; state = st .state } → Gives s store out e x store out
+unfolding written
+down-called s store out e v st x f g k =
+    let q = writes-nothing 32 [] 0 (move v down) s [] refl in
+    rw f (stepped (lineDownStep 32 s v) st x q g k, (refl, rw q refl))
+
+pub tick-called : (s : State) (store out : List ℕ) (e : Event) (st : Stepped) (x : Wrote)
+    → e ≡ Tick → st ≡ steppedOf (tickStep 32 s)
+    → x ≡ record { answer = st .answer; written = 0; state = st .state } → Gives s store out e x store out
+unfolding written
+tick-called s store out e st x f g k =
+    let q = writes-nothing 32 [] 0 tick s [] refl in
+    rw f (stepped (tickStep 32 s) st x q g k, (refl, rw q refl))
+
+-- a call that may write: its answer and its output are what the exporter ensures
+pub wrote-called : (s : State) (store out : List ℕ) (e f : Event) (x : Wrote) (after : List ℕ) → e ≡ f
+    → x ≡ wroteOf (effect s store f) → after ≡ outputAfter out (effect s store f) → store ≡ effectStore s store f
+    → Gives s store out e x store after
+wrote-called s store out e f x after g h k l = rw g (h, (l, k))
+
+-- the store that a tape names is no longer than the longest
+pub store-small : (t : List ℕ) → Octets t → storeLength (bodyOf t 0) ≤ maxStoreOctets
+store-small t h =
+    let n = uint-below (bodyOf t 0) (octets-part t h (bodyAt t 0) (bodyLength t 0)) 6 2 in
+    omega (arith, n)

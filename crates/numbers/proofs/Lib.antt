@@ -1,0 +1,6 @@
+-- The laws of this crate, which other crates cite: numbers in octets, octets stored at a place, tests of every number below a bound, and
+-- judging.
+pub mod Numbers
+pub mod Stores
+pub mod Each
+pub mod Judging
