@@ -1,5 +1,5 @@
-// Reading: unsigned numbers of 8, 16, 32 and 64 bits, or of any width, at a place of a slice, most significant octet first; and whether octets
-// there are ASCII. `octets` passes these on.
+// Reading: unsigned numbers of 8, 16, 32 and 64 bits, or of any width, at a place of a slice, most significant octet first; and whether
+// octets there are ASCII. `octets` passes these on.
 //
 // Every function is total: a read past the end reads 0.
 ghost use mathlib.Core.Path.{_≡_};

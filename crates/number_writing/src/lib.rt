@@ -1,5 +1,5 @@
-// Writing: unsigned numbers of 8, 16, 32 and 64 bits, or of any width, most significant octet first, and octets, to a place of a slice. `octets`
-// passes these on.
+// Writing: unsigned numbers of 8, 16, 32 and 64 bits, or of any width, most significant octet first, and octets, to a place of a slice.
+// `octets` passes these on.
 //
 // Every function is total: a write that does not fit changes nothing.
 ghost use mathlib.Core.Path.{_≡_};

@@ -1,5 +1,6 @@
 // Unsigned numbers of 8, 16, 32 and 64 bits at a place of a slice, most significant octet first, octets copied to a place or judged there,
-// and the answer numbers that all crates share. The functions stand in `number_reading` and `number_writing`, the definitions and laws in `numbers`.
+// and the answer numbers that all crates share. The functions stand in `number_reading` and `number_writing`, the definitions and laws in
+// `numbers`.
 //
 // Every function is total: a read past the end reads 0, and a write that does not fit changes nothing.
 ghost use mathlib.Core.Path.{_≡_};

@@ -53,11 +53,14 @@ pub fn record_start(capacity: usize, start: usize, lengths: &[u16; MAX_HELD], i:
     past % capacity
 }
 
+// How many servers the bits of a set can name.
+const SET_BITS: u8 = 16;
+
 // Whether a server is in a set.
 pub fn has_server(set: u16, v: u8) -> bool
     ensures { λ r. ⌜ r ≡ has set v ⌝ }
 {
-    if v < 16 {
+    if v < SET_BITS {
         return (set >> v) % 2 == 1;
     }
     false
