@@ -37,6 +37,8 @@ pub record Core (w : ℕ) (l : Ledger) (s : State) (store : List ℕ) : Type 0 w
   -- each place that was reached was written to the active server in its activation
   pub since : (v k : ℕ) → s .delivery .active ≡ Server v → l .released < k → k ≤ l .released + s .delivery .reached
       → writtenIn (l .writings) k v (l .activation) ≡ true
+  -- and none beyond those was
+  pub until : (v k : ℕ) → writtenIn (l .writings) k v (l .activation) ≡ true → k ≤ l .released + s .delivery .reached
 
 pub record Agrees (w : ℕ) (h : History) (s : State) (store : List ℕ) : Type 0 where
   pub delivery : h .delivery ≡ s .delivery

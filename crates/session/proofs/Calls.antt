@@ -2,10 +2,11 @@
 -- stands for a place of the queue, with the same record, DSN and servers, so that the checks of the state are those due by the history.
 --
 use mathlib.Core.Path.{_≡_, refl, sym, ap, _∙_, subst}
-use mathlib.Core.Bool.{Bool, true, false, not, _&&_, _||_, cond}
+use mathlib.Core.Logic.{inl, inr}
+use mathlib.Core.Bool.{Bool, true, false, not, _&&_, _||_, cond, false≢true}
 use mathlib.Core.List.{List, [], _∷_, _++_}
 use Prim.Native.Nat.{ℕ, _+_, _-_, _≤_, _<_}
-use native.Mathlib.Nat.{zero-add}
+use native.Mathlib.Nat.{zero-add, mod-lt}
 use native.Mathlib.Decide.{decLt}
 use native.Mathlib.Omega.{arith}
 use lib.Dec.{eqb, leb, ltb}
@@ -22,13 +23,14 @@ use Rattle.session.specs.Servers.{sameActive, changed, settle, Transitio
 use Rattle.session.specs.Queue.{Entry, sumOf, heldOctets, held}
 use Rattle.session.specs.Limits.{maxHeld}
 use Rattle.session.specs.Steps.{modulus, ackCount, Call, put, nextData, tick, ack, move, isDuplicate, headOf, written, isSessions, checks, soundFor, answer, after, settled, storeAfter, Outcome, step}
-use Rattle.session.specs.History.{Ledger, History, dsnOf, ackPlace, deliveryAfter, ledgerAfter, afterAccepted, afterCall}
-use Rattle.session.specs.Claim.{Session, InRange, entryAt, nextPlace, isDuplicateFor, dueMessage, octetsIn, dueChecks, Named, ReleasedBy, CallClaim, Account}
+use Rattle.session.specs.History.{Ledger, History, dsnOf, ackPlace, deliveryAfter, ledgerAfter, afterAccepted, afterCall, writtenIn}
+use Rattle.session.specs.Claim.{Session, InRange, entryAt, nextPlace, isDuplicateFor, dueMessage, octetsIn, dueChecks, Named, ReleasedBy, Acknowledgeable, CallClaim, Account}
 use Rattle.session.specs.declared.state.Active.{Active}
 use Rattle.session.specs.declared.state.Active.the-variants.{Nobody, Server}
 use Rattle.session.specs.declared.state.Delivery.{Delivery}
 use Rattle.session.specs.declared.state.State.{State}
-use Rattle.session.proofs.SoundFacts.{SoundFacts, sound-facts, same-active}
+use Rattle.session.proofs.SoundFacts.{SoundFacts, sound-facts, same-active, active-same}
+use Rattle.session.proofs.Choice.{chosen-below}
 use Rattle.session.proofs.Places.{one-place, reached-test}
 use Rattle.session.proofs.QueueLaws.{duplicate-same, noEntry, heldAt, held-length, held-octets}
 use Rattle.session.proofs.Agrees.{Core, Agrees}
@@ -339,6 +341,39 @@ module _ (w : ℕ) (table : List ℕ) (room : ℕ) (h : History) (s : State) (st
         wasWritten = a .core .since v q active lo (omega (arith, ack-named w (h .ledger) s store wide (a .isSound) (a .sized) (a .core) d i n));
       }
 
+  dsn-below : (q : ℕ) → dsnOf w (s .settings) q < modulus w
+  unfolding dsnOf
+  dsn-below q = mod-lt _ (omega arith)
+
+  -- a place that the active server can acknowledge is the released number, or one of those reached
+  within-reached : (v q : ℕ) → Acknowledgeable h v q → (h .ledger .released ≤ q) × (q ≤ h .ledger .released + s .delivery .reached)
+  within-reached v q (inl e) = (omega arith, omega arith)
+  within-reached v q (inr x) = (omega (arith, x .0), a .core .until v q (x .1))
+
+  -- so its DATA ACK names no more than was reached, and passes every test
+  honest-ack : (v q : ℕ) → s .delivery .active ≡ Server v → Acknowledgeable h v q
+      → judge (checks w table room (ack v (dsnOf w (s .settings) q) (s .settings .config)) s store) ≡ done
+  unfolding checks
+  honest-ack v q active x =
+      let d : ℕ = dsnOf w (s .settings) q in
+      let n : ℕ = ackCount w s d in
+      let c = a .core in
+      let far = within-reached v q x in
+      let same : h .ledger .released + n ≡ q =
+      one-place w (s .settings) wide (h .ledger .released + n) q
+      (omega (arith, ack-below w (h .ledger) s store wide (a .isSound) (a .sized) c d))
+      (omega (arith, far .1, facts .numbers .reachedHeld, facts .numbers .few))
+      (ack-dsn w (h .ledger) s store wide (a .isSound) (a .sized) c d (dsn-below q)) in
+      let below : v < s .settings .servers =
+      chosen-below (s .settings .priorities) (s .delivery .servers) (s .settings .servers) v (sym (facts .choice) ∙ active) in
+      let turn : sameActive (s .delivery .active) (Server v) ≡ true = rw active (active-same (Server v)) in
+      rw (
+        lt-leb (s .settings .servers) v below,
+        turn,
+        eq-eqb (s .settings .config) (s .settings .config) refl,
+        le-ltb (s .delivery .reached) n (omega (arith, far .1)),
+      )
+
   due-putting : (id : ℕ) (r : List ℕ) → isSessions (s .settings) table ≡ true → isMissing table id ≡ false
       → recordValid table (templateOf table id) r ≡ true → length r ≤ maxRecordOctets
       → not (eqb (judge (checks w table room (put id r) s store)) done) ≡ (leb maxHeld (length (held s store)) || ltb (length store) (octetsIn (held s store) + length r))
@@ -394,11 +429,32 @@ module _ (w : ℕ) (table : List ℕ) (room : ℕ) (h : History) (s : State) (st
         accepted = λ e x. next-accepted (checked nextData e x);
         names = λ v d config e x. names-one v d config (subst (InRange w) e i) (checked (ack v d config) e x);
         releases = step-releases k i (o .answer) (sym (call-answer k));
+        honest = λ v q e active x.
+            call-answer k
+            ∙ ap (λ (j : Call). judge (checks w table room j s store)) e
+            ∙ honest-ack v q (sym (ap (λ (y : Delivery). y .active) (a .delivery)) ∙ active) x;
         putting = λ id r e t m v b.
             ap (λ (n : ℕ). not (eqb n done)) (call-answer k)
             ∙ ap (λ (j : Call). not (eqb (judge (checks w table room j s store)) done)) e
             ∙ due-putting id r t m v b;
       }
+
+-- of the places that are not released, exactly the reached ones were written to the active server in its activation
+pub reached-written : {w : ℕ} {h : History} {s : State} {store : List ℕ} → Agrees w h s store → (v q : ℕ) → h .delivery .active ≡ Server v
+    → h .ledger .released < q
+    → writtenIn (h .ledger .writings) q v (h .ledger .activation) ≡ leb q (h .ledger .released + h .delivery .reached)
+reached-written {w} {h} {s} {store} a v q active lo = rw (a .delivery) (go (writtenIn (h .ledger .writings) q v (h .ledger .activation)) refl)
+  where
+    go : (b : Bool) → writtenIn (h .ledger .writings) q v (h .ledger .activation) ≡ b → b ≡ leb q (h .ledger .released + s .delivery .reached)
+    go true e = sym (le-leb q (h .ledger .released + s .delivery .reached) (a .core .until v q e))
+    go false e =
+        sym (lt-leb q (h .ledger .released + s .delivery .reached)
+        (beyond (decLt (h .ledger .released + s .delivery .reached) q)))
+      where
+        beyond : Dec (h .ledger .released + s .delivery .reached < q) → h .ledger .released + s .delivery .reached < q
+        beyond (yes y) = y
+        beyond (no n) =
+            absurd (false≢true (sym e ∙ a .core .since v q (sym (ap (λ (y : Delivery). y .active) (a .delivery)) ∙ active) lo (omega (arith, n))))
 
 -- the accepted records are the released ones and the held ones
 pub account-of : {w : ℕ} {h : History} {s : State} {store : List ℕ} → Agrees w h s store → Account (h .ledger) (held s store)

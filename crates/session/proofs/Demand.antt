@@ -27,7 +27,7 @@ use Rattle.session.proofs.Places.{wide-modulus, dsn-first}
 use Rattle.session.proofs.Agrees.{Agrees}
 use Rattle.session.proofs.SoundKept.{fresh-sound}
 use Rattle.session.proofs.Keeps.{begun-released, written-released}
-use Rattle.session.proofs.Calls.{step-settings, step-keeps, judge-other, Fair, call-claim, account-of}
+use Rattle.session.proofs.Calls.{step-settings, step-keeps, judge-other, Fair, call-claim, reached-written, account-of}
 
 -- ---- what a call is lent
 
@@ -188,6 +188,7 @@ module _ (z : Session) (wide : 64 < modulus (z .width)) where
         accepted = y .accepted;
         names = y .names;
         releases = y .releases;
+        honest = y .honest;
         putting = y .putting;
       }
 
@@ -269,6 +270,7 @@ fresh-agrees w p store wide e i =
         starts = refl;
         later = λ k h. refl;
         since = λ v k x lo hi. let y : ⊥ = omega arith in absurd y;
+        until = λ v k x. absurd (false≢true x);
       };
     }
 
@@ -293,6 +295,7 @@ demand3 z store m es i =
     record {
       account = account-of (c .agrees);
       last = last-named (z .width) (z .settings) freshHistory 0 (transcript z (begin z store) es) refl;
+      reached = reached-written (c .agrees);
       calls = each-call z wide (begin z store) freshHistory es i k;
       isSound = c .agrees .isSound;
       settings = c .settings;

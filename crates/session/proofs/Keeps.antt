@@ -2,7 +2,7 @@
 -- of them, and a set gains the server that the ledger notes of the same writing. That the state stays sound is shown for itself
 -- (`SoundKept`).
 use mathlib.Core.Path.{_≡_, refl, sym, ap, _∙_}
-use mathlib.Core.Bool.{Bool, true, false, _&&_, _||_, cond}
+use mathlib.Core.Bool.{Bool, true, false, _&&_, _||_, cond, false≢true}
 use mathlib.Core.List.{List, [], _∷_, _++_}
 use Prim.Native.Nat.{ℕ, _+_, _-_, _%_, _≤_, _<_, max}
 use native.Mathlib.Nat.{mod-lt}
@@ -19,7 +19,7 @@ use Rattle.session.specs.Servers.{chosen, changed, settle, withServers, 
 use Rattle.session.specs.Queue.{Entry, heldOctets, recordAt, has, with, pushed, dropFront, marked}
 use Rattle.session.specs.Sound.{sound}
 use Rattle.session.specs.Steps.{modulus, firstHeld, dsnAt, ackCount, Call, put, nextData, tick, ack, move, checks, withDelivery, after, settled, storeAfter}
-use Rattle.session.specs.History.{Ledger, withActivation, dsnOf, ackPlace, deliveryAfter, writtenBy, ledgerAfter, anyWriting, writtenIn}
+use Rattle.session.specs.History.{Writing, Ledger, withActivation, dsnOf, ackPlace, deliveryAfter, writtenBy, ledgerAfter, anyWriting, writtenIn, writtenDuring}
 use Rattle.session.specs.Claim.{InRange}
 use Rattle.session.specs.declared.state.Active.{Active}
 use Rattle.session.specs.declared.state.Active.the-variants.{Nobody, Server}
@@ -46,6 +46,22 @@ begun-released false l = refl
 pub written-released : (v : Active) (q : ℕ) (l : Ledger) → writtenBy v q l .released ≡ l .released
 written-released Nobody q l = refl
 written-released (Server v) q l = refl
+
+-- what was written to a server in an activation was written in it
+in-during : (ws : List Writing) (q v k : ℕ) → writtenIn ws q v k ≡ true → writtenDuring ws k ≡ true
+unfolding anyWriting
+in-during [] q v k e = e
+in-during (x ∷ xs) q v k e = go (eqb (x .place) q) (eqb (x .server) v) (eqb (x .activation) k) (writtenIn xs q v k) (writtenDuring xs k) e (in-during xs q v k)
+  where
+    go : (a b c r d : Bool) → (a && b && c) || r ≡ true → (r ≡ true → d ≡ true) → c || d ≡ true
+    go true true true r d e f = refl
+    go true true false r d e f = f e
+    go true false true r d e f = refl
+    go true false false r d e f = f e
+    go false true true r d e f = refl
+    go false true false r d e f = f e
+    go false false true r d e f = refl
+    go false false false r d e f = f e
 
 -- the choice made anew
 pub settle-keeps : {w : ℕ} {l : Ledger} {s : State} {store : List ℕ} → Core w l s store
@@ -77,6 +93,7 @@ settle-keeps {w} {l} {s} {store} c = go (changed (s .settings) (s .delivery))
           starts = rw (c .later (l .activation + 1) (omega arith));
           later = λ k h. c .later k (omega arith);
           since = λ v k e h b. let z : ⊥ = omega arith in absurd z;
+          until = λ v k e. absurd (false≢true (sym (c .later (l .activation + 1) (omega arith)) ∙ in-during (l .writings) k v (l .activation + 1) e));
         }
     go false =
         record {
@@ -86,6 +103,7 @@ settle-keeps {w} {l} {s} {store} c = go (changed (s .settings) (s .delivery))
           starts = c .starts;
           later = c .later;
           since = c .since;
+          until = c .until;
         }
 
 -- a tick, and a transition of a server
@@ -100,6 +118,7 @@ calm-keeps {s} {store} d m c =
       starts = c .starts;
       later = c .later;
       since = λ v k e h b. c .since v k (sym (m .active) ∙ e) h (omega arith);
+      until = λ v k e. omega (arith, c .until v k e, m .reached);
     }
 
 -- ---- the calls
@@ -147,6 +166,7 @@ module _ (w : ℕ) (l : Ledger) (s : State) (store : List ℕ) (wide : 64 < modu
         starts = c .starts;
         later = c .later;
         since = c .since;
+        until = c .until;
       }
 
   -- next data, where server v is active
@@ -178,8 +198,15 @@ module _ (w : ℕ) (l : Ledger) (s : State) (store : List ℕ) (wide : 64 < modu
         starts = rw (eq-eqb (l .activation) (l .activation) refl);
         later = λ j g. rw (ne-eqb (l .activation) j (λ z. omega arith)) (c .later j g);
         since = λ u j e lo hi. recent u j (cc) lo hi (ℕ-discrete j place);
+        until = λ u j e. far u j e (ℕ-discrete j place);
       })
     where
+      far : (u j : ℕ)
+          → (eqb (l .released + (s .delivery .sent + 1)) j && eqb v u && eqb (l .activation) (l .activation)) || writtenIn (l .writings) j u (l .activation) ≡ true
+          → Dec (j ≡ l .released + (s .delivery .sent + 1)) → j ≤ l .released + max (s .delivery .reached) (s .delivery .sent + 1)
+      far u j e (yes z) = omega arith
+      far u j e (no n) = omega (arith, c .until u j (rw (ne-eqb (l .released + (s .delivery .sent + 1)) j (λ y. n (sym y))) at e))
+
       recent : (u j : ℕ) → v ≡ u → l .released < j → j ≤ l .released + max (s .delivery .reached) (s .delivery .sent + 1)
           → Dec (j ≡ l .released + (s .delivery .sent + 1))
           → (eqb (l .released + (s .delivery .sent + 1)) j && eqb v u && eqb (l .activation) (l .activation)) || writtenIn (l .writings) j u (l .activation) ≡ true
@@ -253,6 +280,7 @@ module _ (w : ℕ) (l : Ledger) (s : State) (store : List ℕ) (wide : 64 < modu
         starts = c .starts;
         later = c .later;
         since = λ u j x lo hi. c .since u j (sym (low .active) ∙ x) (omega arith) (omega (arith, low .reached));
+        until = λ u j x. omega (arith, c .until u j x, low .reached);
       })
 
   -- every accepted call

@@ -1,7 +1,7 @@
 -- Demand 3: what holds of every list of calls from a fresh exporter (01, "History").
 use Prim.Native.Nat.{ℕ, _+_, _-_, _≤_, _<_}
 use mathlib.Core.Path.{_≡_}
-use mathlib.Core.Logic.{_≢_}
+use mathlib.Core.Logic.{_≢_, _⊎_}
 use mathlib.Core.Bool.{Bool, true, false, not, _&&_, _||_, cond}
 use mathlib.Core.List.{List, [], _∷_, _++_}
 use lib.Dec.{eqb, leb, ltb}
@@ -240,6 +240,11 @@ pub record ReleasedBy (h : History) (c : Call) (q : ℕ) : Type 0 where
   pub isActive : h .delivery .active ≡ active.Server server
   pub wasWritten : writtenIn (h .ledger .writings) q server (h .ledger .activation) ≡ true
 
+-- Server v can acknowledge place q: it is the released number, or a place behind it that was written to v in the present activation.
+abbrev pub Acknowledgeable : History → ℕ → ℕ → Type 0
+Acknowledgeable h v q =
+    (q ≡ h .ledger .released) ⊎ ((h .ledger .released < q) × (writtenIn (h .ledger .writings) q v (h .ledger .activation) ≡ true))
+
 -- Answers, messages and releases, sentence by sentence.
 pub record CallClaim (z : Session) (capacity room : ℕ) (table : List ℕ) (h : History) (hs : List Entry) (c : Call) (o : Outcome)
     : Type 0 where
@@ -257,6 +262,10 @@ pub record CallClaim (z : Session) (capacity room : ℕ) (table : List ℕ) (h :
   -- whatever a call releases was written to the acknowledging server in its activation
   pub releases : (q : ℕ) → h .ledger .released < q → q ≤ afterCall (z .width) (z .settings) c (o .answer) h .ledger .released
       → ReleasedBy h c q
+  -- a DATA ACK of the active server and the session's configuration is accepted where it names the released number or a place that was
+  -- written to that server in its activation, sent again or not: so it is never answered 11
+  pub honest : (v q : ℕ) → c ≡ ack v (dsnOf (z .width) (z .settings) q) (z .settings .config) → h .delivery .active ≡ active.Server v
+      → Acknowledgeable h v q → o .answer ≡ done
   -- a sentence of the demand, which follows from `answered`: under a sound table of the session's Configuration ID a valid record of at
   -- most 1,024 octets is refused exactly where 64 are held or its octets do not fit beside the held ones
   pub putting : (id : ℕ) (r : List ℕ) → c ≡ put id r → isSessions (z .settings) table ≡ true → isMissing table id ≡ false
@@ -304,6 +313,9 @@ pub record Claim (z : Session) (store : List ℕ) (es : List Event) : Type 0 whe
   -- the history counts releases as it should, whatever the exporter does: the number released is the place named by the last accepted
   -- DATA ACK, 0 before the first
   pub last : historyOf z store es .ledger .released ≡ lastNamed (z .width) (z .settings) freshHistory 0 (transcript z (begin z store) es)
+  -- of the places that are not released, exactly the first `reached` were written to the active server in its activation
+  pub reached : let h = historyOf z store es in (v q : ℕ) → h .delivery .active ≡ active.Server v → h .ledger .released < q
+      → writtenIn (h .ledger .writings) q v (h .ledger .activation) ≡ leb q (h .ledger .released + h .delivery .reached)
   -- every call is answered, writes and releases as the history has it
   pub calls : Calls z (begin z store) freshHistory es
   -- the state is sound, keeps its settings and its store's length, and agrees with the history
