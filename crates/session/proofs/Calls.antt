@@ -36,6 +36,7 @@ use Rattle.session.proofs.QueueLaws.{duplicate-same, noEntry, heldAt, h
 use Rattle.session.proofs.Agrees.{Core, Agrees}
 use Rattle.session.proofs.SoundKept.{after-sized, accepted-sound}
 use Rattle.session.proofs.HeldLaws.{held-read}
+use Rattle.session.proofs.StepLaws.{step-answer}
 use Rattle.session.proofs.Keeps.{begun, begun-released, written-released, settle-keeps, held-dsn, acked, ack-dsn, ack-below, ack-named, call-keeps, call-delivery}
 
 -- ---- the state is sound
@@ -61,18 +62,6 @@ accepted w table k s store =
 
 abbrev refused : ℕ → State → List ℕ → Outcome
 refused a s store = record { answer = a; state = s; store = store; written = [] }
-
-step-answer : (w : ℕ) (table : List ℕ) (room : ℕ) (k : Call) (s : State) (store : List ℕ)
-    → step w table room k s store .answer ≡ answer w table room k s store
-unfolding step
-step-answer w table room k s store = go (eqb (answer w table room k s store) done) refl
-  where
-    a : ℕ
-    a = answer w table room k s store
-
-    go : (b : Bool) → eqb a done ≡ b → cond b (accepted w table k s store) (refused a s store) .answer ≡ a
-    go true e = sym (eqb-true a done e)
-    go false e = refl
 
 -- the settings stay
 after-settings : (w : ℕ) (k : Call) (s : State) → after w k s .settings ≡ s .settings

@@ -15,3 +15,7 @@ pub mod Calls
 pub mod Demand
 pub mod Examples
 pub mod Written
+pub mod Rules
+pub mod Order
+pub mod Timer
+pub mod Refusals

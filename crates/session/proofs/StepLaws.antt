@@ -1,11 +1,13 @@
 -- What a refused and an accepted step is.
-use mathlib.Core.Path.{_≡_}
+use mathlib.Core.Path.{_≡_, refl, sym}
 use mathlib.Core.List.{List, []}
 use Prim.Native.Nat.{ℕ}
-use borrow.Author.Tests.{ne-eqb}
+use lib.Dec.{eqb}
+use borrow.Author.Tests.{ne-eqb, eqb-true}
 use Rattle.octets.specs.Answers.{done}
+use Rattle.octets.proofs.Stores.{cond-cases}
 use Rattle.session.specs.Servers.{chosen, settle, changed}
-use Rattle.session.specs.Steps.{Call, step, answer, after, settled, storeAfter, written}
+use Rattle.session.specs.Steps.{Call, Outcome, step, answer, after, settled, storeAfter, written}
 use Rattle.session.specs.declared.state.State.{State}
 use Rattle.session.proofs.SoundFacts.{active-same}
 
@@ -26,3 +28,14 @@ module _ (w : ℕ) (table : List ℕ) (room : ℕ) (c : Call) (s : State) (store
       → step w table room c s store ≡ record { answer = done; state = settled (after w c s); store = storeAfter c s store; written = written w table c s store }
   unfolding step
   step-done e = rw e
+
+  -- its answer is the number that it is judged by
+  pub step-answer : step w table room c s store .answer ≡ answer w table room c s store
+  unfolding step
+  step-answer =
+      let a = answer w table room c s store in
+      cond-cases (λ (o : Outcome). o .answer ≡ a) (eqb a done)
+      (record { answer = done; state = settled (after w c s); store = storeAfter c s store; written = written w table c s store })
+      (record { answer = a; state = s; store = store; written = [] })
+      (λ h. sym (eqb-true a done h))
+      (λ h. refl)

@@ -1,6 +1,6 @@
 -- The starred boundary examples (01, "Boundary examples"): each is a row of one table, and the one claim is that every row holds.
 use mathlib.Core.Path.{_≡_}
-use mathlib.Core.Bool.{true, false}
+use mathlib.Core.Bool.{true, false, cond}
 use mathlib.Core.List.{List, [], _∷_}
 use Prim.Native.Nat.{ℕ}
 use lib.ListN.{set, replicate}
@@ -11,11 +11,14 @@ use Rattle.wire.specs.Record.{recordAnswer}
 use Rattle.messages.specs.declared.message.Message.{Message}
 use Rattle.messages.specs.declared.message.Message.the-variants.{StartAck, Data}
 use Rattle.messages.specs.declared.message.Reading.the-variants as reading
-use Rattle.session.specs.Limits.{maxServers, maxHeld}
-use Rattle.session.specs.Servers.{server}
+use Rattle.session.specs.Limits.{maxServers, maxHeld, minStoreOctets}
+use Rattle.session.specs.Servers.{server, isAgreed}
 use Rattle.session.specs.Steps.{ack, step}
+use Rattle.session.specs.declared.state.Phase.{Phase}
 use Rattle.session.specs.declared.state.Phase.the-variants.{Closed, Agreed}
-use Rattle.session.specs.declared.state.Active.the-variants.{Server}
+use Rattle.session.specs.declared.state.Active.the-variants.{Nobody, Server}
+use Rattle.session.specs.declared.state.Settings.{Settings}
+use Rattle.session.specs.declared.state.Delivery.{Delivery}
 use Rattle.session.specs.declared.state.State.{State}
 
 -- A row.
@@ -30,35 +33,49 @@ pub data Star : Type 0 where
   -- them count as sent
   acknowledges : ℕ → ℕ → ℕ → ℕ → ℕ → ℕ → Star
 
--- An exporter of one server, which is agreed, and which was sent all the held records.
-abbrev pub holding : ℕ → ℕ → State
-holding count next =
+-- Session 7 with so many servers of these priorities.
+abbrev pub settingsOf : ℕ → List ℕ → Settings
+settingsOf servers priorities =
     record {
-      settings =
-          record {
-            session = 7;
-            config = 1;
-            boot = 3600;
-            initial = 0;
-            servers = 1;
-            priorities = replicate maxServers 0;
-            threshold = 1;
-            duration = 10;
-          };
-      capacity = 1024;
-      delivery =
-          record {
-            servers = set (replicate maxServers (server Closed)) 0 (server Agreed);
-            active = Server 0;
-            sent = count;
-            reached = count;
-            timer = 0;
-          };
+      session = 7;
+      config = 1;
+      boot = 3600;
+      initial = 0;
+      servers = servers;
+      priorities = priorities;
+      threshold = 1;
+      duration = 10;
+    }
+
+-- An exporter over the smallest store that holds records of these lengths under template 3, each sent to the servers of a set.
+abbrev pub exporterOf : Settings → Delivery → ℕ → List ℕ → ℕ → ℕ → State
+exporterOf p d count lengths receivers next =
+    record {
+      settings = p;
+      capacity = minStoreOctets;
+      delivery = d;
       due = false;
-      queue = record { count = count; lengths = replicate maxHeld 2; templates = replicate maxHeld 3; receivers = replicate maxHeld 1 };
+      queue = record { count = count; lengths = lengths; templates = replicate maxHeld 3; receivers = replicate maxHeld receivers };
       start = 0;
       next = next;
     }
+
+-- An exporter of one server in a phase, which is active where it is agreed and then was sent the first `sent` of the held records.
+abbrev pub alone : Phase → ℕ → List ℕ → ℕ → ℕ → State
+alone phase count lengths sent next =
+    exporterOf (settingsOf 1 (replicate maxServers 0))
+    (record {
+      servers = set (replicate maxServers (server Closed)) 0 (server phase);
+      active = cond (isAgreed phase) (Server 0) Nobody;
+      sent = sent;
+      reached = sent;
+      timer = 0;
+    })
+    count lengths 1 next
+
+-- An exporter of one server, which is agreed, and which was sent all the held records.
+abbrev pub holding : ℕ → ℕ → State
+holding count next = alone Agreed count (replicate maxHeld 2) count next
 
 -- What a row says.
 abbrev pub Holds : Star → Type 0

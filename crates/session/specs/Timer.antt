@@ -1,0 +1,57 @@
+-- The rules about the timer, one by one (01, "Exporter", the line on ticks), for every sound state: what a tick leaves of it.
+use mathlib.Core.Path.{_≡_}
+use mathlib.Core.Logic.{_≢_}
+use mathlib.Core.Bool.{Bool, true, false}
+use Prim.Native.Nat.{ℕ, _+_, _≤_, _<_}
+use Rattle.octets.specs.Answers.{done}
+use Rattle.session.specs.Servers.{phaseAt, isAgreed, withCounts, lateServers}
+use Rattle.session.specs.Sound.{sound}
+use Rattle.session.specs.Steps.{withDelivery, tickStep}
+use Rattle.session.specs.declared.state.Active.the-variants.{Nobody, Server}
+use Rattle.session.specs.declared.state.State.{State}
+
+-- The state with another sent and timer, and nothing else changed.
+abbrev pub clocked : State → ℕ → ℕ → State
+clocked s sent timer = withDelivery s (withCounts (s .delivery) sent (s .delivery .reached) timer)
+
+-- The timer of server v runs: v is active, and reached is at or above the threshold.
+pub record Runs (s : State) (v : ℕ) : Type 0 where
+  pub active : s .delivery .active ≡ Server v
+  pub waiting : s .settings .threshold ≤ s .delivery .reached
+
+-- A server other than v is agreed.
+pub record OtherAgreed (s : State) (v : ℕ) : Type 0 where
+  pub server : ℕ
+  pub exists : server < s .settings .servers
+  pub other : server ≢ v
+  pub agreed : isAgreed (phaseAt (s .delivery .servers) server) ≡ true
+
+-- What is left where v turned late: only its phase is another, somebody else is active, and that activation begins.
+pub record TurnedLate (s : State) (v : ℕ) (left : State) : Type 0 where
+  pub servers : left .delivery .servers ≡ lateServers (s .delivery) v
+  pub somebody : left .delivery .active ≢ Nobody
+  pub another : left .delivery .active ≢ Server v
+  pub sent : left .delivery .sent ≡ 0
+  pub reached : left .delivery .reached ≡ 0
+  pub timer : left .delivery .timer ≡ 0
+  pub due : left .due ≡ true
+  pub queue : left .queue ≡ s .queue
+
+-- The rules.
+pub record TimerRules (w : ℕ) (s : State) : Type 0 where
+  -- a tick is answered 0
+  pub answered : tickStep w s .answer ≡ done
+  -- if no server is active, or reached is below the threshold, the timer is 0
+  pub nobody : s .delivery .active ≡ Nobody → tickStep w s .state ≡ clocked s (s .delivery .sent) 0
+  pub below : s .delivery .reached < s .settings .threshold → tickStep w s .state ≡ clocked s (s .delivery .sent) 0
+  -- else it grows by 1
+  pub grows : (v : ℕ) → Runs s v → s .delivery .timer + 1 < s .settings .duration
+      → tickStep w s .state ≡ clocked s (s .delivery .sent) (s .delivery .timer + 1)
+  -- when it equals the duration it becomes 0, and the active server turns late if another is agreed, else sent is 0
+  pub late : (v : ℕ) → Runs s v → s .delivery .timer + 1 ≡ s .settings .duration → OtherAgreed s v → TurnedLate s v (tickStep w s .state)
+  pub again : (v : ℕ) → Runs s v → s .delivery .timer + 1 ≡ s .settings .duration → (OtherAgreed s v → ⊥)
+      → tickStep w s .state ≡ clocked s 0 0
+
+-- They hold of every sound state.
+abbrev pub TimerRule : Type 0
+TimerRule = (w : ℕ) (s : State) → sound s ≡ true → TimerRules w s
