@@ -19,3 +19,4 @@ pub mod Rules
 pub mod Order
 pub mod Timer
 pub mod Refusals
+pub mod Counters

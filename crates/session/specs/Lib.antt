@@ -12,3 +12,4 @@ pub mod Rules
 pub mod Order
 pub mod Timer
 pub mod Refusals
+pub mod Counters

@@ -1,0 +1,109 @@
+-- The rules about sent and reached hold: an accepted call found the state sound, so its choice is the servers', and as no phase changes it
+-- stays; the rest is what the step's definitions say.
+use mathlib.Core.Path.{_≡_, refl, sym, ap, _∙_}
+use mathlib.Core.Bool.{Bool, true, false, not, cond}
+use mathlib.Core.List.{List, []}
+use Prim.Native.Nat.{ℕ, _-_, _<_}
+use native.Mathlib.Omega.{arith}
+use lib.Dec.{eqb}
+use lib.ListN.{length}
+use borrow.Author.Tests.{eqb-true, eqb-false}
+use Rattle.octets.specs.Answers.{judge, done, unsoundState}
+use Rattle.octets.proofs.Each.{and-left}
+use Rattle.session.specs.Servers.{choose, chosen, withCounts, sentOne, acknowledged}
+use Rattle.session.specs.Queue.{dropFront, marked}
+use Rattle.session.specs.Sound.{sound}
+use Rattle.session.specs.Steps.{ackCount, Call, nextData, ack, answer, checks, soundFor, after, settled, Outcome, step, nextDataStep}
+use Rattle.session.specs.Counters.{SentOne, Released, CounterRules, CounterRule}
+use Rattle.session.specs.declared.state.Server as serverOf
+use Rattle.session.specs.declared.state.Delivery.{Delivery}
+use Rattle.session.specs.declared.state.State.{State}
+use Rattle.session.proofs.SoundFacts.{sound-facts}
+use Rattle.session.proofs.StepLaws.{settled-same, step-done, step-answer}
+
+-- an accepted call found the state sound, and where no phase changes, its choice stays
+module _ (w : ℕ) (table : List ℕ) (room : ℕ) (c : Call) (s : State) (store : List ℕ) (done₀ : step w table room c s store .answer ≡ done) where
+  judged : answer w table room c s store ≡ done
+  judged = sym (step-answer w table room c s store) ∙ done₀
+
+  accepted-sound : soundFor c s store ≡ true
+  unfolding answer
+  accepted-sound = go (soundFor c s store) judged
+    where
+      go : (b : Bool) → cond (not b) unsoundState (judge (checks w table room c s store)) ≡ done → b ≡ true
+      go true e = refl
+      go false e = absurd (omega (arith, e))
+
+  -- what the call leaves, where it changes neither servers nor choice
+  left-alone : sound s ≡ true → after w c s .delivery .active ≡ s .delivery .active
+      → chosen (after w c s .settings) (after w c s .delivery) ≡ chosen (s .settings) (s .delivery)
+      → step w table room c s store .state ≡ after w c s
+  left-alone h a b =
+      ap (λ (o : Outcome). o .state) (step-done w table room c s store judged)
+      ∙ settled-same (after w c s) (a ∙ sound-facts s h .choice ∙ sym b)
+
+sent-one : (w : ℕ) (s : State) (store out : List ℕ) → nextDataStep w s store out .answer ≡ done → SentOne s (nextDataStep w s store out .state)
+unfolding after sentOne marked
+sent-one w s store out e =
+    let h : sound s ≡ true = and-left (sound s) (eqb (length store) (s .capacity)) (accepted-sound w [] (length out) nextData s store e) in
+    rw (left-alone w [] (length out) nextData s store e h refl refl)
+    (record { same = record { servers = refl; active = refl }; sent = refl; reached = refl; timer = refl; due = refl; count = refl })
+
+-- the delivery after a DATA ACK that names n records
+record Counted (n : ℕ) (d e : Delivery) : Type 0 where
+  servers : e .servers ≡ d .servers
+  active : e .active ≡ d .active
+  reached : e .reached ≡ d .reached - n
+  sent : 0 < n → e .sent ≡ d .sent - n
+  timer : 0 < n → e .timer ≡ 0
+  again : n ≡ 0 → e .sent ≡ 0
+  waits : n ≡ 0 → e .timer ≡ d .timer
+
+counted : (n : ℕ) (d : Delivery) → Counted n d (acknowledged n d)
+unfolding acknowledged
+counted n d = go (eqb n 0) refl
+  where
+    go : (b : Bool) → eqb n 0 ≡ b
+        → Counted n d (cond b (withCounts d 0 (d .reached) (d .timer)) (withCounts d (d .sent - n) (d .reached - n) 0))
+    go true e =
+        let z : n ≡ 0 = eqb-true n 0 e in
+        record {
+          servers = refl;
+          active = refl;
+          reached = omega (arith, z);
+          sent = λ l. absurd (omega (arith, l, z));
+          timer = λ l. absurd (omega (arith, l, z));
+          again = λ x. refl;
+          waits = λ x. refl;
+        }
+    go false e =
+        record {
+          servers = refl;
+          active = refl;
+          reached = refl;
+          sent = λ l. refl;
+          timer = λ l. refl;
+          again = λ x. absurd (eqb-false n 0 e x);
+          waits = λ x. absurd (eqb-false n 0 e x);
+        }
+
+released : (w : ℕ) (s : State) (table : List ℕ) (room v dsn config : ℕ) (store : List ℕ)
+    → let o = step w table room (ack v dsn config) s store in o .answer ≡ done → Released (ackCount w s dsn) s (o .state)
+unfolding after dropFront
+released w s table room v dsn config store e =
+    let c = ack v dsn config in
+    let f = counted (ackCount w s dsn) (s .delivery) in
+    let same = ap (λ (servers : List serverOf.Server). choose (s .settings .priorities) servers (s .settings .servers)) (f .servers) in
+    rw (left-alone w table room c s store e (accepted-sound w table room c s store e) (f .active) same)
+    (record {
+      same = record { servers = f .servers; active = f .active };
+      count = refl;
+      reached = f .reached;
+      sent = f .sent;
+      timer = f .timer;
+      again = f .again;
+      waits = f .waits;
+    })
+
+pub counter-rule : CounterRule
+counter-rule w s = record { nextData = sent-one w s; dataAck = released w s }

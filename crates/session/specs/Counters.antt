@@ -1,0 +1,44 @@
+-- The rules about sent and reached, one by one (01, "Exporter", the lines on next data and DATA ACK), for every state and every call that
+-- is accepted: what the call leaves of the counters and of the queue.
+use mathlib.Core.Path.{_≡_}
+use mathlib.Core.Bool.{false}
+use mathlib.Core.List.{List}
+use Prim.Native.Nat.{ℕ, _+_, _-_, _<_, max}
+use Rattle.octets.specs.Answers.{done}
+use Rattle.session.specs.Steps.{ackCount, ack, step, nextDataStep}
+use Rattle.session.specs.declared.state.State.{State}
+
+-- What a call leaves of the servers and of the choice: both stay.
+pub record SameServers (s left : State) : Type 0 where
+  pub servers : left .delivery .servers ≡ s .delivery .servers
+  pub active : left .delivery .active ≡ s .delivery .active
+
+-- Next data: sent grows by 1, reached becomes the larger of itself and sent, the timer stays, and S is due no more.
+pub record SentOne (s left : State) : Type 0 where
+  pub same : SameServers s left
+  pub sent : left .delivery .sent ≡ s .delivery .sent + 1
+  pub reached : left .delivery .reached ≡ max (s .delivery .reached) (s .delivery .sent + 1)
+  pub timer : left .delivery .timer ≡ s .delivery .timer
+  pub due : left .due ≡ false
+  pub count : left .queue .count ≡ s .queue .count
+
+-- A DATA ACK that names n records: they go, and reached falls by n; above 0, sent falls by n but not below 0, and the timer is 0; with n of
+-- 0 sent is 0, and the timer stays.
+pub record Released (n : ℕ) (s left : State) : Type 0 where
+  pub same : SameServers s left
+  pub count : left .queue .count ≡ s .queue .count - n
+  pub reached : left .delivery .reached ≡ s .delivery .reached - n
+  pub sent : 0 < n → left .delivery .sent ≡ s .delivery .sent - n
+  pub timer : 0 < n → left .delivery .timer ≡ 0
+  pub again : n ≡ 0 → left .delivery .sent ≡ 0
+  pub waits : n ≡ 0 → left .delivery .timer ≡ s .delivery .timer
+
+-- Both rules.
+pub record CounterRules (w : ℕ) (s : State) : Type 0 where
+  pub nextData : (store out : List ℕ) → nextDataStep w s store out .answer ≡ done → SentOne s (nextDataStep w s store out .state)
+  pub dataAck : (table : List ℕ) (room v dsn config : ℕ) (store : List ℕ)
+      → let o = step w table room (ack v dsn config) s store in o .answer ≡ done → Released (ackCount w s dsn) s (o .state)
+
+-- They hold of every state.
+abbrev pub CounterRule : Type 0
+CounterRule = (w : ℕ) (s : State) → CounterRules w s
