@@ -288,7 +288,7 @@ append-reads-back type value octets out at h =
     let d = append-done type value octets out at h in
     rw (eq-eqb (appendAnswer type value octets out at) done h) (stored-reads-back type value octets out at (d .0) (d .1))
 
--- the other way: a value that fits and has room is appended
+-- a value that fits and has room is appended
 pub append-accepts : (type : ℕ) (value : Value) (octets out : List ℕ) (at : ℕ) → valueFits type value octets ≡ true
     → at + length (fieldOctets type value octets) ≤ length out
     → (appendOf type value octets out at ≡ Next (at + length (fieldOctets type value octets)))

@@ -63,7 +63,7 @@ module _ (walk : Cursor → Step) (n : ℕ) where
       go step.End p = turn p
       go (step.Refused a) p = turn p
 
--- what a walk of at most n steps visits, where it ends
+-- A walk of at most n steps from c visits the fields and then answers the end.
 abbrev pub Ends : (Cursor → Step) → ℕ → Cursor → List Field → Type 0
 Ends walk n c fields = (visited walk n c ≡ fields) × (lastAnswer walk n c ≡ step.End)
 
@@ -255,6 +255,17 @@ step-number t id r c = go (tableSound t) (isMissing t id) (leb (m .count) k) (eq
 
 -- ---- the same of the public calls
 
+-- a valid record under a template that is found is not refused
+pub found-valid : (t : List ℕ) (id : ℕ) (r : List ℕ) → findAnswer t id ≡ done → recordValid t (templateOf t id) r ≡ true → recordAnswer t id r ≡ done
+unfolding recordAnswer
+found-valid t id r found valid =
+    judged-next (templateChecks t id) ((recordInvalid when not (recordValid t (templateOf t id) r)) ∷ []) tt found ∙ rw valid
+
+-- and a walk opens at its start
+pub valid-opens : (t : List ℕ) (id : ℕ) (r : List ℕ) → recordAnswer t id r ≡ done → openOf t id r ≡ opened.At walkStart
+unfolding openOf
+valid-opens t id r e = rw e
+
 -- an opening that is accepted
 pub record Accepted (t : List ℕ) (id : ℕ) (r : List ℕ) (c : Cursor) : Type 0 where
   pub sound : tableSound t ≡ true
@@ -275,17 +286,6 @@ open-accepts t id r c h = go (tableSound t) refl (isMissing t id) refl (recordVa
     go true e false f false g h = let y : _≡_ {A = ℕ} 0 1 = cc in absurd (omega arith)
     go true e true f v g h = let y : _≡_ {A = ℕ} 0 1 = cc in absurd (omega arith)
     go false e m f v g h = let y : _≡_ {A = ℕ} 0 1 = cc in absurd (omega arith)
-
--- a valid record under a template that is found
-pub found-valid : (t : List ℕ) (id : ℕ) (r : List ℕ) → findAnswer t id ≡ done → recordValid t (templateOf t id) r ≡ true → recordAnswer t id r ≡ done
-unfolding recordAnswer
-found-valid t id r found valid =
-    judged-next (templateChecks t id) ((recordInvalid when not (recordValid t (templateOf t id) r)) ∷ []) tt found ∙ rw valid
-
--- opens at its start
-pub valid-opens : (t : List ℕ) (id : ℕ) (r : List ℕ) → recordAnswer t id r ≡ done → openOf t id r ≡ opened.At walkStart
-unfolding openOf
-valid-opens t id r e = rw e
 
 -- its steps are those under its template
 pub step-under : (t : List ℕ) (id : ℕ) (r : List ℕ) → tableSound t ≡ true → isMissing t id ≡ false → stepOf t id r ≡ stepUnder t (templateOf t id) r
