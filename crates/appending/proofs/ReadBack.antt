@@ -26,7 +26,7 @@ use Rattle.records.specs.declared.walk.Value.{Value}
 use Rattle.records.specs.declared.walk.Value.the-variants.{Octets, Number, Negative}
 use Rattle.records.specs.declared.walk.Cursor.{Cursor}
 use Rattle.records.specs.declared.walk.Step.the-variants as step
-use Rattle.appending.specs.declared.append.Appended.the-variants.{Refused}
+use Rattle.appending.specs.declared.append.Appended.the-variants.{Next, Refused}
 use Rattle.octets.proofs.Each.{every-at, every-same}
 use Rattle.field_types.proofs.TypeFacts.{number-width, signed-number, boolean-unsigned, boolean-width, fixed-type, no-number}
 use Rattle.appending.proofs.Appends.{octets-cases, NumberRange, number-range, negative-range, negative-signed}
@@ -40,6 +40,15 @@ pub record Holds (r : List ℕ) (at : ℕ) (field : List ℕ) : Type 0 where
 -- octets that were stored stand at their place
 pub sets-holds : (out : List ℕ) (at : ℕ) (field : List ℕ) → at + length field ≤ length out → Holds (sets out at field) at field
 sets-holds out at field h = record { within = rw (length-sets out at field) h; octet = λ i l. sets-at out at field i h l }
+
+-- where the octets from a place on are a field and others, the field stands there
+pub front-holds : (r : List ℕ) (at : ℕ) (field rest : List ℕ) → at ≤ length r → drop at r ≡ field ++ rest → Holds r at field
+front-holds r at field rest h e =
+    let n : length r - at ≡ length field + length rest = sym (length-drop at r) ∙ ap length e ∙ length-append field rest in
+    record {
+      within = omega arith;
+      octet = λ i l. sym (getD-drop at r i 0) ∙ ap (λ (s : List ℕ). getD s i 0) e ∙ List·getD-append field rest 0 i l;
+    }
 
 -- a number in front
 holds-uint : (r : List ℕ) (at : ℕ) (field : List ℕ) (w : ℕ) → Holds r at field → w ≤ length field → uintAt r at w ≡ uintAt field 0 w
@@ -278,6 +287,15 @@ unfolding appendOut
 append-reads-back type value octets out at h =
     let d = append-done type value octets out at h in
     rw (eq-eqb (appendAnswer type value octets out at) done h) (stored-reads-back type value octets out at (d .0) (d .1))
+
+-- a value that fits and has room is appended
+pub append-accepts : (type : ℕ) (value : Value) (octets out : List ℕ) (at : ℕ) → valueFits type value octets ≡ true
+    → at + length (fieldOctets type value octets) ≤ length out
+    → (appendOf type value octets out at ≡ Next (at + length (fieldOctets type value octets)))
+    × (appendOut type value octets out at ≡ sets out at (fieldOctets type value octets))
+unfolding appendAnswer appendOf appendOut
+append-accepts type value octets out at h room =
+    let e = le-ltb (length out) (at + length (fieldOctets type value octets)) room in (rw (h, e), rw (h, e))
 
 -- a step of a walk whose next enabled key has the value's type, and that stands where the field stands, answers the field and goes past it
 pub step-reads-back : (t : List ℕ) (m : Template) (type : ℕ) (value : Value) (octets r : List ℕ) (c : Cursor)

@@ -355,7 +355,7 @@ done-out : (m : Message) (part out : List ℕ) → writeAnswer m part (length ou
 unfolding writeOut
 done-out m part out h = rw h
 
-done-fits : (m : Message) (part out : List ℕ) → writeAnswer m part (length out) ≡ done → length (layoutOf m part) ≤ length out
+pub done-fits : (m : Message) (part out : List ℕ) → writeAnswer m part (length out) ≡ done → length (layoutOf m part) ≤ length out
 unfolding writeAnswer
 done-fits m part out h = ltb-false (length out) (length (layoutOf m part)) (passed (writeChecks m part (length out)) tt h .1 .1 .0)
 

@@ -12,9 +12,9 @@ use borrow.Author.Tests.{le-leb, lt-leb, ne-eqb, ltb-true, eqb-true}
 use lib.Dec.{eqb, leb, ltb}
 use lib.ListN.{length, take, drop, take-append-drop, drop-of-length-le}
 use lib.Seq.{drop-drop}
-use Rattle.octets.specs.Answers.{done, unsoundTable, templateNotFound, recordInvalid}
+use Rattle.octets.specs.Answers.{done, _when_, unsoundTable, templateNotFound, recordInvalid}
 use Rattle.octets.specs.Each.{every}
-use Rattle.tables.specs.Table.{keyAt, keyType, isEnabled, tableSound, isMissing, templateOf}
+use Rattle.tables.specs.Table.{keyAt, keyType, isEnabled, tableSound, isMissing, templateOf, templateChecks, findAnswer}
 use Rattle.records.specs.Record.{fieldLength, lengthUnder, fieldAt, fieldValid, recordValid, recordAnswer}
 use Rattle.records.specs.Walk.{fieldOf, stepJudged, openAnswer, stepAnswer}
 use Rattle.records.specs.Walk.{nextKey, stepUnder, stepOf, walkStart, openOf, afterStep, visited, lastCursor, lastAnswer, laidOut, enabledFrom, enabledKeys, enabledTypes, fieldUnder}
@@ -24,7 +24,7 @@ use Rattle.records.specs.declared.walk.Cursor.{Cursor}
 use Rattle.records.specs.declared.walk.Opened.the-variants as opened
 use Rattle.records.specs.declared.walk.Step.{Step}
 use Rattle.records.specs.declared.walk.Step.the-variants as step
-use Rattle.octets.proofs.Judging.{kept}
+use Rattle.octets.proofs.Judging.{kept, judged-next}
 use Rattle.octets.proofs.Each.{and-left, and-right, every-at, first-here, first-on, first-none}
 
 -- ---- walks by any step function
@@ -62,6 +62,31 @@ module _ (walk : Cursor → Step) (n : ℕ) where
       go (step.Next f b) p = p
       go step.End p = turn p
       go (step.Refused a) p = turn p
+
+-- A walk of at most n steps from c visits the fields and then answers the end.
+abbrev pub Ends : (Cursor → Step) → ℕ → Cursor → List Field → Type 0
+Ends walk n c fields = (visited walk n c ≡ fields) × (lastAnswer walk n c ≡ step.End)
+
+at-end : (walk : Cursor → Step) (n : ℕ) (c : Cursor) → walk c ≡ step.End → Ends walk n c []
+unfolding visited lastCursor
+at-end walk zero c e = (refl, e)
+at-end walk (suc n) c e = (rw e, rw e e)
+
+-- a walk that ends does so with every number of steps that is enough for its fields
+pub ends-with-enough : (walk : Cursor → Step) (more n : ℕ) (c : Cursor) → lastAnswer walk more c ≡ step.End → length (visited walk more c) ≤ n
+    → Ends walk n c (visited walk more c)
+unfolding visited lastCursor
+ends-with-enough walk zero n c e h = at-end walk n c e
+ends-with-enough walk (suc more) n c e h = go n (walk c) refl e h (λ n d. ends-with-enough walk more n d)
+  where
+    go : (n : ℕ) (s : Step) → walk c ≡ s → walk (afterStep (λ f d. lastCursor walk more d) c s) ≡ step.End
+        → length (afterStep (λ f d. f ∷ visited walk more d) [] s) ≤ n
+        → ((n : ℕ) (d : Cursor) → lastAnswer walk more d ≡ step.End → length (visited walk more d) ≤ n → Ends walk n d (visited walk more d))
+        → Ends walk n c (afterStep (λ f d. f ∷ visited walk more d) [] s)
+    go zero (step.Next f d) q e h rest = absurd (omega arith)
+    go (suc n) (step.Next f d) q e h rest = let w = rest n d e (omega arith) in (rw (q, w .0), rw q (w .1))
+    go n step.End q e h rest = at-end walk n c q
+    go n (step.Refused a) q e h rest = let y : _≡_ {A = ℕ} 0 1 = cc in absurd (omega arith)
 
 -- A walk of at most n steps from c: the fields that it visits, its end, which is the record's, and that the fields are what was left.
 pub record Walked (walk : Cursor → Step) (r : List ℕ) (n : ℕ) (c : Cursor) (fields : List Field) : Type 0 where
@@ -229,6 +254,17 @@ step-number t id r c = go (tableSound t) (isMissing t id) (leb (m .count) k) (eq
     go true false false false = refl
 
 -- ---- the same of the public calls
+
+-- a valid record under a template that is found is not refused
+pub found-valid : (t : List ℕ) (id : ℕ) (r : List ℕ) → findAnswer t id ≡ done → recordValid t (templateOf t id) r ≡ true → recordAnswer t id r ≡ done
+unfolding recordAnswer
+found-valid t id r found valid =
+    judged-next (templateChecks t id) ((recordInvalid when not (recordValid t (templateOf t id) r)) ∷ []) tt found ∙ rw valid
+
+-- and a walk opens at its start
+pub valid-opens : (t : List ℕ) (id : ℕ) (r : List ℕ) → recordAnswer t id r ≡ done → openOf t id r ≡ opened.At walkStart
+unfolding openOf
+valid-opens t id r e = rw e
 
 -- an opening that is accepted
 pub record Accepted (t : List ℕ) (id : ℕ) (r : List ℕ) (c : Cursor) : Type 0 where

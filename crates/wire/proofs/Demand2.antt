@@ -1,6 +1,6 @@
 -- What is written reads back. Messages: the law of round trips. Fields: the law of reading back gives length and value, and what was stored
--- at a place stands there.
-use mathlib.Core.Path.{_≡_, sym, ap, _∙_}
+-- at a place stands there. Records: the laws of whole records.
+use mathlib.Core.Path.{_≡_, ap, _∙_}
 use mathlib.Core.List.{List, _++_}
 use Prim.Native.Nat.{ℕ, _+_, _≤_}
 use native.Mathlib.Omega.{arith}
@@ -12,6 +12,7 @@ use Rattle.appending.specs.Append.{fieldOctets, appendAnswer, appendOut}
 use Rattle.appending.proofs.ReadBack.{append-done, append-reads-back}
 use Rattle.messages.proofs.RoundTrip.{wrote-reads}
 use Rattle.wire.specs.Demand2.{Demand2, FieldsReadBack}
+use Rattle.wire.proofs.WholeRecords.{records-made, records-read-back, empty-records}
 
 -- Octets that were stored within a list are the part at their place.
 stored-part : (l vs : List ℕ) (i : ℕ) → i + length vs ≤ length l → take (length vs) (drop i (sets l i vs)) ≡ vs
@@ -34,4 +35,11 @@ fields-read-back type value octets out at h =
     }
 
 pub demand2 : Demand2
-demand2 = record { messages = wrote-reads; fields = fields-read-back }
+demand2 =
+    record {
+      messages = wrote-reads;
+      fields = fields-read-back;
+      made = records-made;
+      records = records-read-back;
+      empty = empty-records;
+    }

@@ -1,5 +1,7 @@
--- The claim of demand 2, and the laws of the crates below, passed on.
+-- The claims of demand 2 and of refusals, and the laws of the crates below, passed on.
 pub mod Demand2
+pub mod WholeRecords
+pub mod Refusals
 pub use Rattle.field_types.proofs.FieldTypes
 pub use Rattle.field_types.proofs.TypeFacts
 pub use Rattle.tables.proofs.Tables

@@ -1,16 +1,26 @@
--- Demand 2: what is written reads back as the same meaning, messages and single fields (01, "Messages" and "Template table").
-use Prim.Native.Nat.{ℕ, _≤_}
+-- Demand 2: what is written reads back as the same meaning: messages, single fields, whole records (01, "Messages", "Template table").
+use Prim.Native.Nat.{ℕ, _+_, _≤_}
 use mathlib.Core.Path.{_≡_}
-use mathlib.Core.List.{List}
+use mathlib.Core.Bool.{Bool, true}
+use mathlib.Core.List.{List, [], _∷_, _++_, map}
 use lib.ListN.{length, take, drop}
 use Rattle.octets.specs.Answers.{done}
-use Rattle.records.specs.Record.{fieldLength}
-use Rattle.records.specs.Walk.{valueAt}
+use Rattle.octets.specs.Each.{allOf}
+use Rattle.tables.specs.Table.{templateOf, findAnswer}
+use Rattle.records.specs.Record.{fieldLength, recordAnswer}
+use Rattle.records.specs.Walk.{valueAt, stepOf, walkStart, openOf, enabledTypes, visited, lastAnswer}
 use Rattle.records.specs.declared.walk.Value.{Value}
-use Rattle.appending.specs.Append.{fieldOctets, appendAnswer, appendOut}
+use Rattle.records.specs.declared.walk.Field.{Field}
+use Rattle.records.specs.declared.walk.Opened.the-variants as opened
+use Rattle.records.specs.declared.walk.Step.the-variants as step
+use Rattle.appending.specs.Append.{valueFits, fieldOctets, appendAnswer, appendOf, appendOut}
+use Rattle.appending.specs.declared.append.Appended.{Appended}
+use Rattle.appending.specs.declared.append.Appended.the-variants as appended
 use Rattle.messages.specs.Messages.{layoutOf, readOf, partOf, partAt, writeOut, carried, carriedAt, Writable}
 use Rattle.messages.specs.declared.message.Message.{Message}
 use Rattle.messages.specs.declared.message.Reading.the-variants as reading
+
+-- ---- messages
 
 -- A message that can be written, written to an output with room for it: from its octets what it says is read, the part that it carries,
 -- and where that begins.
@@ -19,6 +29,8 @@ MessagesReadBack =
     (m : Message) (part out : List ℕ) → Writable m part → length (layoutOf m part) ≤ length out
     → let octets = take (length (layoutOf m part)) (writeOut m part out) in
     (readOf octets ≡ reading.Message m) × ((partOf octets ≡ carried m part) × (partAt octets ≡ carriedAt m))
+
+-- ---- single fields
 
 -- The field of a type at a place of octets is the one that holds a value: of its length, with that value and with its octets.
 pub record FieldOf (type : ℕ) (value : Value) (octets r : List ℕ) (at : ℕ) : Type 0 where
@@ -32,7 +44,85 @@ FieldsReadBack =
     (type : ℕ) (value : Value) (octets out : List ℕ) (at : ℕ) → appendAnswer type value octets out at ≡ done
     → FieldOf type value octets (appendOut type value octets out at) at
 
--- Both.
+-- ---- whole records
+
+-- A value of a named type, as `append` takes it; the octets count where the value says that it is octets.
+pub record TypedValue : Type 0 where
+  pub type : ℕ
+  pub value : Value
+  pub octets : List ℕ
+
+-- It is of its type.
+abbrev pub fits : TypedValue → Bool
+fits v = valueFits (v .type) (v .value) (v .octets)
+
+-- The octets of its field, with the length or the zero that its type has.
+abbrev pub octetsFor : TypedValue → List ℕ
+octetsFor v = fieldOctets (v .type) (v .value) (v .octets)
+
+-- One value for each enabled key of the template with an ID, in order, and of its key's type.
+pub record ValuesFor (t : List ℕ) (id : ℕ) (values : List TypedValue) : Type 0 where
+  pub types : map (λ v. v .type) values ≡ enabledTypes t (templateOf t id)
+  pub fit : allOf (map fits values) ≡ true
+
+-- The record of values: their fields, in order and unpadded.
+unfoldable pub recordOctets : List TypedValue → List ℕ
+recordOctets [] = []
+recordOctets (v ∷ values) = octetsFor v ++ recordOctets values
+
+-- What appending answered, and the output afterwards.
+pub record Output : Type 0 where
+  pub answer : Appended
+  pub out : List ℕ
+
+-- Values appended one after the other, each at the place that was answered last; behind a refusal nothing is appended.
+unfoldable pub appendAll : List TypedValue → Appended → List ℕ → Output
+appendAll [] answer out = record { answer = answer; out = out }
+appendAll (v ∷ values) (appended.Refused a) out = record { answer = appended.Refused a; out = out }
+appendAll (v ∷ values) (appended.Next at) out =
+    appendAll values (appendOf (v .type) (v .value) (v .octets) out at) (appendOut (v .type) (v .value) (v .octets) out at)
+
+-- The fields of the values, the first at a place and each other behind the one before it: type, place, length with prefix or zero, value.
+unfoldable pub fieldsOf : List TypedValue → ℕ → List Field
+fieldsOf [] at = []
+fieldsOf (v ∷ values) at =
+    record { kind = v .type; at = at; len = length (octetsFor v); value = v .value } ∷ fieldsOf values (at + length (octetsFor v))
+
+-- Octets are a record that reads back as values under the template with an ID: it is valid, a walk opens at its start, steps answer the
+-- fields of the values and then the end, however many more steps are allowed, and the octets of each field stand at its place.
+pub record RecordOf (t : List ℕ) (id : ℕ) (values : List TypedValue) (r : List ℕ) : Type 0 where
+  pub valid : recordAnswer t id r ≡ done
+  pub opens : openOf t id r ≡ opened.At walkStart
+  pub visits : (n : ℕ) → length values ≤ n → visited (stepOf t id r) n walkStart ≡ fieldsOf values 0
+  pub ends : (n : ℕ) → length values ≤ n → lastAnswer (stepOf t id r) n walkStart ≡ step.End
+  pub stands : map (λ f. take (f .len) (drop (f .at) r)) (fieldsOf values 0) ≡ map octetsFor values
+
+-- Values of their types, appended one after the other from the first octet of an output with room for them, leave their record there and
+-- no octet behind it changed; the place behind it is answered.
+abbrev pub RecordsMade : Type 0
+RecordsMade =
+    (values : List TypedValue) (out : List ℕ) → allOf (map fits values) ≡ true → length (recordOctets values) ≤ length out
+    → appendAll values (appended.Next 0) out
+    ≡ record { answer = appended.Next (length (recordOctets values)); out = recordOctets values ++ drop (length (recordOctets values)) out }
+
+-- Under every template of every sound table: values for its enabled keys that were so appended read back as a record.
+abbrev pub RecordsReadBack : Type 0
+RecordsReadBack =
+    (t : List ℕ) (id : ℕ) (values : List TypedValue) (out : List ℕ) → findAnswer t id ≡ done → ValuesFor t id values
+    → length (recordOctets values) ≤ length out
+    → RecordOf t id values (take (length (recordOctets values)) (appendAll values (appended.Next 0) out .out))
+
+-- Where all keys are disabled, the empty record reads back as no values, and no other record is valid.
+abbrev pub EmptyRecords : Type 0
+EmptyRecords =
+    (t : List ℕ) (id : ℕ) → findAnswer t id ≡ done → enabledTypes t (templateOf t id) ≡ []
+    → RecordOf t id [] [] × ((r : List ℕ) → recordAnswer t id r ≡ done → r ≡ [])
+
+-- ---- all of them
+
 pub record Demand2 : Type 0 where
   pub messages : MessagesReadBack
   pub fields : FieldsReadBack
+  pub made : RecordsMade
+  pub records : RecordsReadBack
+  pub empty : EmptyRecords

@@ -7,3 +7,4 @@ pub use Rattle.readers.specs.Count
 pub use Rattle.appending.specs.Append
 pub use Rattle.messages.specs.Messages
 pub mod Demand2
+pub mod Refusals
