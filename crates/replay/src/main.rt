@@ -1,7 +1,8 @@
 // The replay program: a tape from standard input, its lines to standard output.
-ghost use Prim.Native.Nat.{_≤_};
-ghost use lib.ListN.{length};
+ghost use mathlib.Core.Path.{_≡_};
+ghost use lib.ListN.{replicate};
 ghost use Rattle.exporter.specs.Limits.{maxStoreOctets};
+ghost use Rattle.tape.specs.Replay.{tapeStore};
 use contents::INPUT_OCTETS;
 use exporter::limits::MAX_STORE_OCTETS;
 use libc::STDIN_FILENO;
@@ -17,8 +18,10 @@ fn print(text: &[u8; LINE_OCTETS], len: usize) {
     }
 }
 
-// Replays a tape over a lent store, line by line. A refusal leaves no events, and a turn with none left has no line.
-fn replay(tape: &[u8], store: &mut [u8]) {
+// Replays a tape over the store that its settings name, line by line. A refusal leaves no events, and a turn with none left has no line.
+fn replay(tape: &[u8], store: &mut [u8])
+    requires { ⌜ now store ≡ tapeStore (now tape) ⌝ }
+{
     let mut out = [0u8; OUTPUT_OCTETS];
     let mut text = [0u8; LINE_OCTETS];
     let mut turn = tape::replay::open_tape(tape, store, &mut text);
@@ -32,9 +35,9 @@ fn replay(tape: &[u8], store: &mut [u8]) {
     }
 }
 
-// Lends a replay the part of the store that the tape's settings name.
+// Lends a replay the part of the largest store that the tape's settings name.
 fn lend(tape: &[u8], store: &mut [u8])
-    requires { ⌜ maxStoreOctets ≤ length (now store) ⌝ }
+    requires { ⌜ now store ≡ replicate maxStoreOctets 0 ⌝ }
 {
     let len = events::store_length(tape);
     replay(tape, &mut store[..len]);

@@ -105,7 +105,8 @@ LineDownOrder =
 
 -- Tick: 1.
 abbrev pub TickOrder : Type 0
-TickOrder = answersOf (record { state = unsound (idle Closed); call = Tick } ∷ record { state = idle Closed; call = Tick } ∷ []) ≡ 1 ∷ 0 ∷ []
+TickOrder =
+    answersOf (record { state = unsound (idle Closed); call = Tick } ∷ record { state = idle Closed; call = Tick } ∷ []) ≡ 1 ∷ 0 ∷ []
 
 -- Receive: 1 to 10, the last two by a FINAL TMPL DATA ACK. It is of 7 octets, of version 2, of a false length, of session 8, a START ACK
 -- without its body, without a body, from a closed server, of configuration 2.

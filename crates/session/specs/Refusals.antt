@@ -27,7 +27,8 @@ CallRefused = (z : Session) (x : Exporter) (e : Event) → outcome z x e .answer
 
 -- What a refused set-up hands back, every call refuses with 1.
 abbrev pub SetUpRefused : Type 0
-SetUpRefused = (z : Session) (store : List ℕ) (e : Event) → outcome z (record { state = refusedState; store = store }) e .answer ≡ unsoundState
+SetUpRefused =
+    (z : Session) (store : List ℕ) (e : Event) → outcome z (record { state = refusedState; store = store }) e .answer ≡ unsoundState
 
 -- All three.
 pub record Refusals : Type 0 where
