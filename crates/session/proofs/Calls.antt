@@ -340,10 +340,10 @@ module _ (w : ℕ) (table : List ℕ) (room : ℕ) (h : History) (s : State) (st
   within-reached v q (inr x) = (omega (arith, x .0), a .core .until v q (x .1))
 
   -- so its DATA ACK names no more than was reached, and passes every test
-  honest-ack : (v q : ℕ) → s .delivery .active ≡ Server v → Acknowledgeable h v q
+  ack-accepted : (v q : ℕ) → s .delivery .active ≡ Server v → Acknowledgeable h v q
       → judge (checks w table room (ack v (dsnOf w (s .settings) q) (s .settings .config)) s store) ≡ done
   unfolding checks
-  honest-ack v q active x =
+  ack-accepted v q active x =
       let d : ℕ = dsnOf w (s .settings) q in
       let n : ℕ = ackCount w s d in
       let c = a .core in
@@ -418,10 +418,10 @@ module _ (w : ℕ) (table : List ℕ) (room : ℕ) (h : History) (s : State) (st
         accepted = λ e x. next-accepted (checked nextData e x);
         names = λ v d config e x. names-one v d config (subst (InRange w) e i) (checked (ack v d config) e x);
         releases = step-releases k i (o .answer) (sym (call-answer k));
-        honest = λ v q e active x.
+        ackAccepted = λ v q e active x.
             call-answer k
             ∙ ap (λ (j : Call). judge (checks w table room j s store)) e
-            ∙ honest-ack v q (sym (ap (λ (y : Delivery). y .active) (a .delivery)) ∙ active) x;
+            ∙ ack-accepted v q (sym (ap (λ (y : Delivery). y .active) (a .delivery)) ∙ active) x;
         putting = λ id r e t m v b.
             ap (λ (n : ℕ). not (eqb n done)) (call-answer k)
             ∙ ap (λ (j : Call). not (eqb (judge (checks w table room j s store)) done)) e

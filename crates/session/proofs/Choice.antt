@@ -10,18 +10,15 @@ use lib.Dec.{eqb, ltb}
 use lib.ListN.{getD, set, replicate}
 use lib.Seq.{getD-set-other}
 use borrow.Author.Tests.{eq-eqb, ne-eqb, ltb-true, ltb-false}
-use Rattle.session.specs.Limits.{maxServers}
 use Rattle.session.specs.Servers.{server, phaseAt, isAgreed, beats, choose, Best, IsChoice, isNobody, otherAgreed, sameActive, chosen, changed, activated, settle}
-use Rattle.session.specs.Sound.{sound}
 use Rattle.session.specs.declared.state.Phase.the-variants.{Closed, Late}
 use Rattle.session.specs.declared.state.Server as serverOf
 use Rattle.session.specs.declared.state.Active.{Active}
 use Rattle.session.specs.declared.state.Active.the-variants.{Nobody, Server}
 use Rattle.session.specs.declared.state.Settings.{Settings}
 use Rattle.session.specs.declared.state.Delivery.{Delivery}
-use Rattle.session.specs.declared.state.State.{State}
 use Rattle.session.proofs.QueueLaws.{last-cases}
-use Rattle.session.proofs.SoundFacts.{same-active, sound-facts}
+use Rattle.session.proofs.SoundFacts.{same-active}
 
 -- the server to be active is as 01 says it
 pub choice : (priorities : List ℕ) (servers : List serverOf.Server) (n : ℕ) → IsChoice priorities servers n (choose priorities servers n)

@@ -13,8 +13,8 @@ use Rattle.octets.proofs.Each.{and-left}
 use Rattle.session.specs.Servers.{choose, chosen, withCounts, sentOne, acknowledged}
 use Rattle.session.specs.Queue.{dropFront, marked}
 use Rattle.session.specs.Sound.{sound}
-use Rattle.session.specs.Steps.{ackCount, Call, nextData, ack, answer, checks, soundFor, after, settled, Outcome, step, nextDataStep}
-use Rattle.session.specs.Counters.{SentOne, Released, CounterRules, CounterRule}
+use Rattle.session.specs.Steps.{ackCount, Call, nextData, ack, answer, checks, soundFor, after, Outcome, step, nextDataStep}
+use Rattle.session.specs.Counters.{SentOne, Released, CounterRule}
 use Rattle.session.specs.declared.state.Server as serverOf
 use Rattle.session.specs.declared.state.Delivery.{Delivery}
 use Rattle.session.specs.declared.state.State.{State}
@@ -56,8 +56,8 @@ record Counted (n : ℕ) (d e : Delivery) : Type 0 where
   reached : e .reached ≡ d .reached - n
   sent : 0 < n → e .sent ≡ d .sent - n
   timer : 0 < n → e .timer ≡ 0
-  again : n ≡ 0 → e .sent ≡ 0
-  waits : n ≡ 0 → e .timer ≡ d .timer
+  sentAgain : n ≡ 0 → e .sent ≡ 0
+  timerStays : n ≡ 0 → e .timer ≡ d .timer
 
 counted : (n : ℕ) (d : Delivery) → Counted n d (acknowledged n d)
 unfolding acknowledged
@@ -73,8 +73,8 @@ counted n d = go (eqb n 0) refl
           reached = omega (arith, z);
           sent = λ l. absurd (omega (arith, l, z));
           timer = λ l. absurd (omega (arith, l, z));
-          again = λ x. refl;
-          waits = λ x. refl;
+          sentAgain = λ x. refl;
+          timerStays = λ x. refl;
         }
     go false e =
         record {
@@ -83,8 +83,8 @@ counted n d = go (eqb n 0) refl
           reached = refl;
           sent = λ l. refl;
           timer = λ l. refl;
-          again = λ x. absurd (eqb-false n 0 e x);
-          waits = λ x. absurd (eqb-false n 0 e x);
+          sentAgain = λ x. absurd (eqb-false n 0 e x);
+          timerStays = λ x. absurd (eqb-false n 0 e x);
         }
 
 released : (w : ℕ) (s : State) (table : List ℕ) (room v dsn config : ℕ) (store : List ℕ)
@@ -101,8 +101,9 @@ released w s table room v dsn config store e =
       reached = f .reached;
       sent = f .sent;
       timer = f .timer;
-      again = f .again;
-      waits = f .waits;
+      sentAgain = f .sentAgain;
+      timerStays = f .timerStays;
+      due = refl;
     })
 
 pub counter-rule : CounterRule

@@ -188,7 +188,7 @@ module _ (z : Session) (wide : 64 < modulus (z .width)) where
         accepted = y .accepted;
         names = y .names;
         releases = y .releases;
-        honest = y .honest;
+        ackAccepted = y .ackAccepted;
         putting = y .putting;
       }
 

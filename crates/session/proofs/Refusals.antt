@@ -1,18 +1,22 @@
 -- A refusal changes nothing: the step has two outcomes, and the one that is not answered 0 is what was given. A refused set-up's state has
--- no server, so that it is not sound.
+-- no server, so that it is not sound. What is written fits the output (`step-fits`), so that the rest of it stays.
 use mathlib.Core.Path.{_≡_, refl, ap, _∙_}
-use mathlib.Core.Bool.{false}
-use mathlib.Core.List.{List, []}
+use mathlib.Core.Bool.{Bool, true, false}
+use mathlib.Core.List.{List, [], _++_}
 use Prim.Native.Nat.{ℕ}
-use lib.ListN.{length}
+use native.Mathlib.Nat.{zero-add}
+use native.Mathlib.Omega.{arith}
+use lib.ListN.{length, drop}
+use lib.Seq.{sets-eq}
 use Rattle.octets.specs.Answers.{unsoundState}
 use Rattle.session.specs.Servers.{offer, down}
 use Rattle.session.specs.Sound.{settingsSound, numbersSound, sound}
-use Rattle.session.specs.Steps.{Call, put, nextData, tick, ack, move, received, answer, soundFor, fresh, refusedState, step}
-use Rattle.session.specs.Claim.{Event, Put, NextData, Receive, OfferTemplates, LineDown, Tick, Exporter, advance}
-use Rattle.session.specs.Refusals.{StepRefused, CallRefused, SetUpRefused, Refusals}
+use Rattle.session.specs.Steps.{Call, put, nextData, tick, ack, move, received, answer, soundFor, fresh, refusedState, setUp, step}
+use Rattle.session.specs.Claim.{Event, Put, NextData, Receive, OfferTemplates, LineDown, Tick, Session, Exporter, outcome, advance}
+use Rattle.session.specs.Refusals.{StepRefused, CallRefused, SetUpRefused, OutputKept, Refusals}
 use Rattle.session.specs.declared.state.State.{State}
 use Rattle.session.proofs.StepLaws.{step-refused, step-answer}
+use Rattle.session.proofs.Written.{step-fits}
 
 step-unchanged : StepRefused
 step-unchanged w table room c s store h =
@@ -50,13 +54,27 @@ refused-set-up : (w : ℕ) (table : List ℕ) (room : ℕ) (c : Call) (store : L
 unfolding answer
 refused-set-up w table room c store = step-answer w table room c refusedState store ∙ rw (never-sound c store)
 
+each-refused : (z : Session) (store : List ℕ) (e : Event) → outcome z (record { state = refusedState; store = store }) e .answer ≡ unsoundState
+each-refused z store (Put table id r) = refused-set-up (z .width) table 0 (put id r) store
+each-refused z store (NextData out) = refused-set-up (z .width) [] (length out) nextData store
+each-refused z store (Receive v m out) = refused-set-up (z .width) [] (length out) (received (refusedState .settings) v m) []
+each-refused z store (OfferTemplates v table out) = refused-set-up (z .width) table (length out) (move v offer) []
+each-refused z store (LineDown v) = refused-set-up (z .width) [] 0 (move v down) []
+each-refused z store Tick = refused-set-up (z .width) [] 0 tick []
+
 set-up-refused : SetUpRefused
-set-up-refused z store (Put table id r) = refused-set-up (z .width) table 0 (put id r) store
-set-up-refused z store (NextData out) = refused-set-up (z .width) [] (length out) nextData store
-set-up-refused z store (Receive v m out) = refused-set-up (z .width) [] (length out) (received (refusedState .settings) v m) []
-set-up-refused z store (OfferTemplates v table out) = refused-set-up (z .width) table (length out) (move v offer) []
-set-up-refused z store (LineDown v) = refused-set-up (z .width) [] 0 (move v down) []
-set-up-refused z store Tick = refused-set-up (z .width) [] 0 tick []
+unfolding setUp
+set-up-refused p capacity z store e h = go (settingsSound p capacity) refl
+  where
+    go : (b : Bool) → settingsSound p capacity ≡ b → outcome z (record { state = setUp p capacity .state; store = store }) e .answer ≡ unsoundState
+    go true x = absurd (h (rw x refl))
+    go false x = rw x (each-refused z store e)
+
+output-kept : OutputKept
+output-kept w table out c s store =
+    let o = step w table (length out) c s store in
+    sets-eq (o .written) out 0 (omega (arith, step-fits w table (length out) c s store))
+    ∙ ap (λ (k : ℕ). o .written ++ drop k out) (zero-add (length (o .written)))
 
 pub refusals : Refusals
-refusals = record { steps = step-unchanged; calls = call-unchanged; setUps = set-up-refused }
+refusals = record { steps = step-unchanged; calls = call-unchanged; setUps = set-up-refused; outputs = output-kept }

@@ -4,16 +4,16 @@ use mathlib.Core.Path.{_≡_, refl, sym, ap, _∙_, subst}
 use mathlib.Core.Logic.{_≢_}
 use mathlib.Core.Bool.{Bool, true, false, not, _&&_, _||_, cond, false≢true}
 use mathlib.Core.List.{List, []}
-use Prim.Native.Nat.{ℕ, zero, suc, _+_, _≤_, _<_}
+use Prim.Native.Nat.{ℕ, zero, suc, _+_, _<_}
 use native.Mathlib.Decide.{ℕ-discrete}
 use native.Mathlib.Omega.{arith}
-use lib.Dec.{eqb, ltb}
+use lib.Dec.{eqb}
 use borrow.Author.Tests.{eq-eqb, ne-eqb, lt-ltb, le-ltb}
 use Rattle.octets.specs.Answers.{done}
 use Rattle.session.specs.Servers.{phaseAt, isAgreed, isNobody, chosen, changed, settle, sameActive, otherAgreed, expired, lateServers, withCounts, withServers, tickedFor, ticked, IsChoice}
 use Rattle.session.specs.Sound.{sound}
 use Rattle.session.specs.Steps.{tick, answer, checks, after, settled, withDelivery, Outcome, tickStep}
-use Rattle.session.specs.Timer.{clocked, Runs, OtherAgreed, TurnedLate, TimerRules, TimerRule}
+use Rattle.session.specs.Timer.{withSentAndTimer, Runs, OtherAgreed, TurnedLate, TimerRule}
 use Rattle.session.specs.declared.state.Server as serverOf
 use Rattle.session.specs.declared.state.Active.{Active}
 use Rattle.session.specs.declared.state.Active.the-variants.{Nobody, Server}
@@ -61,17 +61,17 @@ module _ (w : ℕ) (s : State) (isSound : sound s ≡ true) where
 
   -- where only counters change the choice stays
   same-choice : (sent timer : ℕ) → ticked (s .settings) (s .delivery) ≡ withCounts (s .delivery) sent (s .delivery .reached) timer
-      → tickStep w s .state ≡ clocked s sent timer
+      → tickStep w s .state ≡ withSentAndTimer s sent timer
   same-choice sent timer e =
-      after-tick ∙ ap (λ (d : Delivery). settled (withDelivery s d)) e ∙ settled-same (clocked s sent timer) (sound-facts s isSound .choice)
+      after-tick ∙ ap (λ (d : Delivery). settled (withDelivery s d)) e ∙ settled-same (withSentAndTimer s sent timer) (sound-facts s isSound .choice)
 
   -- ---- the counters alone
 
-  stopped-nobody : s .delivery .active ≡ Nobody → tickStep w s .state ≡ clocked s (s .delivery .sent) 0
+  stopped-nobody : s .delivery .active ≡ Nobody → tickStep w s .state ≡ withSentAndTimer s (s .delivery .sent) 0
   unfolding ticked
   stopped-nobody e = same-choice (s .delivery .sent) 0 (rw e refl)
 
-  stopped-below : s .delivery .reached < s .settings .threshold → tickStep w s .state ≡ clocked s (s .delivery .sent) 0
+  stopped-below : s .delivery .reached < s .settings .threshold → tickStep w s .state ≡ withSentAndTimer s (s .delivery .sent) 0
   unfolding ticked
   stopped-below l = same-choice (s .delivery .sent) 0 (go (s .delivery .active))
     where
@@ -90,7 +90,7 @@ module _ (w : ℕ) (s : State) (isSound : sound s ≡ true) where
       ap (tickedFor (s .settings) (s .delivery)) (r .active) ∙ rw (le-ltb (s .delivery .reached) (s .settings .threshold) (r .waiting))
 
   growing : (v : ℕ) → Runs s v → s .delivery .timer + 1 < s .settings .duration
-      → tickStep w s .state ≡ clocked s (s .delivery .sent) (s .delivery .timer + 1)
+      → tickStep w s .state ≡ withSentAndTimer s (s .delivery .sent) (s .delivery .timer + 1)
   growing v r l =
       same-choice (s .delivery .sent) (s .delivery .timer + 1)
       (running v r ∙ rw (ne-eqb (s .delivery .timer + 1) (s .settings .duration) (λ e. omega (arith, l, e))))
@@ -101,7 +101,7 @@ module _ (w : ℕ) (s : State) (isSound : sound s ≡ true) where
       → ticked (s .settings) (s .delivery) ≡ expired (s .settings) v (s .delivery)
   ran-out v r e = running v r ∙ rw (eq-eqb (s .delivery .timer + 1) (s .settings .duration) e)
 
-  sent-again : (v : ℕ) → Runs s v → s .delivery .timer + 1 ≡ s .settings .duration → (OtherAgreed s v → ⊥) → tickStep w s .state ≡ clocked s 0 0
+  sent-again : (v : ℕ) → Runs s v → s .delivery .timer + 1 ≡ s .settings .duration → (OtherAgreed s v → ⊥) → tickStep w s .state ≡ withSentAndTimer s 0 0
   unfolding expired
   sent-again v r e h =
       same-choice 0 0
@@ -145,7 +145,7 @@ module _ (w : ℕ) (s : State) (isSound : sound s ≡ true) where
   turned-late v r e o =
       let f = others-turn v o (chosen (s .settings) (lateState v .delivery)) refl in
       rw (turned v r e o, choice-changed v r o)
-      (record { servers = refl; somebody = f .0; another = f .1; sent = refl; reached = refl; timer = refl; due = refl; queue = refl })
+      (record { servers = refl; somebody = f .0; another = f .1; sent = refl; reached = refl; timer = refl; due = refl; queue = refl; settings = refl; capacity = refl; start = refl; next = refl })
 
 pub timer-rule : TimerRule
 timer-rule w s isSound =
@@ -155,5 +155,5 @@ timer-rule w s isSound =
       below = stopped-below w s isSound;
       grows = growing w s isSound;
       late = turned-late w s isSound;
-      again = sent-again w s isSound;
+      sentAgain = sent-again w s isSound;
     }

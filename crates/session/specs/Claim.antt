@@ -264,7 +264,7 @@ pub record CallClaim (z : Session) (capacity room : ℕ) (table : List ℕ) (h :
       → ReleasedBy h c q
   -- a DATA ACK of the active server and the session's configuration is accepted where it names the released number or a place that was
   -- written to that server in its activation, sent again or not: so it is never answered 11
-  pub honest : (v q : ℕ) → c ≡ ack v (dsnOf (z .width) (z .settings) q) (z .settings .config) → h .delivery .active ≡ active.Server v
+  pub ackAccepted : (v q : ℕ) → c ≡ ack v (dsnOf (z .width) (z .settings) q) (z .settings .config) → h .delivery .active ≡ active.Server v
       → Acknowledgeable h v q → o .answer ≡ done
   -- a sentence of the demand, which follows from `answered`: under a sound table of the session's Configuration ID a valid record of at
   -- most 1,024 octets is refused exactly where 64 are held or its octets do not fit beside the held ones

@@ -22,16 +22,17 @@ pub record SentOne (s left : State) : Type 0 where
   pub due : left .due ≡ false
   pub count : left .queue .count ≡ s .queue .count
 
--- A DATA ACK that names n records: they go, and reached falls by n; above 0, sent falls by n but not below 0, and the timer is 0; with n of
--- 0 sent is 0, and the timer stays.
+-- A DATA ACK that names n records: they go, and reached falls by n. Where n is above 0, sent falls by n but not below 0, and the timer is 0;
+-- where n is 0, sent is 0, and the timer stays.
 pub record Released (n : ℕ) (s left : State) : Type 0 where
   pub same : SameServers s left
   pub count : left .queue .count ≡ s .queue .count - n
   pub reached : left .delivery .reached ≡ s .delivery .reached - n
   pub sent : 0 < n → left .delivery .sent ≡ s .delivery .sent - n
   pub timer : 0 < n → left .delivery .timer ≡ 0
-  pub again : n ≡ 0 → left .delivery .sent ≡ 0
-  pub waits : n ≡ 0 → left .delivery .timer ≡ s .delivery .timer
+  pub sentAgain : n ≡ 0 → left .delivery .sent ≡ 0
+  pub timerStays : n ≡ 0 → left .delivery .timer ≡ s .delivery .timer
+  pub due : left .due ≡ s .due
 
 -- Both rules.
 pub record CounterRules (w : ℕ) (s : State) : Type 0 where

@@ -1,5 +1,6 @@
--- The definitions, in reading order: limits, servers, the queue, sound states, the calls and their steps, the history, the claim, the
--- examples, and the rules about servers as a table.
+-- The definitions, in reading order: limits, servers, the queue, sound states, the calls and their steps, the history, the claim. Then what
+-- is claimed of the steps besides: the examples, the rules about servers as a table, the order of refusals, the timer, the counters, and
+-- that a refusal changes nothing.
 pub mod Limits
 pub mod Servers
 pub mod Queue
@@ -11,5 +12,5 @@ pub mod Examples
 pub mod Rules
 pub mod Order
 pub mod Timer
-pub mod Refusals
 pub mod Counters
+pub mod Refusals

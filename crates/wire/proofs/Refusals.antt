@@ -23,12 +23,12 @@ use Rattle.wire.specs.Refusals.{KeptOrWritten, WireRefusals}
 -- the choice
 kept-or-written : {A : Type 0} (number : ℕ) (refusal : ℕ → A) (ok : A) (at : ℕ) (octets out : List ℕ)
     → (number ≡ done → at + length octets ≤ length out)
-    → KeptOrWritten number refusal (cond (eqb number done) ok (refusal number)) at octets out (cond (eqb number done) (sets out at octets) out)
+    → KeptOrWritten number refusal ok (cond (eqb number done) ok (refusal number)) at octets out (cond (eqb number done) (sets out at octets) out)
 kept-or-written number refusal ok at octets out room =
     record {
       refused = λ h. (rw (ne-eqb number done h), rw (ne-eqb number done h));
       room = room;
-      accepted = λ h. rw (eq-eqb number done h) (sets-eq octets out at (room h));
+      accepted = λ h. (rw (eq-eqb number done h), rw (eq-eqb number done h) (sets-eq octets out at (room h)));
     }
 
 -- a head that is accepted has room, with the record behind it

@@ -5,12 +5,12 @@ use mathlib.Core.Path.{_≡_, refl, sym, ap, _∙_}
 use mathlib.Core.Bool.{Bool, true, false, cond}
 use mathlib.Core.List.{List, [], _∷_, _++_, map}
 use Prim.Native.Nat.{ℕ, zero, suc, _+_, _≤_, _<_}
-use native.Mathlib.Nat.{add-zero, zero-add}
+use native.Mathlib.Nat.{add-zero}
 use native.Mathlib.Omega.{arith}
 use borrow.Author.Tests.{lt-ltb, eq-eqb, ltb-true, ltb-false}
 use lib.Dec.{ltb}
 use lib.ListN.{length, take, drop, length-append, length-drop}
-use lib.Seq.{sets, sets-eq, length-sets, drop-drop, drop-at, take-append-seam}
+use lib.Seq.{sets, sets-eq, length-sets, length-take-le, drop-append-le, drop-drop, drop-at, take-append-seam}
 use Rattle.octets.specs.Answers.{done}
 use Rattle.octets.specs.Each.{allOf}
 use Rattle.octets.proofs.Stores.{sets-append}
@@ -29,6 +29,16 @@ use Rattle.wire.specs.Demand2.{ValuesFor, RecordOf, RecordsMade, Records
 
 -- ---- made by appending
 
+-- Octets that were stored within a list are the part at their place.
+pub stored-part : (l vs : List ℕ) (i : ℕ) → i + length vs ≤ length l → take (length vs) (drop i (sets l i vs)) ≡ vs
+stored-part l vs i h =
+    let rest = drop (i + length vs) l in
+    let front = length-take-le i l (omega arith) in
+    let whole = length-append (take i l) vs in
+    ap (λ (s : List ℕ). take (length vs) (drop i s)) (sets-eq vs l i h)
+    ∙ ap (take (length vs)) (drop-append-le i (take i l ++ vs) rest (omega (arith, front, whole)) ∙ ap (λ (s : List ℕ). s ++ rest) (drop-at (take i l) vs i front))
+    ∙ take-append-seam vs rest
+
 -- values from a place on
 append-all : (values : List TypedValue) (at : ℕ) (out : List ℕ) → allOf (map fits values) ≡ true → at + length (recordOctets values) ≤ length out
     → appendAll values (appended.Next at) out ≡ record { answer = appended.Next (at + length (recordOctets values)); out = sets out at (recordOctets values) }
@@ -46,12 +56,10 @@ append-all (v ∷ values) at out h room =
     ∙ ap (λ (s : List ℕ). record { answer = appended.Next (at + length (field ++ rest)); out = s }) (sets-append field out at rest))
 
 pub records-made : RecordsMade
-records-made values out h room =
+records-made values at out h room =
     let r = recordOctets values in
-    append-all values 0 out h (omega arith)
-    ∙ ap (λ (k : ℕ). record { answer = appended.Next k; out = sets out 0 r }) (zero-add (length r))
-    ∙ ap (λ (s : List ℕ). record { answer = appended.Next (length r); out = s })
-    (sets-eq r out 0 (omega arith) ∙ ap (λ (k : ℕ). r ++ drop k out) (zero-add (length r)))
+    append-all values at out h room
+    ∙ ap (λ (s : List ℕ). record { answer = appended.Next (at + length r); out = s }) (sets-eq r out at room)
 
 -- ---- read back
 
@@ -185,9 +193,8 @@ record-of t id values found given =
     }
 
 pub records-read-back : RecordsReadBack
-records-read-back t id values out found given room =
-    let r = recordOctets values in
-    rw (records-made values out (given .fit) room, take-append-seam r (drop (length r) out)) (record-of t id values found given)
+records-read-back t id values at out found given room =
+    rw (append-all values at out (given .fit) room, stored-part out (recordOctets values) at room) (record-of t id values found given)
 
 -- no fields have no octets
 none-laid : (r : List ℕ) (fields : List Field) → map (λ f. f .kind) fields ≡ [] → laidOut r fields ≡ []

@@ -97,20 +97,21 @@ pub record RecordOf (t : List ℕ) (id : ℕ) (values : List TypedValue) (r : Li
   pub ends : (n : ℕ) → length values ≤ n → lastAnswer (stepOf t id r) n walkStart ≡ step.End
   pub stands : map (λ f. take (f .len) (drop (f .at) r)) (fieldsOf values 0) ≡ map octetsFor values
 
--- Values of their types, appended one after the other from the first octet of an output with room for them, leave their record there and
--- no octet behind it changed; the place behind it is answered.
+-- Values of their types, appended one after the other from a place of an output with room for them, leave their record there and no other
+-- octet changed; the place behind it is answered.
 abbrev pub RecordsMade : Type 0
 RecordsMade =
-    (values : List TypedValue) (out : List ℕ) → allOf (map fits values) ≡ true → length (recordOctets values) ≤ length out
-    → appendAll values (appended.Next 0) out
-    ≡ record { answer = appended.Next (length (recordOctets values)); out = recordOctets values ++ drop (length (recordOctets values)) out }
+    (values : List TypedValue) (at : ℕ) (out : List ℕ) → allOf (map fits values) ≡ true → at + length (recordOctets values) ≤ length out
+    → let end = at + length (recordOctets values) in
+    appendAll values (appended.Next at) out
+    ≡ record { answer = appended.Next end; out = take at out ++ recordOctets values ++ drop end out }
 
 -- Under every template of every sound table: values for its enabled keys that were so appended read back as a record.
 abbrev pub RecordsReadBack : Type 0
 RecordsReadBack =
-    (t : List ℕ) (id : ℕ) (values : List TypedValue) (out : List ℕ) → findAnswer t id ≡ done → ValuesFor t id values
-    → length (recordOctets values) ≤ length out
-    → RecordOf t id values (take (length (recordOctets values)) (appendAll values (appended.Next 0) out .out))
+    (t : List ℕ) (id : ℕ) (values : List TypedValue) (at : ℕ) (out : List ℕ) → findAnswer t id ≡ done → ValuesFor t id values
+    → at + length (recordOctets values) ≤ length out
+    → RecordOf t id values (take (length (recordOctets values)) (drop at (appendAll values (appended.Next at) out .out)))
 
 -- Where all keys are disabled, the empty record reads back as no values, and no other record is valid.
 abbrev pub EmptyRecords : Type 0

@@ -1,6 +1,5 @@
 -- `replay` is safe and ends: the loop takes as many turns as events were left at first. Each turn keeps the length of the store.
 use mathlib.Core.Path.{_≡_}
-use native.Mathlib.Omega.{arith}
 use lib.ListN.{length}
 use borrow.Author.Needs.{needs}
 use Rattle.replay.proofs.replay.Statement.{statement}
