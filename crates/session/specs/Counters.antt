@@ -22,8 +22,8 @@ pub record SentOne (s left : State) : Type 0 where
   pub due : left .due ≡ false
   pub count : left .queue .count ≡ s .queue .count
 
--- A DATA ACK that names n records: they go, and reached falls by n. Where n is above 0, sent falls by n but not below 0, and the timer is 0;
--- where n is 0, sent is 0, and the timer stays.
+-- A DATA ACK that names n records: they go, and reached falls by n. Where n is above 0, sent falls by n but not below 0, and the timer is
+-- 0; where n is 0, sent is 0, and the timer stays.
 pub record Released (n : ℕ) (s left : State) : Type 0 where
   pub same : SameServers s left
   pub count : left .queue .count ≡ s .queue .count - n

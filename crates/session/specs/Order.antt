@@ -1,5 +1,5 @@
--- The order of refusals, as the paper gives it (01, "Answer numbers"). For each call a list of turns: the first has every fault at once, and
--- each next one lacks the first fault of the one before. Their answers are the paper's numbers in the paper's order.
+-- The order of refusals, as the paper gives it (01, "Answer numbers"). For each call a list of turns: the first has every fault at once,
+-- and each next one lacks the first fault of the one before. Their answers are the paper's numbers in the paper's order.
 use mathlib.Core.Path.{_≡_}
 use mathlib.Core.Bool.{Bool, true, false, not, cond}
 use mathlib.Core.List.{List, [], _∷_, _++_, map}
@@ -155,8 +155,8 @@ LineDownOrder =
 abbrev pub TickOrder : Type 0
 TickOrder = answersOf (over (unsound (idle Closed)) Tick ∷ over (idle Closed) Tick ∷ []) ≡ 1 ∷ 0 ∷ []
 
--- Receive: 1 to 10. The message has 7 octets, version 2, a wrong length, session 8; then it is a START ACK without its body, then a FINAL TMPL
--- DATA ACK without its body, from a closed server, of configuration 2.
+-- Receive: 1 to 10. The message has 7 octets, version 2, a wrong length, session 8; then it is a START ACK without its body, then a FINAL
+-- TMPL DATA ACK without its body, from a closed server, of configuration 2.
 abbrev pub ReceiveOrder : Type 0
 ReceiveOrder =
     let short : List ℕ = 2 ∷ 0x02 ∷ 8 ∷ 0 ∷ 0 ∷ 0 ∷ 0 ∷ [] in
