@@ -195,7 +195,7 @@ DataAckOrder =
     ∷ [])
     ≡ 8 ∷ 9 ∷ 9 ∷ 10 ∷ 11 ∷ 0 ∷ []
 
--- Receive, 12: the output is one octet short of the reply, and a START NEGOTIATE with a body, then from a closed server, is 8 and 9 first. A
+-- Receive, 12: the output is one octet short of the reply; a START NEGOTIATE with a body, then from a closed server, is 8 and 9 first. A
 -- START ACK has 12 octets, the other two replies have 8.
 abbrev pub ReplyOrder : Type 0
 ReplyOrder =
