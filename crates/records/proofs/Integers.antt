@@ -1,0 +1,101 @@
+-- Laws of exact values: the integer that a field's value says is the one in its octets. The first octet is the most significant, so its
+-- highest bit says whether the number reaches half of 256 to the width.
+use mathlib.Core.Path.{_≡_, refl, ap, _∙_}
+use mathlib.Core.Bool.{Bool, true, false, cond}
+use mathlib.Core.List.{List}
+use mathlib.Core.Option.{none, some}
+use Prim.Native.Nat.{ℕ, zero, suc, _+_, _-_, _*_, _^_, _≤_, _<_}
+use native.Mathlib.Nat.{pow-suc, mul-le-mul-right}
+use native.Mathlib.Omega.{arith}
+use borrow.Author.Tests.{le-ltb, lt-ltb, leb-true, leb-false}
+use lib.Dec.{eqb, leb}
+use lib.IntN.{pos, negℤ}
+use lib.ListN.{getD}
+use Rattle.octets.specs.Answers.{done, recordInvalid}
+use Rattle.octets.specs.Numbers.{uintAt, Octets}
+use Rattle.octets.proofs.Numbers.{uint-within, uint-join, uint-one}
+use Rattle.field_types.specs.FieldTypes.{widthOf, isNumber, isSigned}
+use Rattle.field_types.proofs.TypeFacts.{number-width, signed-number}
+use Rattle.tables.specs.Table.{keyAt, keyType, templateOf, findAnswer}
+use Rattle.tables.specs.declared.table.Template.{Template}
+use Rattle.records.specs.Record.{fieldLength}
+use Rattle.records.specs.Walk.{signedAt, valueAt, integerOf, twosComplementAt, integerAt, fieldOf, nextKey, stepUnder, stepOf, Exact}
+use Rattle.records.specs.declared.walk.Value.the-variants as value
+use Rattle.records.specs.declared.walk.Cursor.{Cursor}
+use Rattle.records.specs.declared.walk.Step.the-variants as step
+
+-- the w + 1 octets at a place that are below 256
+module _ (r : List ℕ) (at w : ℕ) (octet : (i : ℕ) → i < suc w → getD r (at + i) 0 < 256) where
+  -- the first weighs 256 to the w, and the others make less than that
+  first-weighs : (uintAt r at (suc w) ≡ getD r at 0 * 256 ^ w + uintAt r (at + 1) w) × (uintAt r (at + 1) w < 256 ^ w)
+  first-weighs =
+      let n : suc w ≡ 1 + w = omega arith in (
+        ap (uintAt r at) n ∙ uint-join r at 1 w ∙ ap (λ (a : ℕ). a * 256 ^ w + uintAt r (at + 1) w) (uint-one r at),
+        uint-within r (at + 1) w (λ i l. let e : at + 1 + i ≡ at + suc i = omega arith in rw e (octet (suc i) (omega arith))),
+      )
+
+  -- so its highest bit is set from half on
+  half-set : leb 128 (getD r at 0) ≡ true → 256 ^ suc w ≤ 2 * uintAt r at (suc w)
+  half-set e = omega (arith, first-weighs, pow-suc 256 w, mul-le-mul-right (256 ^ w) (leb-true 128 (getD r at 0) e))
+
+  half-clear : leb 128 (getD r at 0) ≡ false → 2 * uintAt r at (suc w) < 256 ^ suc w
+  half-clear e =
+      let a : getD r at 0 ≤ 127 = omega (arith, leb-false 128 (getD r at 0) e) in
+      omega (arith, first-weighs, pow-suc 256 w, mul-le-mul-right (256 ^ w) a)
+
+  -- a signed value is the two's complement of its octets
+  signed-exact : integerOf (signedAt r at (suc w)) ≡ some (twosComplementAt r at (suc w))
+  unfolding signedAt twosComplementAt
+  signed-exact = go (leb 128 (getD r at 0)) refl
+    where
+      u : ℕ
+      u = uintAt r at (suc w)
+
+      go : (b : Bool) → leb 128 (getD r at 0) ≡ b → integerOf (signedAt r at (suc w)) ≡ some (twosComplementAt r at (suc w))
+      go true e =
+          let n : 256 ^ suc w - u ≡ suc (256 ^ suc w - suc u) = omega (arith, uint-within r at (suc w) octet) in
+          rw (e, le-ltb (2 * u) (256 ^ suc w) (half-set e), lt-ltb u (256 ^ suc w) (uint-within r at (suc w) octet))
+          (ap (λ (k : ℕ). some (negℤ (pos k))) n)
+      go false e = rw (e, lt-ltb (2 * u) (256 ^ suc w) (half-clear e))
+
+-- THE LAW OF EXACT VALUES, for every type, where the octets of its width are below 256
+pub exact-value : (type : ℕ) (r : List ℕ) (at : ℕ) → ((i : ℕ) → i < widthOf type → getD r (at + i) 0 < 256)
+    → integerOf (valueAt type r at) ≡ integerAt type r at
+unfolding valueAt integerAt
+exact-value type r at octet = go (isSigned type) refl (isNumber type)
+  where
+    signed : (w : ℕ) → 1 ≤ w → ((i : ℕ) → i < w → getD r (at + i) 0 < 256) → integerOf (signedAt r at w) ≡ some (twosComplementAt r at w)
+    signed zero h below = absurd (omega arith)
+    signed (suc w) h below = signed-exact r at w below
+
+    go : (s : Bool) → isSigned type ≡ s → (n : Bool)
+        → integerOf (cond s (signedAt r at (widthOf type)) (cond n (value.Number (uintAt r at (widthOf type))) value.Octets))
+        ≡ cond s (some (twosComplementAt r at (widthOf type))) (cond n (some (pos (uintAt r at (widthOf type)))) none)
+    go true e n = signed (widthOf type) (number-width type (signed-number type e) .0) octet
+    go false e true = refl
+    go false e false = refl
+
+-- so is the value of the field that a step answers
+pub step-exact : (t : List ℕ) (id : ℕ) (r : List ℕ) (c : Cursor) → Octets r → Exact r (stepOf t id r c)
+unfolding stepOf stepUnder
+step-exact t id r c octet =
+    go (eqb (findAnswer t id) done) (leb (m .count) k) (eqb (fieldLength type r (c .at)) 0) (exact-value type r (c .at) (λ i l. octet (c .at + i)))
+  where
+    m : Template
+    m = templateOf t id
+
+    k : ℕ
+    k = nextKey t m (c .index)
+
+    type : ℕ
+    type = keyType t (keyAt (m .keys) k)
+
+    go : (found last missing : Bool) → integerOf (valueAt type r (c .at)) ≡ integerAt type r (c .at)
+        → Exact r
+        (cond found
+        (cond last step.End (cond missing (step.Refused recordInvalid) (step.Next (fieldOf type r (c .at)) (record { index = k + 1; at = c .at + fieldLength type r (c .at) }))))
+        (step.Refused (findAnswer t id)))
+    go false last missing e = tt
+    go true true missing e = tt
+    go true false true e = tt
+    go true false false e = e
