@@ -62,3 +62,8 @@ kept number ok refusal o n a = go (eqb a done) refl
 pub answered : {R : Type 0} {numberIn : R → ℕ} {result expected : R} {judged : ℕ} → numberIn expected ≡ judged → result ≡ expected
     → Answered numberIn result expected judged
 answered {numberIn = numberIn} n e = record { same = e; number = ap numberIn e ∙ n }
+
+-- The same, with what is promised beside it.
+pub answered-with : {R : Type 0} {numberIn : R → ℕ} {result expected : R} {judged : ℕ} {P : Type 0} → numberIn expected ≡ judged
+    → (result ≡ expected) × P → Answered numberIn result expected judged × P
+answered-with n e = (answered n (e .0), e .1)

@@ -11,18 +11,21 @@ use borrow.Author.Tests.{le-ltb, lt-ltb, leb-true, leb-false}
 use lib.Dec.{eqb, leb}
 use lib.IntN.{pos, negℤ}
 use lib.ListN.{getD}
-use Rattle.octets.specs.Answers.{done, recordInvalid}
+use Rattle.octets.specs.Answers.{done, recordInvalid, Answered}
 use Rattle.octets.specs.Numbers.{uintAt, Octets}
 use Rattle.octets.proofs.Numbers.{uint-within, uint-join, uint-one}
+use Rattle.octets.proofs.Judging.{answered}
 use Rattle.field_types.specs.FieldTypes.{widthOf, isNumber, isSigned}
 use Rattle.field_types.proofs.TypeFacts.{number-width, signed-number}
 use Rattle.tables.specs.Table.{keyAt, keyType, templateOf, findAnswer}
 use Rattle.tables.specs.declared.table.Template.{Template}
 use Rattle.records.specs.Record.{fieldLength}
-use Rattle.records.specs.Walk.{signedAt, valueAt, integerOf, twosComplementAt, integerAt, fieldOf, nextKey, stepUnder, stepOf, Exact}
+use Rattle.records.specs.Walk.{signedAt, valueAt, integerOf, twosComplementAt, integerAt, fieldOf, nextKey, stepUnder, stepJudged, stepOf, stepAnswer, Exact}
 use Rattle.records.specs.declared.walk.Value.the-variants as value
 use Rattle.records.specs.declared.walk.Cursor.{Cursor}
+use Rattle.records.specs.declared.walk.Step.{Step}
 use Rattle.records.specs.declared.walk.Step.the-variants as step
+use Rattle.records.proofs.WalkLaws.{step-number}
 
 -- the w + 1 octets at a place that are below 256
 module _ (r : List ℕ) (at w : ℕ) (octet : (i : ℕ) → i < suc w → getD r (at + i) 0 < 256) where
@@ -99,3 +102,8 @@ step-exact t id r c octet =
     go true true missing e = tt
     go true false true e = tt
     go true false false e = e
+
+-- What is promised of a step, from its equation: its number is the one that it is judged by, and its value is exact.
+pub stepped : (t : List ℕ) (id : ℕ) (r : List ℕ) (c : Cursor) (s : Step) → Octets r → s ≡ stepOf t id r c
+    → Answered stepAnswer s (stepOf t id r c) (stepJudged t id r c) × Exact r s
+stepped t id r c s octet e = (answered (step-number t id r c) e, rw e (step-exact t id r c octet))

@@ -1,5 +1,5 @@
 pub mod FieldsWithin
 pub mod Records
 pub mod Widths
-pub mod Integers
 pub mod WalkLaws
+pub mod Integers

@@ -12,12 +12,11 @@ use borrow.Author.Tests.{le-leb, lt-leb, ne-eqb, ltb-true, eqb-true}
 use lib.Dec.{eqb, leb, ltb}
 use lib.ListN.{length, take, drop, take-append-drop, drop-of-length-le}
 use lib.Seq.{drop-drop}
-use Rattle.octets.specs.Answers.{done, unsoundTable, templateNotFound, recordInvalid, Answered}
-use Rattle.octets.specs.Numbers.{Octets}
+use Rattle.octets.specs.Answers.{done, unsoundTable, templateNotFound, recordInvalid}
 use Rattle.octets.specs.Each.{every}
 use Rattle.tables.specs.Table.{keyAt, keyType, isEnabled, tableSound, isMissing, templateOf}
 use Rattle.records.specs.Record.{fieldLength, lengthUnder, fieldAt, fieldValid, recordValid, recordAnswer}
-use Rattle.records.specs.Walk.{fieldOf, stepJudged, openAnswer, stepAnswer, Exact}
+use Rattle.records.specs.Walk.{fieldOf, stepJudged, openAnswer, stepAnswer}
 use Rattle.records.specs.Walk.{nextKey, stepUnder, stepOf, walkStart, openOf, afterStep, visited, lastCursor, lastAnswer, laidOut, enabledFrom, enabledKeys, enabledTypes, fieldUnder}
 use Rattle.tables.specs.declared.table.Template.{Template}
 use Rattle.records.specs.declared.walk.Field.{Field}
@@ -25,9 +24,8 @@ use Rattle.records.specs.declared.walk.Cursor.{Cursor}
 use Rattle.records.specs.declared.walk.Opened.the-variants as opened
 use Rattle.records.specs.declared.walk.Step.{Step}
 use Rattle.records.specs.declared.walk.Step.the-variants as step
-use Rattle.octets.proofs.Judging.{kept, answered}
+use Rattle.octets.proofs.Judging.{kept}
 use Rattle.octets.proofs.Each.{and-left, and-right, every-at, first-here, first-on, first-none}
-use Rattle.records.proofs.Integers.{step-exact}
 
 -- ---- walks by any step function
 
@@ -229,11 +227,6 @@ step-number t id r c = go (tableSound t) (isMissing t id) (leb (m .count) k) (eq
     go true false true none = refl
     go true false false true = refl
     go true false false false = refl
-
--- What is promised of a step, from the step's equation: the number is the one that it is judged by, and the value is exact.
-pub stepped : (t : List ℕ) (id : ℕ) (r : List ℕ) (c : Cursor) (s : Step) → Octets r → s ≡ stepOf t id r c
-    → Answered stepAnswer s (stepOf t id r c) (stepJudged t id r c) × Exact r s
-stepped t id r c s octet e = (answered (step-number t id r c) e, rw e (step-exact t id r c octet))
 
 -- ---- the same of the public calls
 

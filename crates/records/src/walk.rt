@@ -124,7 +124,8 @@ fn step_under(t: &[u8], m: Template, r: &[u8], c: Cursor) -> Step
 
 // Opens a walk over a record under the template with an ID: 21, 15 or 16 as for the whole record, or the walk's start.
 pub fn open_walk(t: &[u8], id: u16, r: &[u8]) -> Opened
-    ensures { λ o. ⌜ Answered openAnswer o (openOf (now (t .entry)) id (now (r .entry))) (recordAnswer (now (t .entry)) id (now (r .entry))) ⌝ }
+    ensures { λ o. ⌜ Answered openAnswer o (openOf (now (t .entry)) id (now (r .entry)))
+        (recordAnswer (now (t .entry)) id (now (r .entry))) ⌝ }
 {
     // Both are lent anew, since to pass parameters on would copy them first.
     let answer = crate::record::record_answer(&t[..], id, &r[..]);
@@ -136,8 +137,8 @@ pub fn open_walk(t: &[u8], id: u16, r: &[u8]) -> Opened
 
 // The field at a cursor and the cursor after it; the end where no enabled key is left; 21, 15, or 16 for a field that is not valid.
 pub fn step_walk(t: &[u8], id: u16, r: &[u8], c: Cursor) -> Step
-    ensures { λ s. ⌜ Answered stepAnswer s (stepOf (now (t .entry)) id (now (r .entry)) c) (stepJudged (now (t .entry)) id (now (r .entry)) c)
-        × Exact (now (r .entry)) s ⌝ }
+    ensures { λ s. ⌜ Answered stepAnswer s (stepOf (now (t .entry)) id (now (r .entry)) c)
+        (stepJudged (now (t .entry)) id (now (r .entry)) c) × Exact (now (r .entry)) s ⌝ }
 {
     // `&t[..]` lends the table anew: to pass the parameter on would copy it first.
     match tables::table::find_template(&t[..], id) {
