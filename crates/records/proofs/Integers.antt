@@ -8,7 +8,7 @@ use Prim.Native.Nat.{ℕ, zero, suc, _+_, _-_, _*_, _^_, _≤_, _<_}
 use native.Mathlib.Nat.{pow-suc, mul-le-mul-right}
 use native.Mathlib.Omega.{arith}
 use borrow.Author.Tests.{le-ltb, lt-ltb, leb-true, leb-false}
-use lib.Dec.{eqb, leb}
+use lib.Dec.{eqb, leb, ltb}
 use lib.IntN.{pos, negℤ}
 use lib.ListN.{getD}
 use Rattle.octets.specs.Answers.{done, recordInvalid, Answered}
@@ -77,6 +77,21 @@ exact-value type r at octet = go (isSigned type) refl (isNumber type)
     go true e n = signed (widthOf type) (number-width type (signed-number type e) .0) octet
     go false e true = refl
     go false e false = refl
+
+-- where no number is read, the octets hold no integer, whatever they are
+pub no-integer : (type : ℕ) (r : List ℕ) (at : ℕ) → valueAt type r at ≡ value.Octets → integerAt type r at ≡ none
+unfolding valueAt signedAt integerAt
+no-integer type r at = go (isSigned type) (ltb (2 * uintAt r at (widthOf type)) (256 ^ widthOf type)) (isNumber type)
+  where
+    u : ℕ
+    u = uintAt r at (widthOf type)
+
+    go : (s low n : Bool) → cond s (cond low (value.Number u) (value.Negative (256 ^ widthOf type - u))) (cond n (value.Number u) value.Octets) ≡ value.Octets
+        → cond s (some (twosComplementAt r at (widthOf type))) (cond n (some (pos u)) none) ≡ none
+    go true true n e = let y : _≡_ {A = ℕ} 0 1 = cc in absurd (omega arith)
+    go true false n e = let y : _≡_ {A = ℕ} 0 1 = cc in absurd (omega arith)
+    go false low true e = let y : _≡_ {A = ℕ} 0 1 = cc in absurd (omega arith)
+    go false low false e = refl
 
 -- so is the value of the field that a step answers
 pub step-exact : (t : List ℕ) (id : ℕ) (r : List ℕ) (c : Cursor) → Octets r → Exact r (stepOf t id r c)
