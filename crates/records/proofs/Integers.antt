@@ -9,7 +9,7 @@ use native.Mathlib.Nat.{pow-suc, mul-le-mul-right}
 use native.Mathlib.Omega.{arith}
 use borrow.Author.Tests.{le-ltb, lt-ltb, leb-true, leb-false}
 use lib.Dec.{eqb, leb, ltb}
-use lib.IntN.{pos, negℤ}
+use lib.IntN.{pos, negℤ, subℕ}
 use lib.ListN.{getD}
 use Rattle.octets.specs.Answers.{done, recordInvalid, Answered}
 use Rattle.octets.specs.Numbers.{uintAt, Octets}
@@ -26,6 +26,12 @@ use Rattle.records.specs.declared.walk.Cursor.{Cursor}
 use Rattle.records.specs.declared.walk.Step.{Step}
 use Rattle.records.specs.declared.walk.Step.the-variants as step
 use Rattle.records.proofs.WalkLaws.{step-number}
+
+-- minus k is a difference of which the second is larger by k
+minus : (k a b : ℕ) → a + k ≡ b → 0 < k → negℤ (pos k) ≡ subℕ a b
+minus k a b e h =
+    let n : k ≡ suc (b - suc a) = omega arith in
+    rw (lt-ltb a b (omega arith)) (ap (λ (i : ℕ). negℤ (pos i)) n)
 
 -- the w + 1 octets at a place that are below 256
 module _ (r : List ℕ) (at w : ℕ) (octet : (i : ℕ) → i < suc w → getD r (at + i) 0 < 256) where
@@ -56,9 +62,8 @@ module _ (r : List ℕ) (at w : ℕ) (octet : (i : ℕ) → i < suc w → getD r
 
       go : (b : Bool) → leb 128 (getD r at 0) ≡ b → integerOf (signedAt r at (suc w)) ≡ some (twosComplementAt r at (suc w))
       go true e =
-          let n : 256 ^ suc w - u ≡ suc (256 ^ suc w - suc u) = omega (arith, uint-within r at (suc w) octet) in
-          rw (e, le-ltb (2 * u) (256 ^ suc w) (half-set e), lt-ltb u (256 ^ suc w) (uint-within r at (suc w) octet))
-          (ap (λ (k : ℕ). some (negℤ (pos k))) n)
+          let below = uint-within r at (suc w) octet in
+          rw (e, le-ltb (2 * u) (256 ^ suc w) (half-set e)) (ap some (minus (256 ^ suc w - u) u (256 ^ suc w) (omega arith) (omega arith)))
       go false e = rw (e, lt-ltb (2 * u) (256 ^ suc w) (half-clear e))
 
 -- THE LAW OF EXACT VALUES, for every type, where the octets of its width are below 256
@@ -78,22 +83,7 @@ exact-value type r at octet = go (isSigned type) refl (isNumber type)
     go false e true = refl
     go false e false = refl
 
--- where no number is read, the octets hold no integer, whatever they are
-pub no-integer : (type : ℕ) (r : List ℕ) (at : ℕ) → valueAt type r at ≡ value.Octets → integerAt type r at ≡ none
-unfolding valueAt signedAt integerAt
-no-integer type r at = go (isSigned type) (ltb (2 * uintAt r at (widthOf type)) (256 ^ widthOf type)) (isNumber type)
-  where
-    u : ℕ
-    u = uintAt r at (widthOf type)
-
-    go : (s low n : Bool) → cond s (cond low (value.Number u) (value.Negative (256 ^ widthOf type - u))) (cond n (value.Number u) value.Octets) ≡ value.Octets
-        → cond s (some (twosComplementAt r at (widthOf type))) (cond n (some (pos u)) none) ≡ none
-    go true true n e = let y : _≡_ {A = ℕ} 0 1 = cc in absurd (omega arith)
-    go true false n e = let y : _≡_ {A = ℕ} 0 1 = cc in absurd (omega arith)
-    go false low true e = let y : _≡_ {A = ℕ} 0 1 = cc in absurd (omega arith)
-    go false low false e = refl
-
--- so is the value of the field that a step answers
+-- so the value of a field that a step answers is exact
 pub step-exact : (t : List ℕ) (id : ℕ) (r : List ℕ) (c : Cursor) → Octets r → Exact r (stepOf t id r c)
 unfolding stepOf stepUnder
 step-exact t id r c octet =
@@ -122,3 +112,18 @@ step-exact t id r c octet =
 pub stepped : (t : List ℕ) (id : ℕ) (r : List ℕ) (c : Cursor) (s : Step) → Octets r → s ≡ stepOf t id r c
     → Answered stepAnswer s (stepOf t id r c) (stepJudged t id r c) × Exact r s
 stepped t id r c s octet e = (answered (step-number t id r c) e, rw e (step-exact t id r c octet))
+
+-- where no number is read, the octets hold no integer, whatever they are
+pub no-integer : (type : ℕ) (r : List ℕ) (at : ℕ) → valueAt type r at ≡ value.Octets → integerAt type r at ≡ none
+unfolding valueAt signedAt integerAt
+no-integer type r at = go (isSigned type) (ltb (2 * uintAt r at (widthOf type)) (256 ^ widthOf type)) (isNumber type)
+  where
+    u : ℕ
+    u = uintAt r at (widthOf type)
+
+    go : (s low n : Bool) → cond s (cond low (value.Number u) (value.Negative (256 ^ widthOf type - u))) (cond n (value.Number u) value.Octets) ≡ value.Octets
+        → cond s (some (twosComplementAt r at (widthOf type))) (cond n (some (pos u)) none) ≡ none
+    go true true n e = let y : _≡_ {A = ℕ} 0 1 = cc in absurd (omega arith)
+    go true false n e = let y : _≡_ {A = ℕ} 0 1 = cc in absurd (omega arith)
+    go false low true e = let y : _≡_ {A = ℕ} 0 1 = cc in absurd (omega arith)
+    go false low false e = refl

@@ -36,7 +36,7 @@ valueAt type r at =
 
 -- ---- exact values, in ℤ
 
--- The integer that a value says: n, or minus n; octets say none.
+-- The integer that a value stands for: n, or minus n; octets stand for none.
 abbrev pub integerOf : Value → Option ℤ
 integerOf (Number n) = some (pos n)
 integerOf (Negative n) = some (negℤ (pos n))
@@ -105,7 +105,7 @@ abbrev pub stepFromJudged : List ℕ → ℕ → List ℕ → Opened → ℕ
 stepFromJudged t id r (opened.At c) = stepJudged t id r c
 stepFromJudged t id r (opened.Refused a) = a
 
--- The value of a field that a step answers is the integer in the field's octets.
+-- The value of a field that a step answers stands for the integer in the field's octets; the end and a refusal have no value.
 abbrev pub Exact : List ℕ → Step → Type 0
 Exact r (step.Next f c) = integerOf (f .value) ≡ integerAt (f .kind) r (f .at)
 Exact r step.End = Unit {0}
