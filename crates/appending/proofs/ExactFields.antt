@@ -2,10 +2,10 @@
 -- stand, and the value is read back there.
 use mathlib.Core.Path.{_≡_, refl, sym, ap, _∙_}
 use mathlib.Core.List.{List}
-use Prim.Native.Nat.{ℕ, _+_, _-_, _^_, _≤_, _<_}
+use Prim.Native.Nat.{ℕ, _+_, _-_, _^_, _<_}
 use native.Mathlib.Omega.{arith}
 use borrow.Author.Tests.{eq-eqb}
-use lib.ListN.{length, getD}
+use lib.ListN.{getD}
 use Rattle.octets.specs.Answers.{done}
 use Rattle.octets.specs.Numbers.{octetsOf}
 use Rattle.octets.proofs.Numbers.{octets-length, octets-below}
@@ -20,7 +20,7 @@ use Rattle.appending.proofs.ReadBack.{append-done, append-reads-back}
 
 -- a value whose field is the octets of a number
 module _ (type : ℕ) (value : Value) (octets out : List ℕ) (at n : ℕ) (h : appendAnswer type value octets out at ≡ done)
-  (field : fieldOctets type value octets ≡ octetsOf (widthOf type) n) where
+    (field : fieldOctets type value octets ≡ octetsOf (widthOf type) n) where
   stored-octet : (i : ℕ) → i < widthOf type → getD (appendOut type value octets out at) (at + i) 0 < 256
   unfolding appendOut
   stored-octet i l =
