@@ -1,2 +1,3 @@
 pub mod Appends
 pub mod ReadBack
+pub mod ExactFields

@@ -5,10 +5,11 @@ ghost use mathlib.Core.Bool.{true, not};
 ghost use Prim.Native.Nat.{_<_};
 ghost use lib.Dec.{eqb};
 ghost use lib.ListN.{length, getD};
+ghost use Rattle.octets.specs.Answers.{Answered};
 ghost use Rattle.octets.specs.Numbers.{octetsOf};
 ghost use Rattle.octets.specs.Each.{every};
 ghost use Rattle.records.specs.Record.{lengthOctets};
-ghost use Rattle.appending.specs.Append.{lengthLimit, numberFits, negativeFits, octetsFit, octetsField, Stored, appendOf, appendOut};
+ghost use Rattle.appending.specs.Append.{lengthLimit, numberFits, negativeFits, octetsFit, octetsField, Stored, appendAnswer, appendOf, appendOut, appendedAnswer};
 use field_types::field_type::FieldType;
 use octets::Answer;
 use records::record::LENGTH_OCTETS;
@@ -162,7 +163,8 @@ fn store_octets(kind: u16, octets: &[u8], out: &mut [u8], at: usize) -> Appended
 // Appends the field of a type that holds a value, at a place of the output: the place after it, or 16 for a value that is not of the type
 // and 12 for an output that is too short. The octets count where the value is octets.
 pub fn append(kind: u16, value: Value, octets: &[u8], out: &mut [u8], at: usize) -> Appended
-    ensures { λ r. ⌜ (r ≡ appendOf kind value (now (octets .entry)) (now (out .entry)) at)
+    ensures { λ r. ⌜ Answered appendedAnswer r (appendOf kind value (now (octets .entry)) (now (out .entry)) at)
+        (appendAnswer kind value (now (octets .entry)) (now (out .entry)) at)
         × (now (out .exit) ≡ appendOut kind value (now (octets .entry)) (now (out .entry)) at) ⌝ }
 {
     let width = FieldType { number: kind }.width() as usize;

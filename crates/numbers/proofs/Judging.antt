@@ -1,6 +1,6 @@
 -- Laws of judging: what an answer of 0 says of the checks, one list of checks behind another, and the number of an answer that is an enum.
 -- Each goes by the checks in their order, or by whether the answer is 0.
-use mathlib.Core.Path.{_≡_, refl, sym, _∙_}
+use mathlib.Core.Path.{_≡_, refl, sym, ap, _∙_}
 use mathlib.Core.Bool.{Bool, true, false, cond}
 use mathlib.Core.List.{List, [], _∷_, _++_}
 use Prim.Native.Nat.{ℕ, zero, suc}
@@ -8,7 +8,7 @@ use native.Mathlib.Omega.{arith}
 use borrow.Author.Needs.{needs}
 use borrow.Author.Tests.{lt-ltb, le-ltb, le-leb, lt-leb, eq-eqb, ne-eqb, eqb-true}
 use lib.Dec.{eqb}
-use Rattle.numbers.specs.Answers.{Check, _when_, judge, done}
+use Rattle.numbers.specs.Answers.{Check, _when_, judge, done, Answered}
 
 -- what a search for a return needs: the value of each test on the way
 pub ruleset tests = (lt-ltb, le-ltb, le-leb, lt-leb, eq-eqb, ne-eqb, needs)
@@ -57,3 +57,13 @@ kept number ok refusal o n a = go (eqb a done) refl
     go : (b : Bool) → eqb a done ≡ b → number (cond b ok (refusal a)) ≡ a
     go true q = o ∙ sym (eqb-true a done q)
     go false q = n a
+
+-- An answer that equals the one that a definition gives has that one's number.
+pub answered : {R : Type 0} {numberIn : R → ℕ} {result expected : R} {judged : ℕ} → numberIn expected ≡ judged → result ≡ expected
+    → Answered numberIn result expected judged
+answered {numberIn = numberIn} n e = record { same = e; number = ap numberIn e ∙ n }
+
+-- The same, with what is promised beside it.
+pub answered-with : {R : Type 0} {numberIn : R → ℕ} {result expected : R} {judged : ℕ} {P : Type 0} → numberIn expected ≡ judged
+    → (result ≡ expected) × P → Answered numberIn result expected judged × P
+answered-with n e = (answered n (e .0), e .1)

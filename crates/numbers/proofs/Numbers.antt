@@ -1,23 +1,24 @@
 -- Laws of numbers in octets, each once for every width. Those of `numberOf` hold for either order of octets.
 use mathlib.Core.Path.{_≡_, refl, sym, ap, _∙_}
+use mathlib.Core.Bool.{Bool, true, false}
 use mathlib.Core.List.{List, [], _∷_, _++_, append-nil, append-assoc}
 use Prim.Native.Nat.{ℕ, zero, suc, _+_, _-_, _*_, _/_, _%_, _^_, _≤_, _<_}
 use native.Mathlib.Nat.{add-zero, zero-add, add-suc, add-assoc, le-refl, pow-zero, pow-suc, mul-assoc, mul-comm, div-one, div-add-mod', div-lt-iff-lt-mul, div-div-eq-div-mul}
 use native.Mathlib.Numerals.{add-one}
 use native.Mathlib.Omega.{arith}
-use borrow.Author.Tests.{le-leb}
-use lib.Dec.{lit<}
+use borrow.Author.Tests.{le-leb, leb-true, leb-false}
+use lib.Dec.{lit<, leb}
 use lib.ListN.{length, getD, take, drop, length-append, length-drop, List·getD-append, List·getD-eq-default}
-use lib.Seq.{take-suc, getD-drop, getD-append-add}
+use lib.Seq.{take-suc, getD-drop, getD-append-add, getD-append-seam}
 use Rattle.numbers.specs.Numbers.{numberOf, uintAt, octetsOf, Octets, smaller}
 
 -- ---- the number of given digits
 
 -- w digits make a number below 256 to the w
-pub number-below : (d : ℕ → ℕ) → ((i : ℕ) → d i < 256) → (w : ℕ) → numberOf d w < 256 ^ w
+pub number-below : (d : ℕ → ℕ) (w : ℕ) → ((i : ℕ) → i < w → d i < 256) → numberOf d w < 256 ^ w
 unfolding numberOf
-number-below d digit zero = le-refl 1
-number-below d digit (suc w) = rw pow-suc (omega (arith, number-below d digit w, digit w))
+number-below d zero digit = le-refl 1
+number-below d (suc w) digit = rw pow-suc (omega (arith, number-below d w (λ i l. digit i (omega arith)), digit w (le-refl (suc w))))
 
 -- the number depends on its digits alone
 pub number-same : (d e : ℕ → ℕ) (w : ℕ) → ((i : ℕ) → i < w → d i ≡ e i) → numberOf d w ≡ numberOf e w
@@ -36,9 +37,12 @@ number-join d a (suc b) =
 
 -- ---- the number at a place
 
-pub uint-below : (s : List ℕ) → Octets s → (at w : ℕ) → uintAt s at w < 256 ^ w
+pub uint-within : (s : List ℕ) (at w : ℕ) → ((i : ℕ) → i < w → getD s (at + i) 0 < 256) → uintAt s at w < 256 ^ w
 unfolding uintAt
-uint-below s octet at w = number-below (λ i. getD s (at + i) 0) (λ i. octet (at + i)) w
+uint-within s at w octet = number-below (λ i. getD s (at + i) 0) w octet
+
+pub uint-below : (s : List ℕ) → Octets s → (at w : ℕ) → uintAt s at w < 256 ^ w
+uint-below s octet at w = uint-within s at w (λ i l. octet (at + i))
 
 -- the same octets make the same number, wherever they stand
 pub uint-same : (s t : List ℕ) (a b w : ℕ) → ((i : ℕ) → i < w → getD s (a + i) 0 ≡ getD t (b + i) 0) → uintAt s a w ≡ uintAt t b w
@@ -94,6 +98,23 @@ pub octets-length : (w v : ℕ) → length (octetsOf w v) ≡ w
 unfolding octetsOf
 octets-length zero v = refl
 octets-length (suc w) v = length-append (octetsOf w (v / 256)) (v % 256 ∷ []) ∙ add-one _ ∙ ap suc (octets-length w (v / 256))
+
+-- each of them is below 256
+pub octets-below : (w v i : ℕ) → i < w → getD (octetsOf w v) i 0 < 256
+unfolding octetsOf
+octets-below zero v i l = absurd (omega arith)
+octets-below (suc w) v i l = go (octets-length w (v / 256)) (octets-below w (v / 256) i) (leb (suc i) w) refl
+  where
+    front : List ℕ
+    front = octetsOf w (v / 256)
+
+    go : length front ≡ w → (i < w → getD front i 0 < 256) → (b : Bool) → leb (suc i) w ≡ b → getD (front ++ (v % 256 ∷ [])) i 0 < 256
+    go n below true e =
+        let h = leb-true (suc i) w e in
+        rw (List·getD-append front (v % 256 ∷ []) 0 i (omega arith)) (below h)
+    go n below false e =
+        let q : i ≡ length front = omega (arith, leb-false (suc i) w e) in
+        rw (q, getD-append-seam front (v % 256) [] 0) (omega arith)
 
 -- a octets followed by b octets
 pub octets-join : (a b v : ℕ) → octetsOf (a + b) v ≡ octetsOf a (v / 256 ^ b) ++ octetsOf b v

@@ -1,5 +1,6 @@
--- The answer numbers by name, and how a call's refusals are judged (01, "Answer numbers").
+-- The answer numbers by name, how a call's refusals are judged (01, "Answer numbers"), and what is promised of an answer that is an enum.
 use Prim.Native.Nat.{ℕ}
+use mathlib.Core.Path.{_≡_}
 use mathlib.Core.Bool.{Bool, cond}
 use mathlib.Core.List.{List, [], _∷_}
 
@@ -85,7 +86,7 @@ queueFull = 18
 abbrev pub storeFull : ℕ
 storeFull = 19
 
--- 20: a number_writing, or the store, is outside its limits.
+-- 20: a setting, or the store, is outside its limits.
 abbrev pub settingsOutsideLimits : ℕ
 settingsOutsideLimits = 20
 
@@ -136,3 +137,11 @@ pub data Check : Type 0 where
 abbrev pub judge : List Check → ℕ
 judge [] = done
 judge ((number when test) ∷ checks) = cond test number (judge checks)
+
+-- ---- an answer that is an enum
+
+-- What a contract promises of it: it is the answer that a definition gives, and its number, by the definition that gives one for each of
+-- its cases, is the number that the call is judged by (01, "Where each language form belongs").
+pub record Answered {R : Type 0} (numberIn : R → ℕ) (result expected : R) (judged : ℕ) : Type 0 where
+  pub same : result ≡ expected
+  pub number : numberIn result ≡ judged

@@ -1,7 +1,9 @@
 // A borrowed record and the place of a walk over it, held together. A reader's functions take it apart and leave the work to `walk`.
 ghost use mathlib.Core.Path.{_≡_};
-ghost use Rattle.records.specs.Walk.{stepOf, stepFrom, openOf};
-ghost use Rattle.readers.specs.Count.{countOf};
+ghost use Rattle.octets.specs.Answers.{Answered};
+ghost use Rattle.records.specs.Record.{recordAnswer};
+ghost use Rattle.records.specs.Walk.{stepOf, stepFrom, stepFromJudged, stepAnswer, Exact, openOf, openAnswer};
+ghost use Rattle.readers.specs.Count.{countOf, countAnswer};
 ghost use Rattle.records.specs.declared.walk.Opened.the-variants as opened;
 use records::walk::Cursor;
 use records::walk::Opened;
@@ -26,7 +28,9 @@ pub enum Counted {
 impl<'a> Reader<'a> {
     // A reader of a record under the template with an ID, at the record's start or refused: 21, 15 or 16.
     pub fn open(t: &[u8], id: u16, record: &'a [u8]) -> Reader<'a>
-        ensures { λ q. ⌜ (q .«record» ≡ «record» .entry) × (q .place ≡ openOf (now (t .entry)) id (now («record» .entry))) ⌝ }
+        ensures { λ q. ⌜ (q .«record» ≡ «record» .entry)
+            × Answered openAnswer (q .place) (openOf (now (t .entry)) id (now («record» .entry)))
+            (recordAnswer (now (t .entry)) id (now («record» .entry))) ⌝ }
     {
         let place = records::walk::open_walk(t, id, record);
         Reader { record, place }
@@ -34,7 +38,9 @@ impl<'a> Reader<'a> {
 
     // The field where the reader stands and the cursor after it, the end, or a refusal; that of the opening where it was refused.
     pub fn step(self, t: &[u8], id: u16) -> Step
-        ensures { λ s. ⌜ s ≡ stepFrom (now (t .entry)) id (now (self .entry .«record»)) (self .entry .place) ⌝ }
+        ensures { λ s. ⌜ Answered stepAnswer s (stepFrom (now (t .entry)) id (now (self .entry .«record»)) (self .entry .place))
+            (stepFromJudged (now (t .entry)) id (now (self .entry .«record»)) (self .entry .place))
+            × Exact (now (self .entry .«record»)) s ⌝ }
     {
         records::walk::step_from(t, id, self.record, self.place)
     }
@@ -83,7 +89,8 @@ fn step_at(t: &[u8], id: u16, r: &[u8], c: Cursor) -> Step
 
 // How many fields a record has under the template with an ID; 21, 15 or 16 as for opening.
 pub fn count_fields(t: &[u8], id: u16, r: &[u8]) -> Counted
-    ensures { λ c. ⌜ c ≡ countOf (now (t .entry)) id (now (r .entry)) ⌝ }
+    ensures { λ c. ⌜ Answered countAnswer c (countOf (now (t .entry)) id (now (r .entry)))
+        (recordAnswer (now (t .entry)) id (now (r .entry))) ⌝ }
 {
     let mut c = match opening(t, id, r) {
         Opened::At(start) => start,

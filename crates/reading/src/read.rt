@@ -4,8 +4,9 @@ ghost use Prim.Native.Nat.{_+_, _-_, _≤_};
 ghost use lib.Dec.{eqb, leb};
 ghost use lib.ListN.{length};
 ghost use Rattle.octets.specs.Numbers.{uintAt};
-ghost use Rattle.octets.specs.Answers.{done};
+ghost use Rattle.octets.specs.Answers.{done, Answered};
 ghost use Rattle.messages.specs.Messages.{headerOctets, dataHeadLength, sessionOf, headerAnswer, headerOf, readWhere, readTable, dataHeadOf, readOf, partAt, partOf};
+ghost use Rattle.messages.specs.Messages.{headerReadingAnswer, readAnswer, readingAnswer};
 ghost use Rattle.messages.specs.declared.message.Message.the-variants.{StartAck, FinalTmplDataAck, Data, DataAck};
 use messages::message::DATA_ACK_BODY;
 use messages::message::DATA_FRONT_OCTETS;
@@ -40,7 +41,7 @@ fn header_answer(message: &[u8]) -> u8
 
 // Reads a message's header alone: its session and number, or 3, 4 or 5.
 pub fn read_header(message: &[u8]) -> HeaderReading
-    ensures { λ r. ⌜ r ≡ headerOf (now (message .entry)) ⌝ }
+    ensures { λ r. ⌜ Answered headerReadingAnswer r (headerOf (now (message .entry))) (headerAnswer (now (message .entry))) ⌝ }
 {
     let answer = header_answer(message);
     if answer == Answer::DONE {
@@ -175,7 +176,7 @@ fn read_body(message: &[u8]) -> Reading
 
 // Reads a message alone: what it says, or 3, 4, 5, 7, 8 or 21.
 pub fn read_message(message: &[u8]) -> Reading
-    ensures { λ r. ⌜ r ≡ readOf (now (message .entry)) ⌝ }
+    ensures { λ r. ⌜ Answered readingAnswer r (readOf (now (message .entry))) (readAnswer (now (message .entry))) ⌝ }
 {
     let answer = header_answer(message);
     if answer != Answer::DONE {

@@ -1,9 +1,12 @@
 -- Going through a record field by field (01, "Template table").
 use Prim.Native.Nat.{ℕ, zero, suc, _+_, _-_, _*_, _^_}
+use mathlib.Core.Path.{_≡_}
 use mathlib.Core.Bool.{Bool, cond, not, _&&_}
 use mathlib.Core.List.{List, [], _∷_, _++_, map}
+use mathlib.Core.Option.{Option, none, some}
 use lib.Dec.{eqb, leb, ltb}
-use lib.ListN.{take, drop}
+use lib.IntN.{ℤ, pos, negℤ, subℕ}
+use lib.ListN.{getD, take, drop}
 use Rattle.octets.specs.Answers.{_when_, judge, done, recordInvalid}
 use Rattle.octets.specs.Numbers.{uintAt}
 use Rattle.octets.specs.Each.{firstFrom}
@@ -30,6 +33,27 @@ unfoldable pub valueAt : ℕ → List ℕ → ℕ → Value
 valueAt type r at =
     cond (isSigned type) (signedAt r at (widthOf type))
     (cond (isNumber type) (Number (uintAt r at (widthOf type))) Octets)
+
+-- ---- exact values, in ℤ
+
+-- The integer that a value stands for: n, or minus n; octets stand for none.
+abbrev pub integerOf : Value → Option ℤ
+integerOf (Number n) = some (pos n)
+integerOf (Negative n) = some (negℤ (pos n))
+integerOf Octets = none
+
+-- Two's complement: the unsigned number in w octets, less 256 to the w where its highest bit is set, which is that of the first octet.
+unfoldable pub twosComplementAt : List ℕ → ℕ → ℕ → ℤ
+twosComplementAt r at w = cond (leb 128 (getD r at 0)) (subℕ (uintAt r at w) (256 ^ w)) (pos (uintAt r at w))
+
+-- The integer in the octets of a type at a place: two's complement for signed types, the unsigned number for the other types of numbers,
+-- times and the bits of floats too, and none for the rest.
+unfoldable pub integerAt : ℕ → List ℕ → ℕ → Option ℤ
+integerAt type r at =
+    cond (isSigned type) (some (twosComplementAt r at (widthOf type)))
+    (cond (isNumber type) (some (pos (uintAt r at (widthOf type)))) none)
+
+-- ---- a step, and opening
 
 -- The field of a type that begins at a place.
 abbrev pub fieldOf : ℕ → List ℕ → ℕ → Field
@@ -75,6 +99,17 @@ openOf t id r = cond (eqb (recordAnswer t id r) done) (opened.At walkStart) (ope
 unfoldable pub stepFrom : List ℕ → ℕ → List ℕ → Opened → Step
 stepFrom t id r (opened.At c) = stepOf t id r c
 stepFrom t id r (opened.Refused a) = step.Refused a
+
+-- Its number: that of the step at a cursor, or the refusal's again.
+abbrev pub stepFromJudged : List ℕ → ℕ → List ℕ → Opened → ℕ
+stepFromJudged t id r (opened.At c) = stepJudged t id r c
+stepFromJudged t id r (opened.Refused a) = a
+
+-- The value of a field that a step answers stands for the integer in the field's octets; the end and a refusal have no value.
+abbrev pub Exact : List ℕ → Step → Type 0
+Exact r (step.Next f c) = integerOf (f .value) ≡ integerAt (f .kind) r (f .at)
+Exact r step.End = Unit {0}
+Exact r (step.Refused a) = Unit {0}
 
 -- The answer number of an opening: 0, or the refusal's.
 abbrev pub openAnswer : Opened → ℕ

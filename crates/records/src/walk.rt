@@ -2,8 +2,10 @@
 ghost use mathlib.Core.Path.{_≡_};
 ghost use Prim.Native.Nat.{_+_, _-_, _*_, _≤_};
 ghost use lib.ListN.{length};
+ghost use Rattle.octets.specs.Answers.{Answered};
 ghost use Rattle.tables.specs.Table.{keyOctets};
-ghost use Rattle.records.specs.Walk.{signedAt, valueAt, nextKey, stepUnder, stepOf, stepFrom, openOf};
+ghost use Rattle.records.specs.Record.{recordAnswer};
+ghost use Rattle.records.specs.Walk.{signedAt, valueAt, nextKey, stepUnder, stepJudged, stepOf, stepFrom, stepFromJudged, stepAnswer, Exact, openOf, openAnswer};
 use field_types::field_type::FieldType;
 use octets::Answer;
 use tables::table::Found;
@@ -122,7 +124,8 @@ fn step_under(t: &[u8], m: Template, r: &[u8], c: Cursor) -> Step
 
 // Opens a walk over a record under the template with an ID: 21, 15 or 16 as for the whole record, or the walk's start.
 pub fn open_walk(t: &[u8], id: u16, r: &[u8]) -> Opened
-    ensures { λ o. ⌜ o ≡ openOf (now (t .entry)) id (now (r .entry)) ⌝ }
+    ensures { λ o. ⌜ Answered openAnswer o (openOf (now (t .entry)) id (now (r .entry)))
+        (recordAnswer (now (t .entry)) id (now (r .entry))) ⌝ }
 {
     // Both are lent anew, since to pass parameters on would copy them first.
     let answer = crate::record::record_answer(&t[..], id, &r[..]);
@@ -134,7 +137,8 @@ pub fn open_walk(t: &[u8], id: u16, r: &[u8]) -> Opened
 
 // The field at a cursor and the cursor after it; the end where no enabled key is left; 21, 15, or 16 for a field that is not valid.
 pub fn step_walk(t: &[u8], id: u16, r: &[u8], c: Cursor) -> Step
-    ensures { λ s. ⌜ s ≡ stepOf (now (t .entry)) id (now (r .entry)) c ⌝ }
+    ensures { λ s. ⌜ Answered stepAnswer s (stepOf (now (t .entry)) id (now (r .entry)) c)
+        (stepJudged (now (t .entry)) id (now (r .entry)) c) × Exact (now (r .entry)) s ⌝ }
 {
     // `&t[..]` lends the table anew: to pass the parameter on would copy it first.
     match tables::table::find_template(&t[..], id) {
@@ -145,7 +149,8 @@ pub fn step_walk(t: &[u8], id: u16, r: &[u8], c: Cursor) -> Step
 
 // A step from where an opening stands; the refusal again where it was refused.
 pub fn step_from(t: &[u8], id: u16, r: &[u8], place: Opened) -> Step
-    ensures { λ s. ⌜ s ≡ stepFrom (now (t .entry)) id (now (r .entry)) place ⌝ }
+    ensures { λ s. ⌜ Answered stepAnswer s (stepFrom (now (t .entry)) id (now (r .entry)) place)
+        (stepFromJudged (now (t .entry)) id (now (r .entry)) place) × Exact (now (r .entry)) s ⌝ }
 {
     match place {
         Opened::At(c) => step_walk(t, id, r, c),

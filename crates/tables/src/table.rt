@@ -5,8 +5,9 @@ ghost use mathlib.Core.List.{[], _∷_};
 ghost use Prim.Native.Nat.{_+_, _*_, _≤_, _<_};
 ghost use lib.Dec.{eqb};
 ghost use lib.ListN.{length, getD};
+ghost use Rattle.octets.specs.Answers.{Answered};
 ghost use Rattle.octets.specs.Each.{every, absent, allOf};
-ghost use Rattle.tables.specs.Table.{maxTableOctets, maxKeys, keyOctets, blockHeadOctets, configurationId, keyId, keyAt, keySound, keysSound, keysDiffer, keysAt, padded, blockEnd, headSound, paddingSound, blockSound, blockAt, idAt, blocksSound, templatesDiffer, tableSound, templateAt, locateOf, findOf};
+ghost use Rattle.tables.specs.Table.{maxTableOctets, maxKeys, keyOctets, blockHeadOctets, configurationId, keyId, keyAt, keySound, keysSound, keysDiffer, keysAt, padded, blockEnd, headSound, paddingSound, blockSound, blockAt, idAt, blocksSound, templatesDiffer, tableSound, templateAt, locateOf, findAnswer, findOf, foundAnswer};
 use field_types::field_type::FieldType;
 use octets::Answer;
 
@@ -309,7 +310,7 @@ fn locate(t: &[u8], id: u16) -> Found
 
 // The template with an ID, or 21 for an unsound table, 15 for an ID that it does not have.
 pub fn find_template(t: &[u8], id: u16) -> Found
-    ensures { λ r. ⌜ r ≡ findOf (now (t .entry)) id ⌝ }
+    ensures { λ r. ⌜ Answered foundAnswer r (findOf (now (t .entry)) id) (findAnswer (now (t .entry)) id) ⌝ }
 {
     // `&t[..]` lends the table anew: to pass the parameter on would copy it first.
     if table_sound(&t[..]) {

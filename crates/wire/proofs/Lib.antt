@@ -9,8 +9,10 @@ pub use Rattle.records.proofs.FieldsWithin
 pub use Rattle.records.proofs.Records
 pub use Rattle.records.proofs.Widths
 pub use Rattle.records.proofs.WalkLaws
+pub use Rattle.records.proofs.Integers
 pub use Rattle.readers.proofs.Counts
 pub use Rattle.appending.proofs.Appends
 pub use Rattle.appending.proofs.ReadBack
+pub use Rattle.appending.proofs.ExactFields
 pub use Rattle.messages.proofs.Messages
 pub use Rattle.messages.proofs.RoundTrip

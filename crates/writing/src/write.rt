@@ -4,9 +4,10 @@ ghost use mathlib.Core.List.{[], _∷_, _++_};
 ghost use Prim.Native.Nat.{_≤_};
 ghost use lib.ListN.{length};
 ghost use lib.Seq.{sets};
+ghost use Rattle.octets.specs.Answers.{Answered};
 ghost use Rattle.octets.specs.Numbers.{octetsOf};
 ghost use Rattle.messages.specs.Messages.{headerOctets, dataHeadLength, maxRecordOctets, headerOctetsOf, dataHeadOctets, messageOf, flagsOf};
-ghost use Rattle.messages.specs.Messages.{startAck, finalTmplDataAck, dataAck, Placed, headWriteOf, headWriteOut, writeOf, writeOut};
+ghost use Rattle.messages.specs.Messages.{startAck, finalTmplDataAck, dataAck, Placed, headWriteAnswer, headWriteOf, headWriteOut, writeAnswer, writeOf, writeOut, writtenAnswer};
 ghost use Rattle.messages.specs.declared.message.Message.the-variants.{TmplData, Data};
 use messages::message::D_FLAG;
 use messages::message::DATA_ACK_OCTETS;
@@ -143,7 +144,9 @@ fn put_data_head(head: DataHead, len: usize, out: &mut [u8])
 // Writes a DATA's head, the 16 octets in front of a record of `len` octets, where the whole message fits; the record is for the caller to
 // write behind them. Answers how many octets the whole message has, or 17 or 12.
 pub fn write_data_head(head: DataHead, len: usize, out: &mut [u8]) -> Written
-    ensures { λ r. ⌜ (r ≡ headWriteOf len (length (now (out .entry)))) × (now (out .exit) ≡ headWriteOut head len (now (out .entry))) ⌝ }
+    ensures { λ r. ⌜ Answered writtenAnswer r (headWriteOf len (length (now (out .entry))))
+        (headWriteAnswer len (length (now (out .entry))))
+        × (now (out .exit) ≡ headWriteOut head len (now (out .entry))) ⌝ }
 {
     if MAX_RECORD_OCTETS < len {
         return Written::Refused(Answer::RECORD_TOO_LONG);
@@ -176,7 +179,8 @@ fn write_data(head: DataHead, part: &[u8], out: &mut [u8]) -> Written
 // Writes a message alone from the output's first octet on, and no octet after it; `part` is a DATA's record or a TMPL DATA's table,
 // and is not looked at for other messages. Answers how many octets were written, or 21, 17 or 12.
 pub fn write_message(message: Message, part: &[u8], out: &mut [u8]) -> Written
-    ensures { λ r. ⌜ (r ≡ writeOf message (now (part .entry)) (now (out .entry)))
+    ensures { λ r. ⌜ Answered writtenAnswer r (writeOf message (now (part .entry)) (now (out .entry)))
+        (writeAnswer message (now (part .entry)) (length (now (out .entry))))
         × (now (out .exit) ≡ writeOut message (now (part .entry)) (now (out .entry))) ⌝ }
 {
     match message {

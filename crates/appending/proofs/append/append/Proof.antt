@@ -5,6 +5,8 @@ use Prim.Native.Nat.{ℕ, _+_, _-_, _^_}
 use native.Mathlib.Omega.{arith}
 use Rattle.records.specs.declared.walk.Value.the-variants.{Octets, Number, Negative}
 use Rattle.octets.proofs.Numbers.{greatest-of}
+use Rattle.octets.proofs.Judging.{answered-with}
+use Rattle.appending.proofs.ReadBack.{append-answer}
 use Rattle.appending.proofs.Appends.{append-stored, append-refused, negative-range}
 use borrow.Author.Needs.{needs}
 use Rattle.appending.proofs.append.append.Statement.{statement}
@@ -30,7 +32,8 @@ same-length c = search needs
 
 returns : tie.Need-returns
 returns c =
-    append-stored _ _ Octets _ _ _ _ _ (c .before .before .before .before .before .before .enum-told .given .1) (sym (c .before .before .before .before .before .octets-fit .ensures) ∙ c .before .before .before .before .if1 .taken) (c .before .before .store-octets .ensures)
+    answered-with (append-answer _ _ _ _ _)
+    (append-stored _ _ Octets _ _ _ _ _ (c .before .before .before .before .before .before .enum-told .given .1) (sym (c .before .before .before .before .before .octets-fit .ensures) ∙ c .before .before .before .before .if1 .taken) (c .before .before .store-octets .ensures))
 
 enum-known-value : tie.Need-enum-known-value
 enum-known-value c = search needs
@@ -47,8 +50,9 @@ same-length-2 c = search needs
 returns-2 : tie.Need-returns-2
 returns-2 c =
     let n = c .before .before .before .before .before .before .before .value .given .0 .0 in
-    append-stored _ _ (Number n) _ _ _ _ _ (c .before .before .before .before .before .before .before .value .given .1) (sym (c .before .before .before .before .before .number-fits .ensures) ∙ c .before .before .before .before .if2 .taken)
-    (rw (c .before .before .before .before .before .before .before .before .before .width .ensures) at (c .before .before .store-number .ensures))
+    answered-with (append-answer _ _ _ _ _)
+    (append-stored _ _ (Number n) _ _ _ _ _ (c .before .before .before .before .before .before .before .value .given .1) (sym (c .before .before .before .before .before .number-fits .ensures) ∙ c .before .before .before .before .if2 .taken)
+    (rw (c .before .before .before .before .before .before .before .before .before .width .ensures) at (c .before .before .store-number .ensures)))
 
 enum-known-value-2 : tie.Need-enum-known-value-2
 enum-known-value-2 c = search needs
@@ -85,17 +89,24 @@ returns-3 c =
     let g = greatest-of (w .result) (omega (arith, negative-range _ _ f, w .ensures)) (c .before .before .before .before .greatest .ensures) in
     let e : c .before .before .before .before .greatest .result - n + 1 ≡ 256 ^ w .result - n =
     omega (arith, negative-range _ _ f, ap (λ (w : ℕ). 256 ^ w) (w .ensures), g) in
-    append-stored _ _ (Negative n) _ _ _ _ _ (c .before .before .before .before .before .before .before .before .value2 .given .1) f
-    (rw (w .ensures) at (rw e at (c .before .before .store-number2 .ensures)))
+    answered-with (append-answer _ _ _ _ _)
+    (append-stored _ _ (Negative n) _ _ _ _ _ (c .before .before .before .before .before .before .before .before .value2 .given .1) f
+    (rw (w .ensures) at (rw e at (c .before .before .store-number2 .ensures))))
 
 returns-4 : tie.Need-returns-4
-returns-4 c = append-refused _ _ Octets _ _ _ (c .before .before .enum-told .given .1) (sym (c .before .octets-fit .ensures) ∙ c .if1 .left)
+returns-4 c =
+    answered-with (append-answer _ _ _ _ _)
+    (append-refused _ _ Octets _ _ _ (c .before .before .enum-told .given .1) (sym (c .before .octets-fit .ensures) ∙ c .if1 .left))
 
 returns-5 : tie.Need-returns-5
-returns-5 c = append-refused _ _ (Number _) _ _ _ (c .before .before .before .value .given .1) (sym (c .before .number-fits .ensures) ∙ c .if2 .left)
+returns-5 c =
+    answered-with (append-answer _ _ _ _ _)
+    (append-refused _ _ (Number _) _ _ _ (c .before .before .before .value .given .1) (sym (c .before .number-fits .ensures) ∙ c .if2 .left))
 
 returns-6 : tie.Need-returns-6
-returns-6 c = append-refused _ _ (Negative _) _ _ _ (c .before .before .before .value2 .given .1) (sym (c .before .negative-fits .ensures) ∙ c .if3 .left)
+returns-6 c =
+    answered-with (append-answer _ _ _ _ _)
+    (append-refused _ _ (Negative _) _ _ _ (c .before .before .before .value2 .given .1) (sym (c .before .negative-fits .ensures) ∙ c .if3 .left))
 
 pub append-spec : {M : Type 1} → statement M
 append-spec =

@@ -16,7 +16,7 @@ same-length : tie.Need-same-length
 same-length c = search needs
 
 returns : tie.Need-returns
-returns c = (rw (c .appended-number .ensures, c .before .before .before .append .ensures .0, c .before .before .before .before .before .value-of .ensures), rw (c .before .before .before .append .ensures .1, c .before .before .before .before .before .value-of .ensures))
+returns c = (rw (c .appended-number .ensures, c .before .before .before .append .ensures .0 .same, c .before .before .before .before .before .value-of .ensures), rw (c .before .before .before .append .ensures .1, c .before .before .before .before .before .value-of .ensures))
 
 pub crane-append-spec : {M : Type 1} → statement M
 crane-append-spec =

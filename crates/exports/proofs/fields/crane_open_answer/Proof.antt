@@ -14,10 +14,10 @@ enum-known-opened : tie.Need-enum-known-opened
 enum-known-opened c = search needs
 
 returns : tie.Need-returns
-returns c = rw (sym (c .before .before .open-walk .ensures) ∙ c .enum-told .given .1)
+returns c = rw (sym (c .before .before .open-walk .ensures .same) ∙ c .enum-told .given .1)
 
 returns-2 : tie.Need-returns-2
-returns-2 c = rw (sym (c .before .before .before .open-walk .ensures) ∙ c .before .opened .given .1)
+returns-2 c = rw (sym (c .before .before .before .open-walk .ensures .same) ∙ c .before .opened .given .1)
 
 pub crane-open-answer-spec : {M : Type 1} → statement M
 crane-open-answer-spec =

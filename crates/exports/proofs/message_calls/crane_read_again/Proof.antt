@@ -33,14 +33,14 @@ same-length c = search needs
 
 returns : tie.Need-returns
 returns c =
-    let read = sym (c .before .before .before .before .before .before .before .before .before .before .read-message .ensures) ∙ c .before .before .before .before .before .before .before .before .reading .given .1 in
+    let read = sym (c .before .before .before .before .before .before .before .before .before .before .read-message .ensures .same) ∙ c .before .before .before .before .before .before .before .before .reading .given .1 in
     let part = c .before .before .before .before .before .before .message-part .ensures .0 in
     let wrote = c .before .before .before .before .write-message .ensures in
-    (rw (read, c .if1 .taken, c .before .written-number .ensures, wrote .0, part), rw (read, wrote .1, part))
+    (rw (read, c .if1 .taken, c .before .written-number .ensures, wrote .0 .same, part), rw (read, wrote .1, part))
 
 part-place-requires : tie.Need-part-place-requires
 part-place-requires c κs =
-    let read = sym (c .before .before .before .before .before .before .before .before .before .before .read-message .ensures) ∙ c .before .before .before .before .before .before .before .before .reading .given .1 in
+    let read = sym (c .before .before .before .before .before .before .before .before .before .before .read-message .ensures .same) ∙ c .before .before .before .before .before .before .before .before .reading .given .1 in
     sym (reading-number _) ∙ ap readingAnswer read
 
 message-parts-requires : tie.Need-message-parts-requires
@@ -72,17 +72,17 @@ same-part m i w at at' part part' out answer p q r s =
 returns-2 : tie.Need-returns-2
 returns-2 c =
     let a = c .before .before .before .before .before .before .before .before .before .before .before .before .before .before .before .before .args in
-    let read = sym (c .before .before .before .before .before .before .before .before .before .before .before .before .before .read-message .ensures) ∙ c .before .before .before .before .before .before .before .before .before .before .before .reading .given .1 in
+    let read = sym (c .before .before .before .before .before .before .before .before .before .before .before .before .before .read-message .ensures .same) ∙ c .before .before .before .before .before .before .before .before .before .before .before .reading .given .1 in
     let part = c .before .before .before .before .before .before .before .before .before .message-part .ensures .0 in
     let wrote = c .before .before .before .before .before .before .before .write-message .ensures in
     let at = c .before .before .part-place .ensures in
     let number = c .before .before .before .before .written-number .ensures in
     let parts = c .one-of .ensures ∙ ap (λ (l : List ℕ). getD l (a .part) 0) (c .before .message-parts .ensures) in
-    (rw read (parts ∙ same-part _ (a .part) _ _ _ _ _ _ _ number (wrote .0) part at), rw (read, wrote .1, part))
+    (rw read (parts ∙ same-part _ (a .part) _ _ _ _ _ _ _ number (wrote .0 .same) part at), rw (read, wrote .1, part))
 
 returns-3 : tie.Need-returns-3
 returns-3 c =
-    let read = sym (c .before .before .before .before .read-message .ensures) ∙ c .before .before .reading2 .given .1 in
+    let read = sym (c .before .before .before .before .read-message .ensures .same) ∙ c .before .before .reading2 .given .1 in
     (rw read (c .sole-part .ensures), rw read)
 
 pub crane-read-again-spec : {M : Type 1} → statement M

@@ -3,8 +3,9 @@
 use mathlib.Core.Path.{sym, _∙_}
 use Prim.Native.Nat.{_-_}
 use borrow.Author.Needs.{needs}
+use Rattle.octets.proofs.Judging.{answered}
 use Rattle.tables.specs.Table.{maxKeys}
-use Rattle.readers.proofs.Counts.{Counting, count-opened, count-refused, count-next, count-end, count-full, count-goes}
+use Rattle.readers.proofs.Counts.{Counting, count-opened, count-refused, count-number, count-next, count-end, count-full, count-goes}
 use Rattle.readers.proofs.reader.count_fields.Statement.{statement}
 use Rattle.readers.proofs.reader.count_fields.Tie as tie
 
@@ -24,7 +25,7 @@ enum-known-answer : tie.Need-enum-known-answer Inv-loop μ-loop
 enum-known-answer c = search needs
 
 returns : tie.Need-returns Inv-loop μ-loop
-returns c = count-refused _ _ _ _ (sym (c .before .before .before .opening .ensures) ∙ c .before .answer .given .1)
+returns c = answered (count-number _ _ _) (count-refused _ _ _ _ (sym (c .before .before .before .opening .ensures) ∙ c .before .answer .given .1))
 
 loop-holds : tie.Need-loop-holds Inv-loop μ-loop
 loop-holds c = count-opened _ _ _ _ (sym (c .before .before .before .opening .ensures) ∙ c .before .start .given .1)
@@ -40,7 +41,8 @@ enum-told c = search needs
 
 returns-2 : tie.Need-returns-2 Inv-loop μ-loop
 returns-2 c =
-    count-end _ _ _ _ _ (c .before .before .before .before .loop .inv) (sym (c .before .before .step-at .ensures) ∙ c .enum-told .given .1)
+    answered (count-number _ _ _)
+    (count-end _ _ _ _ _ (c .before .before .before .before .loop .inv) (sym (c .before .before .step-at .ensures) ∙ c .enum-told .given .1))
 
 enum-known-answer-2 : tie.Need-enum-known-answer-2 Inv-loop μ-loop
 enum-known-answer-2 c = search needs
@@ -62,7 +64,7 @@ loop-again c =
     count-next _ _ _ _ _ (d .before .before .loop .inv) (search needs) _ _ (sym (d .step-at .ensures) ∙ c .before .next .given .1)
 
 returns-4 : tie.Need-returns-4 Inv-loop μ-loop
-returns-4 c = count-full _ _ _ _ _ (c .before .loop .inv) (search needs)
+returns-4 c = answered (count-number _ _ _) (count-full _ _ _ _ _ (c .before .loop .inv) (search needs))
 
 pub count-fields-spec : {M : Type 1} → statement M
 count-fields-spec =

@@ -34,7 +34,9 @@ use denote.Triple.Table.{entered, cited}
 use denote.Triple.Walked.{says, Stays, stay-none, stay-none-slice, walkOf, goes-none, goes-none-slice, Walks, ends-at, walked, walk-meets}
 use denote.Exit.{yes}
 use denote.Triple.Clauses.{ensured, lasts}
-use Rattle.records.specs.Walk.{openOf}
+use Rattle.octets.specs.Answers.{Answered}
+use Rattle.records.specs.Record.{recordAnswer}
+use Rattle.records.specs.Walk.{openOf, openAnswer}
 use Rattle.readers.specs.declared.reader.Reader.{Reader}
 use Rattle.records.specs.declared.walk.Opened.{Opened}
 use Rattle.readers.proofs.Readers.{D, L, B, sliceAt, tokens, Own₃, lends, opened-typed}
@@ -94,7 +96,7 @@ module _ {M : Type 1} (𝓤 : URA M) (H : Heap 𝓤) (A : Atoms 𝓤) (W : Given
   goes-open = lends κ q κ′ q′ t id r 𝓤 H A W
 
   abbrev Is-open : Reader → Type 0
-  Is-open d = (d .«record» ≡ r) × (d .place ≡ answer)
+  Is-open d = (d .«record» ≡ r) × Answered openAnswer (d .place) answer (recordAnswer (now t) id (now r))
 
   open-said : (d : Reader) → ent 𝓤 (ensured 𝓤 H A opens.ended (opens.clauses 𝓤 H A mem run) κs (t, (id, (r, tt))) tt d) (fact 𝓤 (Is-open d))
   open-said d = exE 𝓤 _ (λ ws. snd∗ 𝓤 (sem 𝓤 H A (lasts opens.ended κs (t, (id, (r, tt))) ws)) (fact 𝓤 (Is-open d)))
@@ -137,7 +139,7 @@ module _ {M : Type 1} (𝓤 : URA M) (H : Heap 𝓤) (A : Atoms 𝓤) (W : Given
         peeks ! O.the-row (Is O.the-row) (shows 𝓤 H A O.the-row) o (u′ ∷ []) (λ is′.
         land ! (from ! (stop !)) (init ! 12 refl (opened-typed 𝓤 H A W o u′ is′)) $
         returns ! (look ! 12 refl) $ forget ! 4 refl $ forget ! 6 refl $ forget ! 8 refl $ forget ! 10 refl $ forget ! 12 refl $
-        move ! (12 ∷ 13 ∷ []) $ free1 ! $ move ! (10 ∷ 11 ∷ []) $ free1 ! $ move ! (8 ∷ 9 ∷ []) $ free1 ! $ move ! (6 ∷ 7 ∷ []) $ free1 ! $ move ! (4 ∷ 5 ∷ []) $ free1 ! $ free0 ! $ by ! (exits o u′ (e′ ∙ e .1)))))))))))))))
+        move ! (12 ∷ 13 ∷ []) $ free1 ! $ move ! (10 ∷ 11 ∷ []) $ free1 ! $ move ! (8 ∷ 9 ∷ []) $ free1 ! $ move ! (6 ∷ 7 ∷ []) $ free1 ! $ move ! (4 ∷ 5 ∷ []) $ free1 ! $ free0 ! $ by ! (exits o u′ (e′ ∙ e .1 .same)))))))))))))))
 
 module _ {M : Type 1} (𝓤 : URA M) (H : Heap 𝓤) (A : Atoms 𝓤) (W : Given 𝓤 H A) (mem : Memory → SProp 𝓤) (run : Routine → Fun 𝓤) where
   walks : (C : Calls 𝓤 H) (Λ : Loops 𝓤 H) → FmC 𝓤 H (W .laws) C → Triple 𝓤 (C #opens) (Opens 𝓤 H A mem run) → Triple 𝓤 (C #asks) (Asks 𝓤 H A mem run)

@@ -38,7 +38,8 @@ use denote.Triple.Table.{entered, cited}
 use denote.Triple.Walked.{says, Stays, stay-none, stay-none-slice, walkOf, goes-none, goes-none-slice, Walks, ends-at, walked, walk-meets}
 use denote.Exit.{yes}
 use denote.Triple.Clauses.{ensured, lasts}
-use Rattle.records.specs.Walk.{stepOf, stepFrom}
+use Rattle.octets.specs.Answers.{Answered}
+use Rattle.records.specs.Walk.{stepOf, stepFrom, stepFromJudged, stepAnswer, Exact}
 use Rattle.readers.specs.declared.reader.Reader.{Reader}
 use Rattle.records.specs.declared.walk.Cursor.{Cursor}
 use Rattle.records.specs.declared.walk.Opened.the-variants as opened
@@ -129,7 +130,8 @@ module _ {M : Type 1} (𝓤 : URA M) (H : Heap 𝓤) (A : Atoms 𝓤) (W : Given
       move ! (2 ∷ 0 ∷ []) $ use2 W (raw (Callee 𝓤 H A mem run .pre to)) (qed W (tokens κ′ q′ κ q ∷ ‵ Asked ∷ []) ∵ join ! $ frame ! $ done !) $ frame ! $ done !
 
   abbrev Is-step : Step → Type 0
-  Is-step s = s ≡ stepFrom (now t) id (now r) (opened.At c)
+  Is-step s =
+      Answered stepAnswer s (stepFrom (now t) id (now r) (opened.At c)) (stepFromJudged (now t) id (now r) (opened.At c)) × Exact (now r) s
 
   said : (s : Step) → ent 𝓤 (ensured 𝓤 H A callee.ended (callee.clauses 𝓤 H A mem run) κs′ (d, (t, (id, tt))) tt s) (fact 𝓤 (Is-step s))
   said s = exE 𝓤 _ (λ ws. snd∗ 𝓤 (sem 𝓤 H A (lasts callee.ended κs′ (d, (t, (id, tt))) ws)) (fact 𝓤 (Is-step s)))
@@ -137,7 +139,7 @@ module _ {M : Type 1} (𝓤 : URA M) (H : Heap 𝓤) (A : Atoms 𝓤) (W : Given
   exits : (s : Step) (u : Val) → Is-step s → ent 𝓤 (⋆ 𝓤 H A (‵ (S.the-row .own s (u ∷ [])) ∷ tokens κ′ q′ κ q ∷ ‵ Own ∷ [])) (Post u)
   exits s u e =
       qed W (‵ (S.the-row .own s (u ∷ [])) ∷ tokens κ′ q′ κ q ∷ ‵ Own ∷ []) ∵
-      suffices ! _ (ends-at 𝓤 H A this.ended stayed (this.clauses 𝓤 H A mem run) W ((κs, (q, (q′, tt)), tt, (t, (id, (r, (c, tt)))), at), tt) u s (tt, (tt, (tt, (tt, tt)))) (tt, (tt, (tt, (tt, tt))))) $ says ! (e ∙ from-cursor (now t) id (now r) c) $
+      suffices ! _ (ends-at 𝓤 H A this.ended stayed (this.clauses 𝓤 H A mem run) W ((κs, (q, (q′, tt)), tt, (t, (id, (r, (c, tt)))), at), tt) u s (tt, (tt, (tt, (tt, tt)))) (tt, (tt, (tt, (tt, tt))))) $ says ! (e .0 .same ∙ from-cursor (now t) id (now r) c) $
       move ! (1 ∷ []) $ use1 W (tokens κ q κ′ q′) (swapped 𝓤 H A W κ′ q′ κ q) $ frame ! $ move ! (1 ∷ []) $ frame ! $ done !
 
   module _ (C : Calls 𝓤 H) (Λ : Loops 𝓤 H) (fm : FmC 𝓤 H (W .laws) C) (known : Triple 𝓤 (C #callee) (Callee 𝓤 H A mem run)) where

@@ -3,8 +3,10 @@ use mathlib.Core.Path.{sym, _∙_}
 use native.Mathlib.Omega.{arith}
 use borrow.Author.Tests.{eq-eqb, ne-eqb}
 use Rattle.octets.proofs.Numbers.{uint-one}
+use Rattle.octets.proofs.Judging.{answered}
 use Rattle.messages.specs.Messages.{headerOf}
 use Rattle.messages.proofs.Messages.{header-long}
+use Rattle.messages.proofs.RoundTrip.{header-number}
 use borrow.Author.Needs.{needs}
 use Rattle.reading.proofs.read.read_header.Statement.{statement}
 use Rattle.reading.proofs.read.read_header.Tie as tie
@@ -26,11 +28,12 @@ returns : tie.Need-returns
 unfolding headerOf
 returns c =
     let m = c .before .before .before .before .before .args .message .now in
-    rw (← c .before .before .before .header-answer .ensures, uint-one m 1, uint-one m 2, eq-eqb _ _ (c .before .before .if1 .taken))
+    answered (header-number _)
+    (rw (← c .before .before .before .header-answer .ensures, uint-one m 1, uint-one m 2, eq-eqb _ _ (c .before .before .if1 .taken)))
 
 returns-2 : tie.Need-returns-2
 unfolding headerOf
-returns-2 c = rw (← c .before .header-answer .ensures, ne-eqb _ _ (c .if1 .left))
+returns-2 c = answered (header-number _) (rw (← c .before .header-answer .ensures, ne-eqb _ _ (c .if1 .left)))
 
 pub read-header-spec : {M : Type 1} → statement M
 read-header-spec =

@@ -20,13 +20,13 @@ enum-known-m c = search needs
 fields-valid-requires : tie.Need-fields-valid-requires
 fields-valid-requires c κs =
     let a = c .before .before .before .before .before .before .args in
-    found-within (a .t .now) (a .id) _ (sym (c .before .before .before .find-template .ensures) ∙ c .before .m .given .1)
+    found-within (a .t .now) (a .id) _ (sym (c .before .before .before .find-template .ensures .same) ∙ c .before .m .given .1)
 
 returns : tie.Need-returns
 unfolding recordAnswer
 returns c =
     let a = c .before .before .before .before .before .before .before .before .args in
-    let f = found (a .t .now) (a .id) _ (sym (c .before .before .before .before .before .find-template .ensures) ∙ c .before .before .before .m .given .1) in
+    let f = found (a .t .now) (a .id) _ (sym (c .before .before .before .before .before .find-template .ensures .same) ∙ c .before .before .before .m .given .1) in
     rw (f .0, f .1 .0, f .1 .1, sym (c .before .fields-valid .ensures) ∙ c .if1 .taken)
 
 enum-known-answer : tie.Need-enum-known-answer
@@ -36,14 +36,14 @@ returns-2 : tie.Need-returns-2
 unfolding recordAnswer
 returns-2 c =
     let a = c .before .before .before .before .before .before .before .before .args in
-    let f = found (a .t .now) (a .id) _ (sym (c .before .before .before .before .before .find-template .ensures) ∙ c .before .before .before .m .given .1) in
+    let f = found (a .t .now) (a .id) _ (sym (c .before .before .before .before .before .find-template .ensures .same) ∙ c .before .before .before .m .given .1) in
     rw (f .0, f .1 .0, f .1 .1, sym (c .before .fields-valid .ensures) ∙ c .if1 .left)
 
 returns-3 : tie.Need-returns-3
 unfolding recordAnswer
 returns-3 c =
     let a = c .before .before .before .before .before .before .args in
-    let n = not-found (a .t .now) (a .id) _ (sym (c .before .before .before .find-template .ensures) ∙ c .before .answer .given .1) in
+    let n = not-found (a .t .now) (a .id) _ (sym (c .before .before .before .find-template .ensures .same) ∙ c .before .answer .given .1) in
     sym (n .1 ((recordInvalid when not (recordValid (a .t .now) (templateOf (a .t .now) (a .id)) (a .r .now))) ∷ []))
 
 pub record-answer-spec : {M : Type 1} → statement M

@@ -1,4 +1,5 @@
 -- `step_from` meets its contract: each arm is given what the place is, and the definition has the same case for it.
+use mathlib.Core.Path.{refl}
 use borrow.Author.Needs.{needs}
 use Rattle.records.specs.Walk.{stepFrom}
 use Rattle.records.proofs.walk.step_from.Statement.{statement}
@@ -19,7 +20,7 @@ returns c = rw (c .before .before .place .given .1) (c .step-walk .ensures)
 
 returns-2 : tie.Need-returns-2
 unfolding stepFrom
-returns-2 c = rw (c .before .place2 .given .1)
+returns-2 c = rw (c .before .place2 .given .1) (record { same = refl; number = refl }, tt)
 
 pub step-from-spec : {M : Type 1} → statement M
 step-from-spec =

@@ -4,6 +4,7 @@ use mathlib.Core.Path.{sym, _∙_}
 use mathlib.Core.List.{[]}
 use Rattle.tables.proofs.Tables.{found, found-within, not-found}
 use Rattle.records.specs.Walk.{stepOf}
+use Rattle.records.proofs.Integers.{stepped}
 use Rattle.records.specs.declared.walk.Step.the-variants as step
 use borrow.Author.Needs.{needs}
 use Rattle.records.proofs.walk.step_walk.Statement.{statement}
@@ -18,7 +19,7 @@ enum-known-m c = search needs
 step-under-requires : tie.Need-step-under-requires
 step-under-requires c κs =
     let a = c .before .before .before .before .before .before .args in
-    found-within (a .t .now) (a .id) _ (sym (c .before .before .before .find-template .ensures) ∙ c .before .m .given .1)
+    found-within (a .t .now) (a .id) _ (sym (c .before .before .before .find-template .ensures .same) ∙ c .before .m .given .1)
 
 enum-known-answer : tie.Need-enum-known-answer
 enum-known-answer c = search needs
@@ -27,15 +28,16 @@ returns : tie.Need-returns
 unfolding stepOf
 returns c =
     let a = c .before .before .before .before .before .before .before .args in
-    let f = found (a .t .now) (a .id) _ (sym (c .before .before .before .before .find-template .ensures) ∙ c .before .before .m .given .1) in
-    rw (f .0, f .1 .0, f .1 .1, c .step-under .ensures)
+    let f = found (a .t .now) (a .id) _ (sym (c .before .before .before .before .find-template .ensures .same) ∙ c .before .before .m .given .1) in
+    stepped (a .t .now) (a .id) (a .r .now) (a .c) _ (λ i. (c .before .before .before .before .before .shared-slice-known2 .given i) .fits)
+    (rw (f .0, f .1 .0, f .1 .1, c .step-under .ensures))
 
 returns-2 : tie.Need-returns-2
 unfolding stepOf
 returns-2 c =
     let a = c .before .before .before .before .before .before .args in
-    let n = not-found (a .t .now) (a .id) _ (sym (c .before .before .before .find-template .ensures) ∙ c .before .answer .given .1) in
-    rw (n .1 [], n .0)
+    let n = not-found (a .t .now) (a .id) _ (sym (c .before .before .before .find-template .ensures .same) ∙ c .before .answer .given .1) in
+    stepped (a .t .now) (a .id) (a .r .now) (a .c) _ (λ i. (c .before .before .before .before .shared-slice-known2 .given i) .fits) (rw (n .1 [], n .0))
 
 pub step-walk-spec : {M : Type 1} → statement M
 step-walk-spec =

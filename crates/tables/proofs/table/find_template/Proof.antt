@@ -2,7 +2,8 @@
 use mathlib.Core.Path.{sym, _∙_}
 use Prim.Native.Nat.{_-_}
 use Rattle.tables.specs.Table.{findOf}
-use Rattle.tables.proofs.Tables.{find-located}
+use Rattle.octets.proofs.Judging.{answered}
+use Rattle.tables.proofs.Tables.{find-located, found-number}
 use borrow.Author.Needs.{needs}
 use Rattle.tables.proofs.table.find_template.Statement.{statement}
 use Rattle.tables.proofs.table.find_template.Tie as tie
@@ -14,11 +15,13 @@ locate-requires : tie.Need-locate-requires
 locate-requires c κs = sym (c .before .table-sound .ensures) ∙ c .if1 .taken
 
 returns : tie.Need-returns
-returns c = c .locate .ensures ∙ sym (find-located _ _ (sym (c .before .before .table-sound .ensures) ∙ c .before .if1 .taken))
+returns c =
+    answered (found-number _ _)
+    (c .locate .ensures ∙ sym (find-located _ _ (sym (c .before .before .table-sound .ensures) ∙ c .before .if1 .taken)))
 
 returns-2 : tie.Need-returns-2
 unfolding findOf
-returns-2 c = rw (sym (c .before .table-sound .ensures) ∙ c .if1 .left)
+returns-2 c = answered (found-number _ _) (rw (sym (c .before .table-sound .ensures) ∙ c .if1 .left))
 
 pub find-template-spec : {M : Type 1} → statement M
 find-template-spec = tie.close (tie.spec table-sound-requires locate-requires returns returns-2)

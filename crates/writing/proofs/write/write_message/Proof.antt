@@ -1,8 +1,10 @@
 -- `write_message` meets its contract: each arm writes the layout of its message, and for messages without a part only the room decides.
 use mathlib.Core.Path.{refl}
 use borrow.Author.Needs.{needs}
+use Rattle.octets.proofs.Judging.{answered-with}
 use Rattle.messages.specs.Messages.{layoutOf}
 use Rattle.messages.proofs.Messages.{allowed}
+use Rattle.messages.proofs.RoundTrip.{written-number}
 use Rattle.writing.proofs.write.write_message.Statement.{statement}
 use Rattle.writing.proofs.write.write_message.Tie as tie
 
@@ -71,7 +73,9 @@ same-length c = search needs
 
 returns : tie.Need-returns
 unfolding layoutOf
-returns c = rw (c .before .before .before .before .before .message .given .1) (allowed _ _ _ _ _ refl refl (c .before .before .write-bare .ensures))
+returns c =
+    answered-with (written-number _ _ _)
+    (rw (c .before .before .before .before .before .message .given .1) (allowed _ _ _ _ _ refl refl (c .before .before .write-bare .ensures)))
 
 same-length-2 : tie.Need-same-length-2
 same-length-2 c = search needs
@@ -79,9 +83,8 @@ same-length-2 c = search needs
 returns-2 : tie.Need-returns-2
 unfolding layoutOf
 returns-2 c =
-    rw (
-    c .before .before .before .before .before .message2 .given .1
-    ) (allowed _ _ _ _ _ refl refl (c .before .before .write-start-ack .ensures))
+    answered-with (written-number _ _ _)
+    (rw (c .before .before .before .before .before .message2 .given .1) (allowed _ _ _ _ _ refl refl (c .before .before .write-start-ack .ensures)))
 
 same-length-3 : tie.Need-same-length-3
 same-length-3 c = search needs
@@ -89,9 +92,8 @@ same-length-3 c = search needs
 returns-3 : tie.Need-returns-3
 unfolding layoutOf
 returns-3 c =
-    rw (
-    c .before .before .before .before .before .message3 .given .1
-    ) (allowed _ _ _ _ _ refl refl (c .before .before .write-bare2 .ensures))
+    answered-with (written-number _ _ _)
+    (rw (c .before .before .before .before .before .message3 .given .1) (allowed _ _ _ _ _ refl refl (c .before .before .write-bare2 .ensures)))
 
 same-length-4 : tie.Need-same-length-4
 same-length-4 c = search needs
@@ -99,15 +101,16 @@ same-length-4 c = search needs
 returns-4 : tie.Need-returns-4
 unfolding layoutOf
 returns-4 c =
-    rw (
-    c .before .before .before .before .before .message4 .given .1
-    ) (allowed _ _ _ _ _ refl refl (c .before .before .write-bare3 .ensures))
+    answered-with (written-number _ _ _)
+    (rw (c .before .before .before .before .before .message4 .given .1) (allowed _ _ _ _ _ refl refl (c .before .before .write-bare3 .ensures)))
 
 same-length-5 : tie.Need-same-length-5
 same-length-5 c = search needs
 
 returns-5 : tie.Need-returns-5
-returns-5 c = rw (c .before .before .before .before .before .message5 .given .1) (c .before .before .write-tmpl-data .ensures)
+returns-5 c =
+    answered-with (written-number _ _ _)
+    (rw (c .before .before .before .before .before .message5 .given .1) (c .before .before .write-tmpl-data .ensures))
 
 same-length-6 : tie.Need-same-length-6
 same-length-6 c = search needs
@@ -115,9 +118,8 @@ same-length-6 c = search needs
 returns-6 : tie.Need-returns-6
 unfolding layoutOf
 returns-6 c =
-    rw (
-    c .before .before .before .before .before .message6 .given .1
-    ) (allowed _ _ _ _ _ refl refl (c .before .before .write-final-tmpl-data-ack .ensures))
+    answered-with (written-number _ _ _)
+    (rw (c .before .before .before .before .before .message6 .given .1) (allowed _ _ _ _ _ refl refl (c .before .before .write-final-tmpl-data-ack .ensures)))
 
 same-length-7 : tie.Need-same-length-7
 same-length-7 c = search needs
@@ -125,9 +127,8 @@ same-length-7 c = search needs
 returns-7 : tie.Need-returns-7
 unfolding layoutOf
 returns-7 c =
-    rw (
-    c .before .before .before .before .before .message7 .given .1
-    ) (allowed _ _ _ _ _ refl refl (c .before .before .write-bare4 .ensures))
+    answered-with (written-number _ _ _)
+    (rw (c .before .before .before .before .before .message7 .given .1) (allowed _ _ _ _ _ refl refl (c .before .before .write-bare4 .ensures)))
 
 same-length-8 : tie.Need-same-length-8
 same-length-8 c = search needs
@@ -135,15 +136,16 @@ same-length-8 c = search needs
 returns-8 : tie.Need-returns-8
 unfolding layoutOf
 returns-8 c =
-    rw (
-    c .before .before .before .before .before .message8 .given .1
-    ) (allowed _ _ _ _ _ refl refl (c .before .before .write-bare5 .ensures))
+    answered-with (written-number _ _ _)
+    (rw (c .before .before .before .before .before .message8 .given .1) (allowed _ _ _ _ _ refl refl (c .before .before .write-bare5 .ensures)))
 
 same-length-9 : tie.Need-same-length-9
 same-length-9 c = search needs
 
 returns-9 : tie.Need-returns-9
-returns-9 c = rw (c .before .before .before .before .before .message9 .given .1) (c .before .before .write-data .ensures)
+returns-9 c =
+    answered-with (written-number _ _ _)
+    (rw (c .before .before .before .before .before .message9 .given .1) (c .before .before .write-data .ensures))
 
 same-length-10 : tie.Need-same-length-10
 same-length-10 c = search needs
@@ -151,9 +153,8 @@ same-length-10 c = search needs
 returns-10 : tie.Need-returns-10
 unfolding layoutOf
 returns-10 c =
-    rw (
-    c .before .before .before .before .before .message10 .given .1
-    ) (allowed _ _ _ _ _ refl refl (c .before .before .write-data-ack .ensures))
+    answered-with (written-number _ _ _)
+    (rw (c .before .before .before .before .before .message10 .given .1) (allowed _ _ _ _ _ refl refl (c .before .before .write-data-ack .ensures)))
 
 pub write-message-spec : {M : Type 1} → statement M
 write-message-spec =

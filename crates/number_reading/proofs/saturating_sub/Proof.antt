@@ -1,0 +1,13 @@
+-- `saturating_sub` meets its contract: a difference of natural numbers is 0 where the second is the larger.
+use native.Mathlib.Omega.{arith}
+use Rattle.number_reading.proofs.saturating_sub.Statement.{statement}
+use Rattle.number_reading.proofs.saturating_sub.Tie as tie
+
+returns : tie.Need-returns
+returns c = omega arith
+
+returns-2 : tie.Need-returns-2
+returns-2 c = omega arith
+
+pub saturating-sub-spec : {M : Type 1} → statement M
+saturating-sub-spec = tie.close (tie.spec returns returns-2)
