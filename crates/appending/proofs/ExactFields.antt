@@ -1,6 +1,7 @@
--- What is appended has the value's integer in its octets: a number's octets are below 256, so the law of exact values holds where they
--- stand, and the value is read back there.
-use mathlib.Core.Path.{_≡_, refl, sym, ap, _∙_}
+-- A field that holds a value has the value's integer in its octets: a number's octets are below 256, so the law of exact values holds where
+-- they stand, and the value is read back there.
+use mathlib.Core.Path.{_≡_, sym, ap, _∙_}
+use mathlib.Core.Bool.{true}
 use mathlib.Core.List.{List}
 use Prim.Native.Nat.{ℕ, _+_, _-_, _^_, _<_}
 use native.Mathlib.Omega.{arith}
@@ -9,33 +10,35 @@ use lib.ListN.{getD}
 use Rattle.octets.specs.Answers.{done}
 use Rattle.octets.specs.Numbers.{octetsOf}
 use Rattle.octets.proofs.Numbers.{octets-length, octets-below}
-use Rattle.octets.proofs.Stores.{sets-at}
 use Rattle.field_types.specs.FieldTypes.{widthOf}
 use Rattle.records.specs.Walk.{integerOf, integerAt}
 use Rattle.records.specs.declared.walk.Value.{Value}
 use Rattle.records.specs.declared.walk.Value.the-variants.{Octets, Number, Negative}
 use Rattle.records.proofs.Integers.{exact-value, no-integer}
-use Rattle.appending.specs.Append.{fieldOctets, appendAnswer, appendOut}
-use Rattle.appending.proofs.ReadBack.{append-done, append-reads-back}
+use Rattle.appending.specs.Append.{valueFits, fieldOctets, appendAnswer, appendOut}
+use Rattle.appending.proofs.ReadBack.{Holds, sets-holds, reads-back, append-done}
 
--- a value whose field is the octets of a number
-module _ (type : ℕ) (value : Value) (octets out : List ℕ) (at n : ℕ) (h : appendAnswer type value octets out at ≡ done)
-    (field : fieldOctets type value octets ≡ octetsOf (widthOf type) n) where
-  stored-octet : (i : ℕ) → i < widthOf type → getD (appendOut type value octets out at) (at + i) 0 < 256
-  unfolding appendOut
-  stored-octet i l =
-      let size = octets-length (widthOf type) n in
-      let room = rw field at (append-done type value octets out at h .1) in
-      rw (eq-eqb (appendAnswer type value octets out at) done h, field, sets-at out at (octetsOf (widthOf type) n) i room (omega arith))
-      (octets-below (widthOf type) n i l)
+-- the octets of a number, where they stand
+held-octet : (w n : ℕ) (r : List ℕ) (at : ℕ) → Holds r at (octetsOf w n) → (i : ℕ) → i < w → getD r (at + i) 0 < 256
+held-octet w n r at h i l =
+    let size = octets-length w n in
+    rw (h .octet i (omega arith)) (octets-below w n i l)
 
-  number-exact : integerAt type (appendOut type value octets out at) at ≡ integerOf value
-  number-exact =
-      sym (exact-value type (appendOut type value octets out at) at stored-octet) ∙ ap integerOf (append-reads-back type value octets out at h .same)
+-- THE LAW OF EXACT FIELDS: where the field of a value that fits its type stands, the octets hold the value's integer, and none for octets.
+pub field-exact : (type : ℕ) (value : Value) (octets r : List ℕ) (at : ℕ) → valueFits type value octets ≡ true
+    → Holds r at (fieldOctets type value octets) → integerAt type r at ≡ integerOf value
+field-exact type (Number n) octets r at fits h =
+    sym (exact-value type r at (held-octet (widthOf type) n r at h)) ∙ ap integerOf (reads-back type (Number n) octets r at fits h .same)
+field-exact type (Negative n) octets r at fits h =
+    sym (exact-value type r at (held-octet (widthOf type) (256 ^ widthOf type - n) r at h))
+    ∙ ap integerOf (reads-back type (Negative n) octets r at fits h .same)
+field-exact type Octets octets r at fits h = no-integer type r at (reads-back type Octets octets r at fits h .same)
 
--- THE LAW OF EXACT FIELDS: appending that was done leaves the value's integer at its place, and none for octets.
+-- so appending that was done leaves the value's integer at its place
 pub append-exact : (type : ℕ) (value : Value) (octets out : List ℕ) (at : ℕ) → appendAnswer type value octets out at ≡ done
     → integerAt type (appendOut type value octets out at) at ≡ integerOf value
-append-exact type (Number n) octets out at h = number-exact type (Number n) octets out at n h refl
-append-exact type (Negative n) octets out at h = number-exact type (Negative n) octets out at (256 ^ widthOf type - n) h refl
-append-exact type Octets octets out at h = no-integer type (appendOut type Octets octets out at) at (append-reads-back type Octets octets out at h .same)
+unfolding appendOut
+append-exact type value octets out at h =
+    let d = append-done type value octets out at h in
+    rw (eq-eqb (appendAnswer type value octets out at) done h)
+    (field-exact type value octets _ at (d .0) (sets-holds out at (fieldOctets type value octets) (d .1)))

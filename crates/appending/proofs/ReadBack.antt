@@ -20,7 +20,7 @@ use Rattle.field_types.specs.FieldTypes.{widthOf, isNumber, isSigned, booleanTy
 use Rattle.tables.specs.Table.{keyAt, keyType}
 use Rattle.records.specs.Record.{left, fixedLength, blobLength, stringLength, terminatedLength, fieldLength}
 use Rattle.records.specs.Walk.{signedAt, valueAt, nextKey, stepUnder}
-use Rattle.appending.specs.Append.{numberFits, negativeFits, valueFits, octetsField, fieldOctets, appendAnswer, appendOf, appendOut, appendedAnswer}
+use Rattle.appending.specs.Append.{numberFits, negativeFits, valueFits, octetsField, fieldOctets, appendAnswer, appendOf, appendOut, appendedAnswer, prefixOctets}
 use Rattle.tables.specs.declared.table.Template.{Template}
 use Rattle.records.specs.declared.walk.Value.{Value}
 use Rattle.records.specs.declared.walk.Value.the-variants.{Octets, Number, Negative}
@@ -143,10 +143,6 @@ terminated-field r at octets nonzero h =
     rw (first, lt-ltb (at + length octets) (length r) (omega (arith, h .within))) (omega arith)
 
 -- ---- what is read where the field of a value stands
-
--- How many octets stand in front of a value's octets in its field: the 32-bit length of a string or blob.
-unfoldable pub prefixOctets : ℕ → ℕ
-prefixOctets type = cond (eqb type stringType) 4 (cond (eqb type blobType) 4 0)
 
 -- The field has octets, its length is that of the value's field, its value is the value, and a value's octets stand in it.
 pub record ReadsBack (type : ℕ) (value : Value) (octets r : List ℕ) (at : ℕ) : Type 0 where

@@ -54,6 +54,10 @@ octetsField type octets =
     cond (eqb type terminatedType) (octets ++ (0 ∷ []))
     (cond (ltb 0 (widthOf type)) octets (octetsOf lengthOctets (length octets) ++ octets))
 
+-- How many octets stand in front of a value's own octets in their field: the 32-bit length of a string or blob.
+unfoldable pub prefixOctets : ℕ → ℕ
+prefixOctets type = cond (eqb type stringType) lengthOctets (cond (eqb type blobType) lengthOctets 0)
+
 -- The octets of the field that holds a value: a number in the type's width, two's complement where it is below 0.
 abbrev pub fieldOctets : ℕ → Value → List ℕ → List ℕ
 fieldOctets type (Number n) octets = octetsOf (widthOf type) n

@@ -4,6 +4,7 @@ use borrow.Author.Tests.{eq-eqb}
 use lib.ListN.{length}
 use Rattle.octets.specs.Answers.{done}
 use Rattle.appending.specs.Append.{fieldOctets, appendAnswer, appendOut}
+use Rattle.appending.proofs.ExactFields.{append-exact}
 use Rattle.appending.proofs.ReadBack.{append-done, append-reads-back}
 use Rattle.messages.proofs.RoundTrip.{wrote-reads}
 use Rattle.wire.specs.Demand2.{Demand2, FieldsReadBack}
@@ -13,10 +14,13 @@ fields-read-back : FieldsReadBack
 unfolding appendOut
 fields-read-back type value octets out at h =
     let b = append-reads-back type value octets out at h in
+    let d = append-done type value octets out at h in
     record {
       len = b .len;
       same = b .same;
-      stands = rw (eq-eqb (appendAnswer type value octets out at) done h) (stored-part out (fieldOctets type value octets) at (append-done type value octets out at h .1));
+      exact = append-exact type value octets out at h;
+      stands = rw (eq-eqb (appendAnswer type value octets out at) done h) (stored-part out (fieldOctets type value octets) at (d .1));
+      content = b .stands;
     }
 
 pub demand2 : Demand2

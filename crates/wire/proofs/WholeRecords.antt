@@ -4,7 +4,7 @@
 use mathlib.Core.Path.{_≡_, refl, sym, ap, _∙_}
 use mathlib.Core.Bool.{Bool, true, false, cond}
 use mathlib.Core.List.{List, [], _∷_, _++_, map}
-use Prim.Native.Nat.{ℕ, zero, suc, _+_, _≤_, _<_}
+use Prim.Native.Nat.{ℕ, zero, suc, _+_, _-_, _≤_, _<_}
 use native.Mathlib.Nat.{add-zero}
 use native.Mathlib.Omega.{arith}
 use borrow.Author.Tests.{lt-ltb, eq-eqb, ltb-true, ltb-false}
@@ -23,9 +23,10 @@ use Rattle.records.proofs.Records.{field-at-more}
 use Rattle.records.proofs.WalkLaws.{ends-with-enough, found-valid, valid-opens, walk-opened, opened-types, opened-laid}
 use Rattle.records.specs.declared.walk.Field.{Field}
 use Rattle.appending.specs.declared.append.Appended.the-variants as appended
+use Rattle.appending.proofs.ExactFields.{field-exact}
 use Rattle.appending.proofs.ReadBack.{front-holds, reads-back, append-accepts}
 use Rattle.wire.specs.Demand2.{TypedValue, fits, octetsFor, recordOctets, appendAll, fieldsOf}
-use Rattle.wire.specs.Demand2.{ValuesFor, RecordOf, RecordsMade, RecordsReadBack, EmptyRecords}
+use Rattle.wire.specs.Demand2.{FieldOf, EachField, ValuesFor, RecordOf, RecordsMade, RecordsReadBack, EmptyRecords}
 
 -- ---- made by appending
 
@@ -149,15 +150,32 @@ module _ (t : List ℕ) (m : Template) (r : List ℕ) where
             fields = rw (off, x .fields);
           }
 
--- the octets at the places of the fields
-stand-from : (values : List TypedValue) (r : List ℕ) (at : ℕ) → drop at r ≡ recordOctets values
-    → map (λ f. take (f .len) (drop (f .at) r)) (fieldsOf values at) ≡ map octetsFor values
-unfolding recordOctets fieldsOf
-stand-from [] r at e = refl
-stand-from (v ∷ values) r at e =
+-- a value whose field stands in front of others from a place on is the field there
+pub field-of : (v : TypedValue) (r : List ℕ) (at : ℕ) (rest : List ℕ) → fits v ≡ true → at ≤ length r → drop at r ≡ octetsFor v ++ rest
+    → FieldOf (v .type) (v .value) (v .octets) r at
+field-of v r at rest h inside e =
+    let holds = front-holds r at (octetsFor v) rest inside e in
+    let b = reads-back (v .type) (v .value) (v .octets) r at h holds in
+    record {
+      len = b .len;
+      same = b .same;
+      exact = field-exact (v .type) (v .value) (v .octets) r at h holds;
+      stands = ap (take (length (octetsFor v))) e ∙ take-append-seam (octetsFor v) rest;
+      content = b .stands;
+    }
+
+-- so is each of the values whose fields are what is left from a place on
+each-field : (values : List TypedValue) (r : List ℕ) (at : ℕ) → allOf (map fits values) ≡ true → at ≤ length r → drop at r ≡ recordOctets values
+    → EachField values at r
+unfolding recordOctets
+each-field [] r at h inside e = tt
+each-field (v ∷ values) r at h inside e =
     let field = octetsFor v in
-    let here : take (length field) (drop at r) ≡ field = ap (take (length field)) e ∙ take-append-seam field (recordOctets values) in
-    rw (here, stand-from values r (at + length field) (behind-field r at field (recordOctets values) e))
+    let rest = recordOctets values in
+    let long : length r - at ≡ length field + length rest = sym (length-drop at r) ∙ ap length e ∙ length-append field rest in (
+      field-of v r at rest (clause-first (fits v) (allOf (map fits values)) h) inside e,
+      each-field values r (at + length field) (clause-rest (fits v) (allOf (map fits values)) h) (omega arith) (behind-field r at field rest e),
+    )
 
 fields-length : (values : List TypedValue) (at : ℕ) → length (fieldsOf values at) ≡ length values
 unfolding fieldsOf
@@ -189,7 +207,7 @@ record-of t id values found given =
       opens = opens;
       visits = λ n h. ends-with-enough (stepOf t id r) (suc (m .count)) n walkStart (w .ends) (omega arith) .0 ∙ all;
       ends = λ n h. ends-with-enough (stepOf t id r) (suc (m .count)) n walkStart (w .ends) (omega arith) .1;
-      stands = stand-from values r 0 refl;
+      each = each-field values r 0 (given .fit) (omega arith) refl;
     }
 
 pub records-read-back : RecordsReadBack

@@ -8,12 +8,13 @@ use Rattle.octets.specs.Answers.{done}
 use Rattle.octets.specs.Each.{allOf}
 use Rattle.tables.specs.Table.{templateOf, findAnswer}
 use Rattle.records.specs.Record.{fieldLength, recordAnswer}
-use Rattle.records.specs.Walk.{valueAt, stepOf, walkStart, openOf, enabledTypes, visited, lastAnswer}
+use Rattle.records.specs.Walk.{valueAt, integerOf, integerAt, stepOf, walkStart, openOf, enabledTypes, visited, lastAnswer}
 use Rattle.records.specs.declared.walk.Value.{Value}
+use Rattle.records.specs.declared.walk.Value.the-variants as held
 use Rattle.records.specs.declared.walk.Field.{Field}
 use Rattle.records.specs.declared.walk.Opened.the-variants as opened
 use Rattle.records.specs.declared.walk.Step.the-variants as step
-use Rattle.appending.specs.Append.{valueFits, fieldOctets, appendAnswer, appendOf, appendOut}
+use Rattle.appending.specs.Append.{valueFits, prefixOctets, fieldOctets, appendAnswer, appendOf, appendOut}
 use Rattle.appending.specs.declared.append.Appended.{Appended}
 use Rattle.appending.specs.declared.append.Appended.the-variants as appended
 use Rattle.messages.specs.Messages.{layoutOf, readOf, partOf, partAt, writeOut, carried, carriedAt, Writable}
@@ -32,11 +33,14 @@ MessagesReadBack =
 
 -- ---- single fields
 
--- The field of a type at a place of octets is the one that holds a value: of its length, with that value and with its octets.
+-- The field of a type at a place of octets is the one that holds a value: of its length, with that value and that value's integer, and with
+-- its octets; a value that is octets stands there as it was given, behind the length that its type has.
 pub record FieldOf (type : ℕ) (value : Value) (octets r : List ℕ) (at : ℕ) : Type 0 where
   pub len : fieldLength type r at ≡ length (fieldOctets type value octets)
   pub same : valueAt type r at ≡ value
+  pub exact : integerAt type r at ≡ integerOf value
   pub stands : take (length (fieldOctets type value octets)) (drop at r) ≡ fieldOctets type value octets
+  pub content : value ≡ held.Octets → take (length octets) (drop (at + prefixOctets type) r) ≡ octets
 
 -- A value that was appended is the field at its place.
 abbrev pub FieldsReadBack : Type 0
@@ -88,14 +92,19 @@ fieldsOf [] at = []
 fieldsOf (v ∷ values) at =
     record { kind = v .type; at = at; len = length (octetsFor v); value = v .value } ∷ fieldsOf values (at + length (octetsFor v))
 
+-- Each value is the field at its place, the first at a place and each other behind the one before it.
+abbrev pub EachField : List TypedValue → ℕ → List ℕ → Type 0
+EachField [] at r = Unit {0}
+EachField (v ∷ values) at r = FieldOf (v .type) (v .value) (v .octets) r at × EachField values (at + length (octetsFor v)) r
+
 -- Octets are a record that reads back as values under the template with an ID: it is valid, a walk opens at its start, steps answer the
--- fields of the values and then the end, however many more steps are allowed, and the octets of each field stand at its place.
+-- fields of the values and then the end, however many more steps are allowed, and each value is the field at its place.
 pub record RecordOf (t : List ℕ) (id : ℕ) (values : List TypedValue) (r : List ℕ) : Type 0 where
   pub valid : recordAnswer t id r ≡ done
   pub opens : openOf t id r ≡ opened.At walkStart
   pub visits : (n : ℕ) → length values ≤ n → visited (stepOf t id r) n walkStart ≡ fieldsOf values 0
   pub ends : (n : ℕ) → length values ≤ n → lastAnswer (stepOf t id r) n walkStart ≡ step.End
-  pub stands : map (λ f. take (f .len) (drop (f .at) r)) (fieldsOf values 0) ≡ map octetsFor values
+  pub each : EachField values 0 r
 
 -- Values of their types, appended one after the other from a place of an output with room for them, leave their record there and no other
 -- octet changed; the place behind it is answered.
