@@ -49,9 +49,9 @@ idle phase = alone phase 0 (replicate maxHeld 0) 0 1
 abbrev pub noTable : List ℕ
 noTable = 0x01 ∷ []
 
--- A sound table of Configuration ID 2, where the session has 1.
-abbrev pub otherTable : List ℕ
-otherTable = 0x02 ∷ drop 1 aTable
+-- The table with another Configuration ID; the session has 1.
+abbrev pub tableOf : ℕ → List ℕ
+tableOf config = config ∷ drop 1 aTable
 
 -- A message of these header fields, the length below 256, and a body.
 abbrev pub frame : ℕ → ℕ → ℕ → ℕ → List ℕ → List ℕ
@@ -106,7 +106,8 @@ PutOrder =
     ∷ record { state = full; store = 1023; call = Put noTable 4 long }
     ∷ record { state = full; store = 1025; call = Put noTable 4 long }
     ∷ over full (Put noTable 4 long)
-    ∷ over full (Put otherTable 4 long)
+    ∷ over full (Put (tableOf 0) 4 long)
+    ∷ over full (Put (tableOf 2) 4 long)
     ∷ over full (Put aTable 4 long)
     ∷ over full (Put aTable 3 long)
     ∷ over full (Put aTable 3 (replicate 3 0))
@@ -114,7 +115,7 @@ PutOrder =
     ∷ over almost (Put aTable 3 valid)
     ∷ over (idle Agreed) (Put aTable 3 valid)
     ∷ [])
-    ≡ 1 ∷ 1 ∷ 1 ∷ 21 ∷ 21 ∷ 15 ∷ 17 ∷ 16 ∷ 18 ∷ 19 ∷ 0 ∷ []
+    ≡ 1 ∷ 1 ∷ 1 ∷ 21 ∷ 21 ∷ 21 ∷ 15 ∷ 17 ∷ 16 ∷ 18 ∷ 19 ∷ 0 ∷ []
 
 -- Next data: 1, 13, 14, 12. Nobody is active, then nothing is held, then the output is one octet short of a DATA's 18.
 abbrev pub NextDataOrder : Type 0
@@ -138,12 +139,13 @@ OfferOrder =
     (over (unsound (idle Closed)) (OfferTemplates 1 noTable (room 0))
     ∷ over (idle Closed) (OfferTemplates 1 noTable (room 0))
     ∷ over (idle Closed) (OfferTemplates 0 noTable (room 0))
-    ∷ over (idle Closed) (OfferTemplates 0 otherTable (room 0))
+    ∷ over (idle Closed) (OfferTemplates 0 (tableOf 0) (room 0))
+    ∷ over (idle Closed) (OfferTemplates 0 (tableOf 2) (room 0))
     ∷ over (idle Closed) (OfferTemplates 0 aTable (room 0))
     ∷ over (idle Started) (OfferTemplates 0 aTable (room 35))
     ∷ over (idle Started) (OfferTemplates 0 aTable (room 36))
     ∷ [])
-    ≡ 1 ∷ 2 ∷ 21 ∷ 21 ∷ 9 ∷ 12 ∷ 0 ∷ []
+    ≡ 1 ∷ 2 ∷ 21 ∷ 21 ∷ 21 ∷ 9 ∷ 12 ∷ 0 ∷ []
 
 -- Line down: 1, 2.
 abbrev pub LineDownOrder : Type 0
@@ -155,25 +157,32 @@ LineDownOrder =
 abbrev pub TickOrder : Type 0
 TickOrder = answersOf (over (unsound (idle Closed)) Tick ∷ over (idle Closed) Tick ∷ []) ≡ 1 ∷ 0 ∷ []
 
--- Receive: 1 to 10. The message has 7 octets, version 2, a wrong length, session 8; then it is a START ACK without its body, then a FINAL
--- TMPL DATA ACK without its body, from a closed server, of configuration 2.
+-- Receive: 1 to 10. The message has 7 octets, then another version than 1, a wrong length, another session than 7, each one less and one
+-- more; then it is a START ACK without its body, then a FINAL TMPL DATA ACK whose body has 3 or 5 octets for 4, from a closed server, of
+-- another configuration than 1.
 abbrev pub ReceiveOrder : Type 0
 ReceiveOrder =
     let short : List ℕ = 2 ∷ 0x02 ∷ 8 ∷ 0 ∷ 0 ∷ 0 ∷ 0 ∷ [] in
+    let from : Phase → List ℕ → Turn = λ phase m. over (idle phase) (Receive 0 m (room 0)) in
     answersOf
     (over (unsound (idle Closed)) (Receive 1 short (room 0))
     ∷ over (idle Closed) (Receive 1 short (room 0))
-    ∷ over (idle Closed) (Receive 0 short (room 0))
-    ∷ over (idle Closed) (Receive 0 (frame 2 0x02 8 9 []) (room 0))
-    ∷ over (idle Closed) (Receive 0 (frame 1 0x02 8 9 []) (room 0))
-    ∷ over (idle Closed) (Receive 0 (frame 1 0x02 8 8 []) (room 0))
-    ∷ over (idle Closed) (Receive 0 (frame 1 0x02 7 8 []) (room 0))
-    ∷ over (idle Closed) (Receive 0 (frame 1 0x13 7 8 []) (room 0))
-    ∷ over (idle Closed) (Receive 0 (frame 1 0x13 7 12 (2 ∷ 0 ∷ 0 ∷ 0 ∷ [])) (room 0))
-    ∷ over (idle Offered) (Receive 0 (frame 1 0x13 7 12 (2 ∷ 0 ∷ 0 ∷ 0 ∷ [])) (room 0))
-    ∷ over (idle Offered) (Receive 0 (frame 1 0x13 7 12 (1 ∷ 0 ∷ 0 ∷ 0 ∷ [])) (room 0))
+    ∷ from Closed short
+    ∷ from Closed (frame 0 0x02 8 9 [])
+    ∷ from Closed (frame 2 0x02 8 9 [])
+    ∷ from Closed (frame 1 0x02 8 7 [])
+    ∷ from Closed (frame 1 0x02 8 9 [])
+    ∷ from Closed (frame 1 0x02 6 8 [])
+    ∷ from Closed (frame 1 0x02 8 8 [])
+    ∷ from Closed (frame 1 0x02 7 8 [])
+    ∷ from Closed (frame 1 0x13 7 11 (2 ∷ 0 ∷ 0 ∷ []))
+    ∷ from Closed (frame 1 0x13 7 13 (2 ∷ 0 ∷ 0 ∷ 0 ∷ 0 ∷ []))
+    ∷ from Closed (frame 1 0x13 7 12 (2 ∷ 0 ∷ 0 ∷ 0 ∷ []))
+    ∷ from Offered (frame 1 0x13 7 12 (0 ∷ 0 ∷ 0 ∷ 0 ∷ []))
+    ∷ from Offered (frame 1 0x13 7 12 (2 ∷ 0 ∷ 0 ∷ 0 ∷ []))
+    ∷ from Offered (frame 1 0x13 7 12 (1 ∷ 0 ∷ 0 ∷ 0 ∷ []))
     ∷ [])
-    ≡ 1 ∷ 2 ∷ 3 ∷ 4 ∷ 5 ∷ 6 ∷ 7 ∷ 8 ∷ 9 ∷ 10 ∷ 0 ∷ []
+    ≡ 1 ∷ 2 ∷ 3 ∷ 4 ∷ 4 ∷ 5 ∷ 5 ∷ 6 ∷ 6 ∷ 7 ∷ 8 ∷ 8 ∷ 9 ∷ 10 ∷ 10 ∷ 0 ∷ []
 
 -- Receive accepts only these numbers: all others are 7, though the body of one octet has no message's length.
 abbrev pub ReceivedNumbers : Type 0
@@ -181,19 +190,23 @@ ReceivedNumbers =
     numbersWhere (λ n. not (eqb (answerOf (over (idle Closed) (Receive 0 (frame 1 n 7 9 (0 ∷ [])) (room 0)))) 7)) 256
     ≡ 0x01 ∷ 0x03 ∷ 0x13 ∷ 0x18 ∷ 0x21 ∷ []
 
--- Receive, 8 to 11 by a DATA ACK: without its body, from a server that is not agreed, then from one that is agreed and not active, of
--- configuration 2, of DSN 5 where 0 is the last one released.
+-- Receive, 8 to 11 by a DATA ACK: of 7 or 9 octets for 8, from a server that is not agreed, from one that is agreed and not active, of
+-- another configuration than 1, of DSN 5 where 0 is the last one released.
 abbrev pub DataAckOrder : Type 0
 DataAckOrder =
+    let from : State → ℕ → ℕ → Turn = λ s dsn config.
+    over s (Receive 0 (frame 1 0x21 7 16 (0 ∷ 0 ∷ 0 ∷ dsn ∷ config ∷ 0 ∷ 0 ∷ 0 ∷ [])) (room 0)) in
     answersOf
-    (over (idle Started) (Receive 0 (frame 1 0x21 7 8 []) (room 0))
-    ∷ over (idle Started) (Receive 0 (frame 1 0x21 7 16 (0 ∷ 0 ∷ 0 ∷ 5 ∷ 2 ∷ 0 ∷ 0 ∷ 0 ∷ [])) (room 0))
-    ∷ over (pair 1 0 Agreed Agreed 0) (Receive 0 (frame 1 0x21 7 16 (0 ∷ 0 ∷ 0 ∷ 5 ∷ 2 ∷ 0 ∷ 0 ∷ 0 ∷ [])) (room 0))
-    ∷ over (idle Agreed) (Receive 0 (frame 1 0x21 7 16 (0 ∷ 0 ∷ 0 ∷ 5 ∷ 2 ∷ 0 ∷ 0 ∷ 0 ∷ [])) (room 0))
-    ∷ over (idle Agreed) (Receive 0 (frame 1 0x21 7 16 (0 ∷ 0 ∷ 0 ∷ 5 ∷ 1 ∷ 0 ∷ 0 ∷ 0 ∷ [])) (room 0))
-    ∷ over (idle Agreed) (Receive 0 (frame 1 0x21 7 16 (0 ∷ 0 ∷ 0 ∷ 0 ∷ 1 ∷ 0 ∷ 0 ∷ 0 ∷ [])) (room 0))
+    (over (idle Started) (Receive 0 (frame 1 0x21 7 15 (replicate 7 5)) (room 0))
+    ∷ over (idle Started) (Receive 0 (frame 1 0x21 7 17 (replicate 9 5)) (room 0))
+    ∷ from (idle Started) 5 2
+    ∷ from (pair 1 0 Agreed Agreed 0) 5 2
+    ∷ from (idle Agreed) 5 0
+    ∷ from (idle Agreed) 5 2
+    ∷ from (idle Agreed) 5 1
+    ∷ from (idle Agreed) 0 1
     ∷ [])
-    ≡ 8 ∷ 9 ∷ 9 ∷ 10 ∷ 11 ∷ 0 ∷ []
+    ≡ 8 ∷ 8 ∷ 9 ∷ 9 ∷ 10 ∷ 10 ∷ 11 ∷ 0 ∷ []
 
 -- Receive, 12: the output is one octet short of the reply; a START NEGOTIATE with a body, then from a closed server, is 8 and 9 first. A
 -- START ACK has 12 octets, the other two replies have 8.
@@ -218,14 +231,17 @@ abbrev pub ReadingOrder : Type 0
 ReadingOrder =
     map readAnswer
     ((2 ∷ 0xFF ∷ 8 ∷ 0 ∷ 0 ∷ 0 ∷ 0 ∷ [])
+    ∷ frame 0 0xFF 8 9 []
     ∷ frame 2 0xFF 8 9 []
+    ∷ frame 1 0xFF 8 7 []
     ∷ frame 1 0xFF 8 9 []
     ∷ frame 1 0xFF 8 8 []
-    ∷ frame 1 0x21 8 8 []
+    ∷ frame 1 0x21 8 15 (replicate 7 0)
+    ∷ frame 1 0x21 8 17 (replicate 9 0)
     ∷ frame 1 0x10 8 8 []
     ∷ frame 1 0x10 8 36 aTable
     ∷ [])
-    ≡ 3 ∷ 4 ∷ 5 ∷ 7 ∷ 8 ∷ 21 ∷ 0 ∷ []
+    ≡ 3 ∷ 4 ∷ 4 ∷ 5 ∷ 5 ∷ 7 ∷ 8 ∷ 8 ∷ 21 ∷ 0 ∷ []
 
 -- Reading knows the ten messages: every other number is 7.
 abbrev pub ReadNumbers : Type 0
