@@ -19,7 +19,7 @@ use Rattle.session.specs.Queue.{heldFrom, held}
 use Rattle.session.specs.Sound.{settingsSound}
 use Rattle.session.specs.Steps.{modulus, Call, put, nextData, tick, ack, move, isReceived, formAnswer, callOfMessage, received, written, checks, answer, after, settled, storeAfter, Outcome, step, fresh, refusedState, setUp}
 use Rattle.session.specs.History.{History, deliveryAfter, ledgerAfter, afterAccepted, afterCall, freshHistory, anyWriting}
-use Rattle.session.specs.Claim.{Event, Put, NextData, Receive, OfferTemplates, LineDown, Tick, Session, Exporter, outcome, storeLeft, advance, run, begin, Heard, callOf, transcript, historyFrom, Premises, InRange, AllInRange, roomOf, tableOf, nextPlace, CallClaim, namedBy, lastNamed, Calls, historyOf, Demand3, AllOctets, sessionOf32, Demand3Of32}
+use Rattle.session.specs.Claim.{Event, Put, NextData, Receive, OfferTemplates, LineDown, Tick, Session, Exporter, outcome, storeLeft, advance, run, begin, AnsweredCall, callOf, transcript, historyFrom, Premises, InRange, AllInRange, roomOf, tableOf, nextPlace, CallClaim, namedBy, lastNamed, Calls, historyOf, Demand3, AllOctets, sessionOf32, Demand3Of32}
 use Rattle.session.specs.declared.state.Settings.{Settings}
 use Rattle.session.specs.declared.state.State.{State}
 use Rattle.session.specs.declared.state.Made.{Made}
@@ -227,7 +227,7 @@ released-by w p k n h = go (eqb n done) refl k
     go false e (ack v d config) = rw e refl
     go false e (move v m) = refl
 
-last-named : (w : ℕ) (p : Settings) (h : History) (r : ℕ) (ks : List Heard) → h .ledger .released ≡ r
+last-named : (w : ℕ) (p : Settings) (h : History) (r : ℕ) (ks : List AnsweredCall) → h .ledger .released ≡ r
     → historyFrom w p h ks .ledger .released ≡ lastNamed w p h r ks
 unfolding historyFrom lastNamed
 last-named w p h r [] e = e

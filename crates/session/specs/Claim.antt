@@ -79,14 +79,14 @@ run z x (e ∷ es) = run z (advance z x e) es
 unfoldable pub begin : Session → List ℕ → Exporter
 begin z store = record { state = setUp (z .settings) (length store) .state; store = store }
 
--- ---- what the history hears
+-- ---- what the history is fed
 
 -- A call by its meaning, and its answer.
-pub record Heard : Type 0 where
+pub record AnsweredCall : Type 0 where
   pub call : Call
   pub answer : ℕ
 
--- The call that an event makes, by the settings alone. A put's record and template ID take the place; no table is told to the history.
+-- The call that an event makes, by the settings alone. A put's record and template ID take the place; the history needs no table.
 unfoldable pub callOf : Settings → Event → Call
 callOf p (Put table id r) = put id r
 callOf p (NextData out) = nextData
@@ -96,13 +96,13 @@ callOf p (LineDown v) = move v down
 callOf p Tick = tick
 
 -- The calls and answers of a list, from x on.
-unfoldable pub transcript : Session → Exporter → List Event → List Heard
+unfoldable pub transcript : Session → Exporter → List Event → List AnsweredCall
 transcript z x [] = []
 transcript z x (e ∷ es) =
     record { call = callOf (z .settings) e; answer = outcome z x e .answer } ∷ transcript z (advance z x e) es
 
--- The history after what it hears.
-unfoldable pub historyFrom : ℕ → Settings → History → List Heard → History
+-- The history after calls and their answers.
+unfoldable pub historyFrom : ℕ → Settings → History → List AnsweredCall → History
 historyFrom w p h [] = h
 historyFrom w p h (k ∷ ks) = historyFrom w p (afterCall w p (k .call) (k .answer) h) ks
 
@@ -287,8 +287,8 @@ namedBy w p l tick a r = r
 namedBy w p l (ack v d config) a r = cond (eqb a done) (ackPlace w p l d) r
 namedBy w p l (move v m) a r = r
 
--- The place named by the last accepted DATA ACK that is heard, or r where there is none.
-unfoldable pub lastNamed : ℕ → Settings → History → ℕ → List Heard → ℕ
+-- The place named by the last accepted DATA ACK of a list, or r where there is none.
+unfoldable pub lastNamed : ℕ → Settings → History → ℕ → List AnsweredCall → ℕ
 lastNamed w p h r [] = r
 lastNamed w p h r (k ∷ ks) =
     lastNamed w p (afterCall w p (k .call) (k .answer) h) (namedBy w p (h .ledger) (k .call) (k .answer) r) ks
