@@ -275,12 +275,15 @@ impl Comparison {
         let expected = input.of_model();
         self.coverage().add_input(function, expected.answer());
         let outcome = input.of_library();
+        let name = FUNCTIONS[function].name;
+        let again = format!("{name} {seed} (again with --input {name} {seed})");
         if outcome != expected {
-            let name = FUNCTIONS[function].name;
             let (own, other) = (outcome.describe(), expected.describe());
             let arguments = input.describe().replace('\n', "\n  ");
-            let outcomes = format!("the library: {own}\n  the model:   {other}");
-            self.mismatch(&format!("{name} {seed} (again with --input {name} {seed})\n  {outcomes}\n  {arguments}"));
+            self.mismatch(&format!("{again}\n  the library: {own}\n  the model:   {other}\n  {arguments}"));
+        }
+        if input.of_values().is_some_and(|values| values != expected) {
+            self.mismatch(&format!("{again}: the model does not give back the values"));
         }
     }
 
@@ -344,5 +347,9 @@ fn one_input(function: usize, seed: u64) -> Result<bool, String> {
     }
     let outcome = input.of_library();
     println!("the library: {}", outcome.describe());
-    Ok(outcome == expected)
+    let values = input.of_values();
+    if let Some(values) = &values {
+        println!("the values:  {}", values.describe());
+    }
+    Ok(outcome == expected && values.is_none_or(|values| values == expected))
 }
