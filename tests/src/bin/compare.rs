@@ -2,7 +2,7 @@
 
 use outside::coverage::Coverage;
 use outside::difference::first_difference;
-use outside::generate::{self, PROFILES};
+use outside::generate::{self, DEFAULT_TAPES, PROFILES, SEEDS_APART};
 use outside::inputs::{self, FUNCTIONS};
 use outside::model::replay::replay;
 use outside::program::Program;
@@ -27,14 +27,11 @@ const USAGE: &str = "usage: compare --program PATH [options]
   --input FUNCTION SEED run one input only; print it and both outcomes
 profiles:";
 
-/// How many tapes and inputs a run has if it is not told.
-const DEFAULT_TAPES: u64 = 2_000;
+/// How many inputs a run has if it is not told.
 const DEFAULT_INPUTS: u64 = 100_000;
 
 const WORKERS: usize = 2;
 const MOST_MISMATCHES: u64 = 10;
-/// Seeds that are run together: seed S of the arguments stands for the seeds from S times this on.
-const SEEDS_APART: u64 = 1_000_000;
 
 struct Options {
     program: Option<PathBuf>,

@@ -126,6 +126,7 @@ impl Piece {
 #[cfg(test)]
 mod tests {
     use super::*;
+    use crate::generate::SEEDS_APART;
     use crate::inputs::{function_number, input};
     use crate::library::{NEGATIVE, NUMBER};
     use crate::model::answer::{OUTPUT_TOO_SHORT, RECORD_INVALID};
@@ -135,7 +136,7 @@ mod tests {
     /// Whole records, a tenth of those of a default run.
     fn wholes() -> impl Iterator<Item = Whole> {
         let function = function_number("whole").expect("a function");
-        (0..1_250).map(move |seed| match input(function, seed) {
+        (0..1_250).map(move |seed| match input(function, SEEDS_APART + seed) {
             Input::Whole(whole) => whole,
             other => panic!("{other:?}"),
         })
