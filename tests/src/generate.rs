@@ -10,6 +10,8 @@ mod faults;
 mod hostile;
 mod layouts;
 mod limits;
+#[cfg(test)]
+mod mistakes;
 pub mod records;
 mod session;
 mod sessions;
@@ -62,6 +64,12 @@ pub const PROFILES: [Profile; 16] = [
     profile("hostile", 1, "damaged and random messages", sessions::hostile_tapes),
     profile("largest", 1, "512 events and 32,768 octets", sessions::largest),
 ];
+
+/// How many tapes a run has if it is not told.
+pub const DEFAULT_TAPES: u64 = 2_000;
+
+/// Seeds that are run together: a run of seed S, which is 1 if it is not told, has the seeds from S times this on.
+pub const SEEDS_APART: u64 = 1_000_000;
 
 /// The profile of a tape in a mixed run, and which of that profile's tapes it is.
 pub fn in_turn(index: u64) -> (usize, u64) {

@@ -1,8 +1,10 @@
-//! Seeded inputs for the library's functions. An input is determined by its function and its seed.
+//! Seeded inputs for the library's functions, and for whole records, which take several of them together. An input is
+//! determined by its function and its seed.
 //!
 //! The model and the library get the same input; the answers and every octet of the output must be the same.
 
 mod make;
+mod whole;
 
 use crate::library;
 use crate::model::answer::{
@@ -14,15 +16,16 @@ use crate::model::walk::{Cursor, Field, Step, Value};
 use crate::model::{append, message, record, table, walk};
 use crate::random::Random;
 use crate::text::words::hex;
+use whole::Whole;
 
-/// One function of the library, and the answers that its inputs can get.
+/// One function of the library, or what takes several, and the answers that its inputs can get.
 pub struct Function {
     pub name: &'static str,
     pub answers: &'static [u8],
     make: fn(&mut Random) -> Input,
 }
 
-pub const FUNCTIONS: [Function; 7] = [
+pub const FUNCTIONS: [Function; 8] = [
     Function { name: "table", answers: &[DONE, UNSOUND_TABLE], make: make::table },
     Function { name: "find", answers: &[DONE, TEMPLATE_NOT_FOUND, UNSOUND_TABLE], make: make::find },
     Function {
@@ -52,6 +55,7 @@ pub const FUNCTIONS: [Function; 7] = [
         make: make::step,
     },
     Function { name: "append", answers: &[DONE, OUTPUT_TOO_SHORT, RECORD_INVALID], make: make::append },
+    Function { name: "whole", answers: &[DONE, OUTPUT_TOO_SHORT, RECORD_INVALID], make: make::whole },
 ];
 
 /// The number of a function, by its name.
@@ -59,7 +63,7 @@ pub fn function_number(name: &str) -> Option<usize> {
     FUNCTIONS.iter().position(|function| function.name == name)
 }
 
-/// The arguments of one call.
+/// The arguments of one call, or of all that a whole record takes.
 #[derive(Debug)]
 pub enum Input {
     Table { table: Vec<u8> },
@@ -69,6 +73,7 @@ pub enum Input {
     Open { table: Vec<u8>, id: u16, record: Vec<u8> },
     Step { table: Vec<u8>, id: u16, record: Vec<u8>, cursor: Cursor },
     Append { kind: u16, sort: u8, number: u64, octets: Vec<u8>, out: Vec<u8>, at: usize },
+    Whole(Whole),
 }
 
 /// What a call gives back: one or more numbers, and the output's octets after it.
@@ -110,6 +115,7 @@ impl Input {
                 let value = value_of(*sort, *number);
                 Outcome::of_output(out, |out| number_of(append::append(*kind, value, octets, out, *at)))
             }
+            Input::Whole(whole) => whole.outcome(Input::of_model),
         }
     }
 
@@ -135,6 +141,15 @@ impl Input {
             Input::Append { kind, sort, number, octets, out, at } => {
                 Outcome::of_output(out, |out| library::append(*kind, *sort, *number, octets, out, *at))
             }
+            Input::Whole(whole) => whole.outcome(Input::of_library),
+        }
+    }
+
+    /// What the values of a whole record must give, whatever the model answers; an input of one call has no such.
+    pub fn of_values(&self) -> Option<Outcome> {
+        match self {
+            Input::Whole(whole) => Some(whole.of_values()),
+            _ => None,
         }
     }
 
@@ -158,6 +173,7 @@ impl Input {
                 out.len(),
                 hex(out)
             ),
+            Input::Whole(whole) => whole.describe(),
         }
     }
 }

@@ -2,7 +2,7 @@
 
 use outside::coverage::Coverage;
 use outside::difference::first_difference;
-use outside::generate::{self, PROFILES};
+use outside::generate::{self, DEFAULT_TAPES, PROFILES, SEEDS_APART};
 use outside::inputs::{self, FUNCTIONS};
 use outside::model::replay::replay;
 use outside::program::Program;
@@ -27,14 +27,11 @@ const USAGE: &str = "usage: compare --program PATH [options]
   --input FUNCTION SEED run one input only; print it and both outcomes
 profiles:";
 
-/// How many tapes and inputs a run has if it is not told.
-const DEFAULT_TAPES: u64 = 2_000;
+/// How many inputs a run has if it is not told.
 const DEFAULT_INPUTS: u64 = 100_000;
 
 const WORKERS: usize = 2;
 const MOST_MISMATCHES: u64 = 10;
-/// Seeds that are run together: seed S of the arguments stands for the seeds from S times this on.
-const SEEDS_APART: u64 = 1_000_000;
 
 struct Options {
     program: Option<PathBuf>,
@@ -275,12 +272,15 @@ impl Comparison {
         let expected = input.of_model();
         self.coverage().add_input(function, expected.answer());
         let outcome = input.of_library();
+        let name = FUNCTIONS[function].name;
+        let again = format!("{name} {seed} (again with --input {name} {seed})");
         if outcome != expected {
-            let name = FUNCTIONS[function].name;
             let (own, other) = (outcome.describe(), expected.describe());
             let arguments = input.describe().replace('\n', "\n  ");
-            let outcomes = format!("the library: {own}\n  the model:   {other}");
-            self.mismatch(&format!("{name} {seed} (again with --input {name} {seed})\n  {outcomes}\n  {arguments}"));
+            self.mismatch(&format!("{again}\n  the library: {own}\n  the model:   {other}\n  {arguments}"));
+        }
+        if input.of_values().is_some_and(|values| values != expected) {
+            self.mismatch(&format!("{again}: the model does not give back the values"));
         }
     }
 
@@ -344,5 +344,9 @@ fn one_input(function: usize, seed: u64) -> Result<bool, String> {
     }
     let outcome = input.of_library();
     println!("the library: {}", outcome.describe());
-    Ok(outcome == expected)
+    let values = input.of_values();
+    if let Some(values) = &values {
+        println!("the values:  {}", values.describe());
+    }
+    Ok(outcome == expected && values.is_none_or(|values| values == expected))
 }

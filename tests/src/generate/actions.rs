@@ -87,8 +87,8 @@ pub fn step(session: &mut Session, mix: &Mix) {
         4 => odd_ack(session),
         5 => step_up_one(session),
         6 => bring_up_one(session),
-        7 => bare(session, messages::START),
-        8 => bare(session, messages::STOP),
+        7 => start(session),
+        8 => stop(session),
         9 => down(session),
         10 => negotiate(session),
         11 => out_of_turn(session),
@@ -201,9 +201,32 @@ fn bring_up_one(session: &mut Session) {
     }
 }
 
-/// A message without a body from any server, the active one included.
-fn bare(session: &mut Session, number: u8) {
+/// START from any server, the active one included.
+fn start(session: &mut Session) {
     let server = session.any_server();
+    bare(session, server, messages::START);
+}
+
+/// STOP, often from a late or an offered server; half the time something follows that a closed server may not do.
+fn stop(session: &mut Session) {
+    let late = session.server_where(|state| state == ServerState::Late);
+    let offered = session.server_where(|state| state == ServerState::Offered);
+    let any = session.any_server();
+    let server = match session.random.below(4) {
+        0 | 1 => late.unwrap_or(any),
+        2 => offered.unwrap_or(any),
+        _ => any,
+    };
+    bare(session, server, messages::STOP);
+    match session.random.below(4) {
+        0 => session.add(Event::offer(server)),
+        1 => bare(session, server, messages::START_NEGOTIATE),
+        _ => {}
+    }
+}
+
+/// A message without a body.
+fn bare(session: &mut Session, server: u8, number: u8) {
     let parts = MessageParts::bare(number, session.settings.session);
     session.message(server, &parts);
 }
@@ -223,8 +246,7 @@ fn negotiate(session: &mut Session) {
         1 => late.or(open).unwrap_or(any),
         _ => open.unwrap_or(any),
     };
-    let parts = MessageParts::bare(messages::START_NEGOTIATE, session.settings.session);
-    session.message(server, &parts);
+    bare(session, server, messages::START_NEGOTIATE);
 }
 
 fn out_of_turn(session: &mut Session) {

@@ -4,7 +4,7 @@ use crate::random::Random;
 use crate::tables::{field_type, Template, BLOB, BOOLEAN, STRING, ZERO_STRING};
 
 /// The fields of a record, in order, with their types.
-type Fields = Vec<(u16, Vec<u8>)>;
+pub type Fields = Vec<(u16, Vec<u8>)>;
 
 /// A valid record under the template, of about `wanted` octets if the template lets its length vary.
 pub fn valid(random: &mut Random, template: &Template, wanted: usize) -> Vec<u8> {
@@ -28,7 +28,7 @@ fn join(fields: &Fields) -> Vec<u8> {
 }
 
 /// One field for each enabled key; the room that fixed widths leave is shared by the fields of varying length.
-fn fields(random: &mut Random, template: &Template, wanted: usize) -> Fields {
+pub fn fields(random: &mut Random, template: &Template, wanted: usize) -> Fields {
     let kinds: Vec<u16> = template.keys.iter().filter(|key| !key.disabled).map(|key| key.kind).collect();
     let least: usize = kinds.iter().map(|kind| least_octets(*kind)).sum();
     let mut varying = kinds.iter().filter(|kind| is_varying(**kind)).count();

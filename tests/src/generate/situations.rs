@@ -1,27 +1,35 @@
 //! A test that the tapes of a default run meet every situation in which the rules differ.
 
-use super::{in_turn, tape};
-use crate::model::exporter::{Exporter, ServerState};
+use super::{in_turn, tape, DEFAULT_TAPES, SEEDS_APART};
+use crate::messages::{DATA_ACK, FINAL_TMPL_DATA_ACK, START, START_NEGOTIATE, STOP};
+use crate::model::answer::{DONE, OUT_OF_TURN, STORE_FULL};
+use crate::model::exporter::{Exporter, ServerState, LARGEST_STORE};
 use crate::model::replay::{Outcome, Replay};
 use crate::tape::{split, Event, MESSAGE, NEXT, PUT, TICK};
 use std::collections::BTreeMap;
-
-/// The tapes of a default run.
-const TAPES: u64 = 2_000;
 
 /// How often each situation must be met.
 const LEAST: u64 = 20;
 
 type Counts = BTreeMap<&'static str, u64>;
 
+/// The sound tapes of a default run whose settings and table are taken: the events after these, and the replay before
+/// them.
+pub fn sessions() -> impl Iterator<Item = (Vec<Event>, Replay)> {
+    (0..DEFAULT_TAPES).filter_map(|index| {
+        let (profile, seed) = in_turn(index);
+        let mut events = split(&tape(profile, SEEDS_APART + seed)).ok()?;
+        let mut replay = Replay::set_up(&events[0].body).ok()?;
+        let taken = replay.take_table(&events[1].body) == DONE;
+        taken.then(|| (events.split_off(2), replay))
+    })
+}
+
 #[test]
 fn every_situation_is_met() {
     let mut counts = Counts::new();
-    for index in 0..TAPES {
-        let (profile, seed) = in_turn(index);
-        if let Ok(events) = split(&tape(profile, seed)) {
-            count_tape(&mut counts, &events);
-        }
+    for (events, replay) in sessions() {
+        count_session(&mut counts, &events, replay);
     }
     for (name, _) in SITUATIONS {
         let times = counts.get(name).copied().unwrap_or(0);
@@ -30,47 +38,64 @@ fn every_situation_is_met() {
     }
 }
 
-/// Runs a tape and counts what each of its events meets.
-fn count_tape(counts: &mut Counts, events: &[Event]) {
-    let Ok(mut replay) = Replay::set_up(&events[0].body) else {
-        return;
-    };
-    if replay.take_table(&events[1].body) != 0 {
-        return;
-    }
-    for event in &events[2..] {
+/// Runs a session and counts what each of its events meets.
+fn count_session(counts: &mut Counts, events: &[Event], mut replay: Replay) {
+    let mut stopped = BTreeMap::new();
+    for event in events {
         let before = replay.exporter.clone();
         let outcome = replay.event(event.kind, event.server, &event.body);
-        if outcome.answer == 0 {
-            let step = Step { event, before: &before, after: &replay.exporter, outcome: &outcome };
-            for (name, _) in SITUATIONS.iter().filter(|(_, holds)| holds(&step)) {
-                *counts.entry(name).or_default() += 1;
-            }
+        let step = Step { event, before: &before, after: &replay.exporter, outcome: &outcome, stopped: &stopped };
+        for (name, _) in SITUATIONS.iter().filter(|(_, holds)| holds(&step)) {
+            *counts.entry(name).or_default() += 1;
+        }
+        if step.receives(START) {
+            stopped.remove(&event.server);
+        } else if step.receives(STOP) {
+            stopped.insert(event.server, before.state(event.server));
         }
     }
 }
 
-/// An accepted event with the exporter before and after it.
+/// An event with the exporter before and after it.
 struct Step<'a> {
     event: &'a Event,
     before: &'a Exporter,
     after: &'a Exporter,
     outcome: &'a Outcome,
+    /// The servers that have not started since their last STOP, with their states before it.
+    stopped: &'a BTreeMap<u8, ServerState>,
 }
 
 impl Step<'_> {
+    /// An accepted event of that kind.
     fn is(&self, kind: u8) -> bool {
-        self.event.kind == kind
+        self.event.kind == kind && self.outcome.answer == DONE
     }
 
-    /// A message of that number.
+    /// An accepted message of that number.
     fn receives(&self, number: u8) -> bool {
         self.is(MESSAGE) && self.event.body[1] == number
+    }
+
+    /// A message of that number that is out of turn.
+    fn refuses(&self, number: u8) -> bool {
+        self.event.kind == MESSAGE && self.outcome.answer == OUT_OF_TURN && self.event.body[1] == number
     }
 
     /// The state of the event's server before it.
     fn sender(&self) -> ServerState {
         self.before.state(self.event.server)
+    }
+
+    /// A server other than the event's is in that state before it.
+    fn another(&self, state: ServerState) -> bool {
+        let servers = 0..self.before.settings.servers;
+        servers.into_iter().any(|server| server != self.event.server && self.before.state(server) == state)
+    }
+
+    /// An accepted STOP from a server in that state.
+    fn stops(&self, state: ServerState) -> bool {
+        self.receives(STOP) && self.sender() == state
     }
 
     fn releases(&self) -> usize {
@@ -93,12 +118,25 @@ impl Step<'_> {
     fn late(&self, exporter: &Exporter) -> usize {
         (0..exporter.settings.servers).filter(|server| exporter.state(*server) == ServerState::Late).count()
     }
+
+    /// A tick with an active server: reached, threshold and server count.
+    fn tick_counts(&self) -> Option<(usize, usize, usize)> {
+        let settings = &self.before.settings;
+        let counts = (self.before.reached, usize::from(settings.threshold), usize::from(settings.servers));
+        (self.is(TICK) && self.before.active.is_some()).then_some(counts)
+    }
+
+    /// A put that is refused for this store and would be taken by the largest.
+    fn fills_a_small_store(&self) -> bool {
+        let octets = self.before.held_octets() + self.event.body.len().saturating_sub(2);
+        self.event.kind == PUT && self.outcome.answer == STORE_FULL && octets <= LARGEST_STORE
+    }
 }
 
 /// A situation: its name, and whether a step is in it.
 type Situation = (&'static str, fn(&Step) -> bool);
 
-const SITUATIONS: [Situation; 24] = [
+const SITUATIONS: [Situation; 36] = [
     ("a first DATA without D", |step| step.is(NEXT) && step.flags() == 1),
     ("a first DATA with D", |step| step.is(NEXT) && step.flags() == 3),
     ("a later DATA with D", |step| step.is(NEXT) && step.flags() == 2),
@@ -113,9 +151,13 @@ const SITUATIONS: [Situation; 24] = [
         step.releases() > 0 && step.before.first_held_dsn() > step.after.first_held_dsn()
     }),
     ("an acknowledgement beyond sent", |step| step.releases() > step.before.sent),
-    ("an acknowledgement that asks again", |step| step.receives(0x21) && step.releases() == 0 && step.before.sent > 0),
-    ("the same with the timer running", |step| step.receives(0x21) && step.releases() == 0 && step.before.timer > 0),
-    ("an acknowledgement of an empty queue", |step| step.receives(0x21) && step.before.queue.is_empty()),
+    ("an acknowledgement that asks again", |step| {
+        step.receives(DATA_ACK) && step.releases() == 0 && step.before.sent > 0
+    }),
+    ("the same with the timer running", |step| {
+        step.receives(DATA_ACK) && step.releases() == 0 && step.before.timer > 0
+    }),
+    ("an acknowledgement of an empty queue", |step| step.receives(DATA_ACK) && step.before.queue.is_empty()),
     ("a release with the timer running", |step| step.releases() > 0 && step.before.timer > 0),
     ("a server turns late", |step| step.is(TICK) && step.late(step.after) > step.late(step.before)),
     ("a resend by the timer", |step| {
@@ -125,14 +167,38 @@ const SITUATIONS: [Situation; 24] = [
         let threshold = usize::from(step.before.settings.threshold);
         step.is(TICK) && step.before.sent < threshold && step.before.reached >= threshold
     }),
-    ("a late server starts", |step| step.receives(0x01) && step.sender() == ServerState::Late),
-    ("the active server starts anew", |step| step.receives(0x01) && step.before.active == Some(step.event.server)),
-    ("a late server negotiates", |step| step.receives(0x18) && step.sender() == ServerState::Late),
+    ("a late server starts", |step| step.receives(START) && step.sender() == ServerState::Late),
+    ("the active server starts anew", |step| step.receives(START) && step.before.active == Some(step.event.server)),
+    ("a late server negotiates", |step| step.receives(START_NEGOTIATE) && step.sender() == ServerState::Late),
     ("a negotiation with closed servers", |step| {
-        step.receives(0x18)
+        step.receives(START_NEGOTIATE)
             && step.before.states[..usize::from(step.before.settings.servers)].contains(&ServerState::Closed)
     }),
     ("a takeover by priority", |step| {
-        step.receives(0x13) && step.before.active.is_some() && step.after.active != step.before.active
+        step.receives(FINAL_TMPL_DATA_ACK) && step.before.active.is_some() && step.after.active != step.before.active
     }),
+    ("STOP from a closed server", |step| step.stops(ServerState::Closed)),
+    ("STOP from a started server", |step| step.stops(ServerState::Started)),
+    ("STOP from an offered server", |step| step.stops(ServerState::Offered)),
+    ("STOP from an agreed server", |step| step.stops(ServerState::Agreed)),
+    ("STOP from a late server", |step| step.stops(ServerState::Late)),
+    ("a server that was late starts after STOP", |step| {
+        step.receives(START) && step.stopped.get(&step.event.server) == Some(&ServerState::Late)
+    }),
+    ("a negotiation while another server is late", |step| {
+        step.receives(START_NEGOTIATE) && step.another(ServerState::Late)
+    }),
+    ("a late server agrees out of turn", |step| {
+        step.refuses(FINAL_TMPL_DATA_ACK) && step.sender() == ServerState::Late
+    }),
+    ("a tick with reached from the threshold on, below the server count", |step| {
+        step.tick_counts().is_some_and(|(reached, threshold, servers)| threshold <= reached && reached < servers)
+    }),
+    ("a tick with reached from the server count on, below the threshold", |step| {
+        step.tick_counts().is_some_and(|(reached, threshold, servers)| servers <= reached && reached < threshold)
+    }),
+    ("an acknowledgement of all reached beyond sent", |step| {
+        step.releases() > step.before.sent && step.releases() == step.before.reached
+    }),
+    ("a record that only a larger store takes", |step| step.fills_a_small_store()),
 ];

@@ -1,13 +1,15 @@
 //! The arguments of each function, made up: each starts from a valid one, and most have one thing damaged.
 
+use super::whole::{Piece, Whole};
 use super::Input;
 use crate::generate::{records, tables};
 use crate::library::{NEGATIVE, NUMBER, OCTETS};
 use crate::messages::{self, MessageParts};
+use crate::model::answer::{OUTPUT_TOO_SHORT, RECORD_INVALID};
 use crate::model::walk::{self, Cursor, Step};
 use crate::random::Random;
 use crate::tables::{
-    field_type, Table, Template, BOOLEAN, FIELD_TYPES, IPV4, IPV6, MAX_KEYS, MAX_TEMPLATES, STRING, ZERO_STRING,
+    field_type, Table, Template, BLOB, BOOLEAN, FIELD_TYPES, IPV4, IPV6, MAX_KEYS, MAX_TEMPLATES, STRING, ZERO_STRING,
 };
 
 /// A sound table: mostly small, now and then as large as can be.
@@ -54,11 +56,20 @@ fn flipped(random: &mut Random, mut octets: Vec<u8>) -> Vec<u8> {
 fn table_and_record(random: &mut Random) -> (Vec<u8>, u16, Vec<u8>) {
     let table = sound_table(random);
     let template = random.pick(&table.templates).clone();
-    let wanted = if random.once_in(30) { random.below(3_000) } else { random.below(80) };
+    let wanted = wanted_octets(random);
     let record = record_of(random, &template, wanted);
     let id = if random.once_in(12) { template.id ^ (1 << random.below(16)) } else { template.id };
     let octets = if random.once_in(12) { damaged_table(random, table) } else { table.octets() };
     (octets, id, record)
+}
+
+/// About how many octets a record shall have: mostly few.
+fn wanted_octets(random: &mut Random) -> usize {
+    if random.once_in(30) {
+        random.below(3_000)
+    } else {
+        random.below(80)
+    }
 }
 
 fn record_of(random: &mut Random, template: &Template, wanted: usize) -> Vec<u8> {
@@ -178,9 +189,8 @@ pub fn step(random: &mut Random) -> Input {
 pub fn append(random: &mut Random) -> Input {
     let kind =
         if random.once_in(16) { *random.pick(&tables::UNLISTED_TYPES) } else { random.pick(&FIELD_TYPES).number };
-    let takes_octets = matches!(kind, IPV4 | IPV6) || field_type(kind).is_none_or(|kind| kind.width.is_none());
-    let signed = (0x0003..=0x0009).contains(&kind) && kind % 2 == 1;
-    let natural = if takes_octets { OCTETS } else { *random.pick(&[NUMBER, if signed { NEGATIVE } else { NUMBER }]) };
+    let below_0 = if is_signed(kind) { NEGATIVE } else { NUMBER };
+    let natural = if takes_octets(kind) { OCTETS } else { *random.pick(&[NUMBER, below_0]) };
     let sort = if random.once_in(10) { *random.pick(&[OCTETS, NUMBER, NEGATIVE, 3, 255]) } else { natural };
     let number = number_near(random, kind);
     let octets = octets_near(random, kind);
@@ -194,6 +204,16 @@ pub fn append(random: &mut Random) -> Input {
         _ => before,
     };
     Input::Append { kind, sort, number, octets, out, at }
+}
+
+/// Values of the type are octets: addresses, strings and blobs; also types that are not listed.
+fn takes_octets(kind: u16) -> bool {
+    matches!(kind, IPV4 | IPV6) || field_type(kind).is_none_or(|kind| kind.width.is_none())
+}
+
+/// The type is a signed integer.
+fn is_signed(kind: u16) -> bool {
+    (0x0003..=0x0009).contains(&kind) && kind % 2 == 1
 }
 
 /// Numbers around the limits of a type's width, unsigned and signed.
@@ -236,4 +256,95 @@ fn octets_near(random: &mut Random, kind: u16) -> Vec<u8> {
         octets[place] = if kind == STRING { 128 | random.octet() } else { 0 };
     }
     octets
+}
+
+/// A whole record: mostly one that is taken; else the output ends one octet too early, or one value is not of its type.
+pub fn whole(random: &mut Random) -> Input {
+    let table = sound_table(random);
+    let template = random.pick(&table.templates).clone();
+    let mut pieces = pieces(random, &template);
+    let needed: usize = pieces.iter().map(|piece| piece.field.len()).sum();
+    let at = if random.once_in(3) { 0 } else { random.below(20) };
+    let mut length = at + needed + random.below(20);
+    let mut refused = None;
+    match random.below(6) {
+        0 if !pieces.is_empty() => {
+            length = at + needed - 1;
+            refused = Some((pieces.len() - 1, OUTPUT_TOO_SHORT));
+        }
+        1 if !pieces.is_empty() => {
+            let place = random.below(pieces.len());
+            spoil(random, &mut pieces[place]);
+            refused = Some((place, RECORD_INVALID));
+        }
+        2 => length = at + needed,
+        _ => {}
+    }
+    let out = random.octets(length);
+    Input::Whole(Whole { table: table.octets(), id: template.id, pieces, out, at, refused })
+}
+
+/// A value for each enabled key of a template. What append must not look at has any value.
+fn pieces(random: &mut Random, template: &Template) -> Vec<Piece> {
+    let wanted = wanted_octets(random);
+    let fields = records::fields(random, template, wanted);
+    let enabled = template.keys.iter().enumerate().filter(|(_, key)| !key.disabled).map(|(place, _)| place);
+    let mut pieces = Vec::new();
+    for ((kind, field), key) in fields.into_iter().zip(enabled) {
+        let (mut sort, mut number, mut octets) = (OCTETS, random.number(), random.octets(3));
+        if takes_octets(kind) {
+            octets = content_of(kind, &field).to_vec();
+        } else {
+            (sort, number) = number_of(kind, &field);
+        }
+        pieces.push(Piece { kind, sort, number, octets, key, field });
+    }
+    pieces
+}
+
+/// The octets of a field without its length or its zero.
+fn content_of(kind: u16, field: &[u8]) -> &[u8] {
+    match kind {
+        STRING | BLOB => &field[4..],
+        ZERO_STRING => &field[..field.len() - 1],
+        _ => field,
+    }
+}
+
+/// The number that a field holds, in the form that append takes.
+fn number_of(kind: u16, field: &[u8]) -> (u8, u64) {
+    let (sort, filling) = if is_signed(kind) && field[0] >= 128 { (NEGATIVE, 255) } else { (NUMBER, 0) };
+    let mut whole = [filling; 8];
+    whole[8 - field.len()..].copy_from_slice(field);
+    let number = u64::from_be_bytes(whole);
+    (sort, if sort == NEGATIVE { number.wrapping_neg() } else { number })
+}
+
+/// Makes a value one that is not of its type: of the other sort, with an octet that the type does not take, or past a
+/// limit.
+fn spoil(random: &mut Random, piece: &mut Piece) {
+    let place = random.below(piece.octets.len() + 1);
+    match piece.kind {
+        _ if !takes_octets(piece.kind) && random.once_in(4) => piece.sort = OCTETS,
+        _ if takes_octets(piece.kind) && random.once_in(4) => piece.sort = *random.pick(&[NUMBER, NEGATIVE]),
+        BLOB => piece.sort = NUMBER,
+        STRING => piece.octets.insert(place, 128 | random.octet()),
+        ZERO_STRING => piece.octets.insert(place, 0),
+        IPV4 | IPV6 if random.once_in(2) => drop(piece.octets.pop()),
+        IPV4 | IPV6 => piece.octets.push(random.octet()),
+        kind => (piece.sort, piece.number) = past_a_limit(random, kind),
+    }
+}
+
+/// The first number above those of a type, or the first below them.
+fn past_a_limit(random: &mut Random, kind: u16) -> (u8, u64) {
+    let bits = field_type(kind).and_then(|kind| kind.width).map_or(0, |width| 8 * width as u32);
+    let above = random.once_in(2);
+    match kind {
+        BOOLEAN if above => (NUMBER, 2),
+        _ if is_signed(kind) && above => (NUMBER, 1 << (bits - 1)),
+        _ if is_signed(kind) => (NEGATIVE, (1 << (bits - 1)) + 1),
+        _ if above && bits < 64 => (NUMBER, 1 << bits),
+        _ => (NEGATIVE, 1),
+    }
 }

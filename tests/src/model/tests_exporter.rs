@@ -504,3 +504,166 @@ fn ring_wraps_around_the_end_of_the_store() {
     assert_eq!(bench.ack(0, 1), 0);
     assert_eq!(bench.exporter.ring_start, 16);
 }
+
+/// The server states, in the order of the columns below.
+const STATES: [ServerState; 5] =
+    [ServerState::Closed, ServerState::Started, ServerState::Offered, ServerState::Agreed, ServerState::Late];
+
+/// The state of an initial; `-` is none.
+fn state_of(initial: char) -> Option<ServerState> {
+    "CSOAL".find(initial).map(|place| STATES[place])
+}
+
+/// What a call does to the servers.
+struct ServerRule {
+    name: &'static str,
+    call: fn(&mut Bench, u8) -> Reply,
+    /// The server's next state by its state: closed, started, offered, agreed, late; `-` is a refusal with 9.
+    own: &'static str,
+    /// The next state of every other server by its state.
+    other: &'static str,
+    /// What an accepted call writes.
+    written: &'static str,
+}
+
+/// The rules about servers, one line for each call.
+const SERVER_RULES: [ServerRule; 6] = [
+    ServerRule {
+        name: "START",
+        call: Bench::start,
+        own: "SSSSS",
+        other: "CSOAL",
+        written: "01020700 0000000c 00000e10",
+    },
+    ServerRule { name: "STOP", call: Bench::stop, own: "CCCCC", other: "CSOAL", written: "01040700 00000008" },
+    ServerRule { name: "line down", call: Bench::down, own: "CCCCC", other: "CSOAL", written: "" },
+    ServerRule {
+        name: "offer",
+        call: Bench::offer,
+        own: "-OO--",
+        other: "CSOAL",
+        written: "01100700 0000003c 01010002
+            0004 0001 0000 0000 00000018 00000000 4015 0000 00000000
+            0005 0001 0000 0000 00000018 00000000 0001 0000 00000001",
+    },
+    ServerRule { name: "FINAL TMPL DATA ACK", call: Bench::final_ack, own: "--A--", other: "CSOAL", written: "" },
+    ServerRule {
+        name: "START NEGOTIATE",
+        call: Bench::negotiate,
+        own: "-SSSS",
+        other: "CSSSS",
+        written: "01190700 00000008",
+    },
+];
+
+/// The active server's next state when its timer runs out, by the other's state.
+const TIME_UP: &str = "AAALA";
+
+/// The priorities of two servers, and which of them is active if both are agreed.
+const CHOICES: [([u8; 2], u8); 4] = [([5, 5], 0), ([4, 5], 1), ([5, 4], 0), ([0, 255], 1)];
+
+/// Two servers, one that a call concerns and another, before or after the call.
+#[derive(Clone, Copy, Debug, PartialEq, Eq)]
+struct Pair {
+    own: u8,
+    own_state: ServerState,
+    other_state: ServerState,
+    /// Which of the two is active if both are agreed.
+    of_both: u8,
+}
+
+impl Pair {
+    /// The active server: the agreed one, none if none is.
+    fn active(&self) -> Option<u8> {
+        match (self.own_state == ServerState::Agreed, self.other_state == ServerState::Agreed) {
+            (false, false) => None,
+            (true, false) => Some(self.own),
+            (false, true) => Some(1 - self.own),
+            (true, true) => Some(self.of_both),
+        }
+    }
+
+    /// An exporter with these servers and three records. An active server was sent two of them, and its timer runs out
+    /// at the next tick.
+    fn bench(&self, priorities: [u8; 2]) -> Bench {
+        let mut bench = Bench::new(settings(&priorities), 1_024);
+        bench.exporter.states[usize::from(self.own)] = self.own_state;
+        bench.exporter.states[usize::from(1 - self.own)] = self.other_state;
+        bench.exporter.active = self.active();
+        for _ in 0..3 {
+            assert_eq!(bench.put(&blob(5, 1)), 0, "{self:?}");
+        }
+        if self.active().is_some() {
+            assert_eq!((bench.next_flags(), bench.next_flags(), bench.exporter.tick()), ((1, 0), (0, 1), 0));
+        }
+        bench
+    }
+
+    /// The exporter has these servers; its counters are those before if the choice is the same, else 0.
+    fn assert_after(&self, before: &Exporter, after: &Exporter, rule: &str) {
+        let states = [after.state(self.own), after.state(1 - self.own)];
+        assert_eq!((states, after.active), ([self.own_state, self.other_state], self.active()), "{rule}: {self:?}");
+        let same = before.active == after.active;
+        let counters = |exporter: &Exporter| (exporter.sent, exporter.reached, exporter.timer, exporter.s_due);
+        assert_eq!(counters(after), if same { counters(before) } else { (0, 0, 0, true) }, "{rule}: {self:?}");
+        assert_eq!((after.queue.len(), after.next_dsn), (3, 3), "{rule}: {self:?}");
+    }
+}
+
+/// Every pair of servers with its priorities.
+fn pairs() -> Vec<([u8; 2], Pair)> {
+    let mut pairs = Vec::new();
+    for (priorities, of_both) in CHOICES {
+        for own_state in STATES {
+            for other_state in STATES {
+                pairs.extend([0, 1].map(|own| (priorities, Pair { own, own_state, other_state, of_both })));
+            }
+        }
+    }
+    pairs
+}
+
+/// What stands in a row under a state.
+fn under(row: &str, state: ServerState) -> Option<ServerState> {
+    let place = STATES.iter().position(|column| *column == state)?;
+    row.chars().nth(place).and_then(state_of)
+}
+
+#[test]
+fn table_of_the_rules_about_servers() {
+    for rule in &SERVER_RULES {
+        for (priorities, pair) in pairs() {
+            let mut bench = pair.bench(priorities);
+            bench.out = vec![0xee; 64];
+            let before = bench.exporter.clone();
+            let reply = (rule.call)(&mut bench, pair.own);
+            let (mut expected, mut out) = (refused(9), vec![0xee; 64]);
+            match (under(rule.own, pair.own_state), under(rule.other, pair.other_state)) {
+                (Some(own_state), Some(other_state)) => {
+                    let written = hex(rule.written);
+                    out[..written.len()].copy_from_slice(&written);
+                    expected = done(written.len());
+                    Pair { own_state, other_state, ..pair }.assert_after(&before, &bench.exporter, rule.name);
+                }
+                _ => assert_eq!(bench.exporter, before, "{}: {pair:?}", rule.name),
+            }
+            assert_eq!((reply, &bench.out), (expected, &out), "{}: {pair:?}", rule.name);
+        }
+    }
+}
+
+#[test]
+fn table_of_a_timer_that_runs_out() {
+    let mut states = BTreeSet::new();
+    for (priorities, pair) in pairs().into_iter().filter(|(_, pair)| pair.active() == Some(pair.own)) {
+        let mut bench = pair.bench(priorities);
+        let mut before = bench.exporter.clone();
+        assert_eq!((before.sent, before.reached, before.timer, bench.exporter.tick()), (2, 2, 1, 0), "{pair:?}");
+        // without another agreed server all is sent again
+        (before.sent, before.timer) = (0, 0);
+        let own_state = under(TIME_UP, pair.other_state).expect("a state");
+        Pair { own_state, ..pair }.assert_after(&before, &bench.exporter, "a timer that runs out");
+        states.insert(format!("{:?}", pair.other_state));
+    }
+    assert_eq!(states.len(), STATES.len());
+}

@@ -119,6 +119,11 @@ impl Bench {
         self.receive(server, &octets_of(&Message::Stop { session: 7 }))
     }
 
+    /// Line down, which writes nothing.
+    pub fn down(&mut self, server: u8) -> Reply {
+        Reply { answer: self.exporter.line_down(server), written: 0 }
+    }
+
     pub fn negotiate(&mut self, server: u8) -> Reply {
         self.receive(server, &octets_of(&Message::StartNegotiate { session: 7 }))
     }

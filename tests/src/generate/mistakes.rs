@@ -1,0 +1,222 @@
+//! A test that the tapes of a default run tell programs with one mistake from the right one.
+
+use super::situations::sessions;
+use crate::messages::{DATA_ACK, FINAL_TMPL_DATA_ACK, START, START_NEGOTIATE, STOP};
+use crate::model::answer::{DONE, DSN_NOT_ACKNOWLEDGEABLE};
+use crate::model::exporter::{Exporter, ServerState, LARGEST_STORE};
+use crate::model::replay::{Outcome, Replay};
+use crate::tape::{Event, MESSAGE, NEXT, TICK};
+use std::collections::BTreeSet;
+
+/// How many tapes must tell each mistake.
+const LEAST: usize = 20;
+
+/// A program with a mistake while it runs: a replay, and the servers that the mistake remembers.
+struct Program {
+    replay: Replay,
+    marked: BTreeSet<u8>,
+}
+
+/// A mistake: what the program does at first that the right one does not, and how it answers an event.
+struct Mistake {
+    name: &'static str,
+    begin: fn(&mut Replay),
+    event: fn(&mut Program, &Event) -> Outcome,
+}
+
+/// A mistake that has no part in the set-up.
+const fn mistake(name: &'static str, event: fn(&mut Program, &Event) -> Outcome) -> Mistake {
+    Mistake { name, begin: |_| {}, event }
+}
+
+const MISTAKES: [Mistake; 17] = [
+    mistake("STOP starts a closed server", |program, event| program.stop_from(ServerState::Closed, event)),
+    mistake("STOP leaves a started server started", |program, event| program.stop_from(ServerState::Started, event)),
+    mistake("STOP starts an offered server", |program, event| program.stop_from(ServerState::Offered, event)),
+    mistake("STOP starts an agreed server", |program, event| program.stop_from(ServerState::Agreed, event)),
+    mistake("STOP starts a late server", |program, event| program.stop_from(ServerState::Late, event)),
+    mistake("a late server that stops and starts is late again", Program::late_again),
+    mistake("START leaves a late server late", Program::start_of_the_late),
+    mistake("START NEGOTIATE leaves other servers late", Program::negotiation_beside_the_late),
+    mistake("FINAL TMPL DATA ACK is taken from a late server", Program::agreement_of_the_late),
+    Mistake { name: "the threshold is the server count", begin: threshold_of_servers, event: Program::right },
+    Mistake { name: "every store has 65,536 octets", begin: largest_store, event: Program::right },
+    mistake("an acknowledgement is tested against sent", Program::acknowledgement_of_sent),
+    mistake("DSNs are compared as plain numbers", Program::plain_numbers),
+    mistake("D is set on a resend to the same server", Program::d_on_resends),
+    mistake("what was sent is dropped at failover", Program::drop_at_failover),
+    mistake("a late server is active again at once", Program::straight_back),
+    mistake("a timer that runs out leaves the active server agreed", Program::never_late),
+];
+
+fn threshold_of_servers(replay: &mut Replay) {
+    replay.exporter.settings.threshold = replay.exporter.settings.servers;
+}
+
+fn largest_store(replay: &mut Replay) {
+    replay.exporter.store_length = LARGEST_STORE;
+    replay.store.resize(LARGEST_STORE, 0);
+}
+
+impl Program {
+    fn right(&mut self, event: &Event) -> Outcome {
+        self.replay.event(event.kind, event.server, &event.body)
+    }
+
+    /// Takes an event, and if it is an accepted message of that number, changes the state by the one before.
+    fn after(&mut self, number: u8, event: &Event, change: impl FnOnce(&mut Program, &Exporter)) -> Outcome {
+        let before = self.replay.exporter.clone();
+        let outcome = self.right(event);
+        if event.kind == MESSAGE && outcome.answer == DONE && event.body[1] == number {
+            change(self, &before);
+        }
+        outcome
+    }
+
+    fn set_state(&mut self, server: u8, state: ServerState) {
+        self.replay.exporter.states[usize::from(server)] = state;
+    }
+
+    fn stop_from(&mut self, state: ServerState, event: &Event) -> Outcome {
+        self.after(STOP, event, |program, before| {
+            if before.state(event.server) == state {
+                program.set_state(event.server, ServerState::Started);
+            }
+        })
+    }
+
+    fn start_of_the_late(&mut self, event: &Event) -> Outcome {
+        self.after(START, event, |program, before| {
+            if before.state(event.server) == ServerState::Late {
+                program.set_state(event.server, ServerState::Late);
+            }
+        })
+    }
+
+    fn late_again(&mut self, event: &Event) -> Outcome {
+        let was_late = self.replay.exporter.state(event.server) == ServerState::Late;
+        let outcome = self.after(START, event, |program, _| {
+            if program.marked.remove(&event.server) {
+                program.set_state(event.server, ServerState::Late);
+            }
+        });
+        let stops = event.kind == MESSAGE && outcome.answer == DONE && event.body[1] == STOP;
+        if stops && was_late {
+            self.marked.insert(event.server);
+        }
+        outcome
+    }
+
+    fn negotiation_beside_the_late(&mut self, event: &Event) -> Outcome {
+        self.after(START_NEGOTIATE, event, |program, before| {
+            for server in (0..before.settings.servers).filter(|server| *server != event.server) {
+                if before.state(server) == ServerState::Late {
+                    program.set_state(server, ServerState::Late);
+                }
+            }
+        })
+    }
+
+    fn agreement_of_the_late(&mut self, event: &Event) -> Outcome {
+        let late = self.replay.exporter.state(event.server) == ServerState::Late;
+        if !late || event.kind != MESSAGE || event.body.get(1) != Some(&FINAL_TMPL_DATA_ACK) {
+            return self.right(event);
+        }
+        self.set_state(event.server, ServerState::Offered);
+        let outcome = self.right(event);
+        if outcome.answer != DONE {
+            self.set_state(event.server, ServerState::Late);
+        }
+        outcome
+    }
+
+    /// A DATA ACK that the right program takes is refused where the DSN and the exporter are so.
+    fn refused_ack(&mut self, event: &Event, is_refused: fn(&Exporter, u32) -> bool) -> Outcome {
+        let before = self.replay.clone();
+        let outcome = self.right(event);
+        if event.kind != MESSAGE || outcome.answer != DONE || event.body[1] != DATA_ACK {
+            return outcome;
+        }
+        let dsn = u32::from_be_bytes([event.body[8], event.body[9], event.body[10], event.body[11]]);
+        if !is_refused(&before.exporter, dsn) {
+            return outcome;
+        }
+        self.replay = before;
+        Outcome { answer: DSN_NOT_ACKNOWLEDGEABLE, written: Vec::new() }
+    }
+
+    fn acknowledgement_of_sent(&mut self, event: &Event) -> Outcome {
+        self.refused_ack(event, |before, dsn| before.acknowledged_count(dsn) as usize > before.sent)
+    }
+
+    fn plain_numbers(&mut self, event: &Event) -> Outcome {
+        self.refused_ack(event, |before, dsn| u64::from(dsn) + 1 < u64::from(before.first_held_dsn()))
+    }
+
+    fn d_on_resends(&mut self, event: &Event) -> Outcome {
+        let resends = self.replay.exporter.sent < self.replay.exporter.reached;
+        let mut outcome = self.right(event);
+        if resends && event.kind == NEXT && outcome.answer == DONE {
+            outcome.written[11] |= 2;
+        }
+        outcome
+    }
+
+    /// Takes an event, and if it is a tick by which a server turns late, changes the state by the one before and the
+    /// server.
+    fn at_failover(&mut self, event: &Event, change: fn(&mut Exporter, &Exporter, u8)) -> Outcome {
+        let before = self.replay.exporter.clone();
+        let outcome = self.right(event);
+        match before.active {
+            Some(server) if event.kind == TICK && self.replay.exporter.state(server) == ServerState::Late => {
+                change(&mut self.replay.exporter, &before, server);
+            }
+            _ => {}
+        }
+        outcome
+    }
+
+    fn drop_at_failover(&mut self, event: &Event) -> Outcome {
+        self.at_failover(event, |exporter, before, _| {
+            let dropped: usize = exporter.queue.drain(..before.sent).map(|held| held.length).sum();
+            exporter.ring_start = (exporter.ring_start + dropped) % exporter.store_length;
+        })
+    }
+
+    /// The server turns late, and is agreed again before the next call.
+    fn straight_back(&mut self, event: &Event) -> Outcome {
+        self.at_failover(event, |exporter, _, server| {
+            exporter.states[usize::from(server)] = ServerState::Agreed;
+            exporter.active = exporter.choose();
+        })
+    }
+
+    fn never_late(&mut self, event: &Event) -> Outcome {
+        self.at_failover(event, |exporter, before, _| {
+            *exporter = Exporter { sent: 0, timer: 0, ..before.clone() };
+        })
+    }
+}
+
+/// Some event of a session is answered otherwise by the program with the mistake.
+fn tells(mistake: &Mistake, events: &[Event], replay: &Replay, right: &[Outcome]) -> bool {
+    let mut program = Program { replay: replay.clone(), marked: BTreeSet::new() };
+    (mistake.begin)(&mut program.replay);
+    events.iter().zip(right).any(|(event, outcome)| (mistake.event)(&mut program, event) != *outcome)
+}
+
+#[test]
+fn every_mistake_is_told() {
+    let mut counts = [0; MISTAKES.len()];
+    for (events, replay) in sessions() {
+        let mut right = Program { replay: replay.clone(), marked: BTreeSet::new() };
+        let outcomes: Vec<Outcome> = events.iter().map(|event| right.right(event)).collect();
+        for (count, mistake) in counts.iter_mut().zip(&MISTAKES).filter(|(count, _)| **count < LEAST) {
+            *count += usize::from(tells(mistake, &events, &replay, &outcomes));
+        }
+    }
+    for (count, mistake) in counts.iter().zip(&MISTAKES) {
+        println!("{}: {count}", mistake.name);
+        assert!(*count >= LEAST, "'{}' was told by {count} tapes", mistake.name);
+    }
+}
