@@ -5,7 +5,6 @@ use mathlib.Core.List.{[]}
 use Rattle.tables.proofs.Tables.{found, found-within, not-found}
 use Rattle.records.specs.Walk.{stepOf}
 use Rattle.records.proofs.Integers.{stepped}
-use Rattle.records.specs.declared.walk.Step.the-variants as step
 use borrow.Author.Needs.{needs}
 use Rattle.records.proofs.walk.step_walk.Statement.{statement}
 use Rattle.records.proofs.walk.step_walk.Tie as tie
