@@ -116,11 +116,12 @@ settle-choice p d = go (sameActive (chosen p d) (d .active)) refl
     go true e = sym (same-active (chosen p d) (d .active) e)
     go false e = refl
 
--- where every server is closed nobody is chosen
+-- where every server is closed, each one is
+pub each-closed : (m u : ℕ) → phaseAt (replicate m (server Closed)) u ≡ Closed
+each-closed zero u = refl
+each-closed (suc m) zero = refl
+each-closed (suc m) (suc u) = each-closed m u
+
+-- and nobody is chosen
 pub all-closed : (priorities : List ℕ) (m n : ℕ) → choose priorities (replicate m (server Closed)) n ≡ Nobody
-all-closed priorities m n = nobody-none priorities (replicate m (server Closed)) n (λ u l. ap (λ (x : serverOf.Server). isAgreed (x .phase)) (closed m u))
-  where
-    closed : (m n : ℕ) → getD (replicate m (server Closed)) n (server Closed) ≡ server Closed
-    closed zero n = refl
-    closed (suc m) zero = refl
-    closed (suc m) (suc n) = closed m n
+all-closed priorities m n = nobody-none priorities (replicate m (server Closed)) n (λ u l. ap isAgreed (each-closed m u))

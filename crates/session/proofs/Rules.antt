@@ -6,7 +6,7 @@ use mathlib.Core.Bool.{Bool, true, false}
 use mathlib.Core.List.{List, [], _∷_, map}
 use Prim.Native.Nat.{ℕ, zero, suc}
 use native.Mathlib.Omega.{arith}
-use lib.ListN.{set, replicate}
+use lib.ListN.{set}
 use lib.Seq.{getD-set-other}
 use Rattle.octets.specs.Answers.{done, settingsOutsideLimits}
 use Rattle.octets.specs.Numbers.{numberOf, uintAt, octetsOf}
@@ -24,6 +24,7 @@ use Rattle.session.specs.Rules.{otherAfter, OthersHold, Fresh, FreshHold
 use Rattle.session.specs.declared.state.Phase.{Phase}
 use Rattle.session.specs.declared.state.Phase.the-variants.{Closed, Started, Offered, Agreed, Late}
 use Rattle.session.specs.declared.state.Server as serverOf
+use Rattle.session.proofs.Choice.{each-closed}
 
 -- the phase of a server in a list with another one set, and with all restarted
 set-other : (servers : List serverOf.Server) (v u : ℕ) (phase : Phase) → u ≢ v → phaseAt (set servers v (server phase)) u ≡ phaseAt servers u
@@ -51,11 +52,6 @@ others-hold v u down servers n = set-other servers v u Closed n
 others-hold v u (agree config) servers n = set-other servers v u Agreed n
 others-hold v u (malformed a) servers n = refl
 
-closed : (n u : ℕ) → phaseAt (replicate n (server Closed)) u ≡ Closed
-closed zero u = refl
-closed (suc n) zero = refl
-closed (suc n) (suc u) = closed n u
-
 fresh-holds : FreshHolds
 unfolding setUp fresh
 fresh-holds p octets e = go (settingsSound p octets) refl
@@ -68,7 +64,7 @@ fresh-holds p octets e = go (settingsSound p octets) refl
           settings = refl;
           capacity = refl;
           count = refl;
-          closed = closed maxServers;
+          closed = each-closed maxServers;
           active = refl;
           sent = refl;
           reached = refl;

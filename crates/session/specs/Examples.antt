@@ -33,9 +33,9 @@ pub data Star : Type 0 where
   -- them count as sent
   acknowledges : ℕ → ℕ → ℕ → ℕ → ℕ → ℕ → Star
 
--- Session 7 with so many servers of these priorities.
-abbrev pub settingsOf : ℕ → List ℕ → Settings
-settingsOf servers priorities =
+-- Session 7 with so many servers of these priorities, a threshold and a duration.
+abbrev pub settingsWith : ℕ → List ℕ → ℕ → ℕ → Settings
+settingsWith servers priorities threshold duration =
     record {
       session = 7;
       config = 1;
@@ -43,9 +43,13 @@ settingsOf servers priorities =
       initial = 0;
       servers = servers;
       priorities = priorities;
-      threshold = 1;
-      duration = 10;
+      threshold = threshold;
+      duration = duration;
     }
+
+-- The same with a threshold of 1 and a duration of 10.
+abbrev pub settingsOf : ℕ → List ℕ → Settings
+settingsOf servers priorities = settingsWith servers priorities 1 10
 
 -- An exporter over the smallest store that holds records of these lengths under template 3, each sent to the servers of a set.
 abbrev pub exporterOf : Settings → Delivery → ℕ → List ℕ → ℕ → ℕ → State

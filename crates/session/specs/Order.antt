@@ -12,12 +12,11 @@ use Rattle.session.specs.Limits.{maxServers, maxHeld, minStoreOctets}
 use Rattle.session.specs.Servers.{withCounts}
 use Rattle.session.specs.Steps.{withDelivery, setUp}
 use Rattle.session.specs.Claim.{Event, Put, NextData, Receive, OfferTemplates, LineDown, Tick, sessionOf32, outcome}
-use Rattle.session.specs.Examples.{aTable, alone}
+use Rattle.session.specs.Examples.{aTable, settingsWith, alone}
 use Rattle.session.specs.Rules.{pair}
 use Rattle.session.specs.declared.state.Phase.{Phase}
 use Rattle.session.specs.declared.state.Phase.the-variants.{Closed, Started, Offered, Agreed}
 use Rattle.session.specs.declared.state.State.{State}
-use Rattle.session.specs.declared.state.Settings.{Settings}
 
 -- A call in a state, with a store of so many octets.
 pub record Turn : Type 0 where
@@ -68,24 +67,11 @@ numbersWhere test (suc n) = numbersWhere test n ++ cond (test n) (n ∷ []) []
 
 -- ---- set-up
 
--- Settings of these numbers of servers, threshold and duration.
-abbrev pub settingsWith : ℕ → ℕ → ℕ → Settings
-settingsWith servers threshold duration =
-    record {
-      session = 7;
-      config = 1;
-      boot = 3600;
-      initial = 0;
-      servers = servers;
-      priorities = replicate maxServers 255;
-      threshold = threshold;
-      duration = duration;
-    }
-
 -- 20 outside the limits, and 0 at them: 1 to 8 servers, a threshold of 1 to 64, a duration of 1 to 65,535, a store of 1,024 to 65,536.
 abbrev pub SetUpLimits : Type 0
 SetUpLimits =
-    let judged : ℕ → ℕ → ℕ → ℕ → ℕ = λ servers threshold duration store. setUp (settingsWith servers threshold duration) store .answer in
+    let judged : ℕ → ℕ → ℕ → ℕ → ℕ = λ servers threshold duration store.
+    setUp (settingsWith servers (replicate maxServers 255) threshold duration) store .answer in
     (map (λ n. judged n 1 1 1024) (0 ∷ 1 ∷ 8 ∷ 9 ∷ []) ≡ 20 ∷ 0 ∷ 0 ∷ 20 ∷ [])
     × ((map (λ n. judged 1 n 1 1024) (0 ∷ 1 ∷ 64 ∷ 65 ∷ []) ≡ 20 ∷ 0 ∷ 0 ∷ 20 ∷ [])
     × ((map (λ n. judged 1 1 n 1024) (0 ∷ 1 ∷ 65535 ∷ []) ≡ 20 ∷ 0 ∷ 0 ∷ [])
