@@ -1,11 +1,8 @@
 // Putting a record into the queue.
 ghost use mathlib.Core.Path.{_≡_};
-ghost use mathlib.Core.List.{[], _∷_, _++_};
-ghost use mathlib.Core.Bool.{not, _&&_};
-ghost use lib.Dec.{eqb};
-ghost use lib.ListN.{length};
+ghost use mathlib.Core.List.{_∷_, _++_};
+ghost use mathlib.Core.Bool.{not};
 ghost use Rattle.octets.specs.Answers.{_when_, judge, unsoundState};
-ghost use Rattle.session.specs.Sound.{sound};
 ghost use Rattle.putting.specs.Puttings.{puttingOf};
 ghost use Rattle.soundness.specs.Parts.{stateOf};
 ghost use Rattle.session.specs.Steps.{putStep, steppedOf, recordChecks, roomChecks};
@@ -54,53 +51,42 @@ fn record_answer(p: Settings, table: &[u8], id: u16, r: &[u8]) -> u8
     answer
 }
 
-// 0 for a record that finds room beside n held ones, else 18 or 19.
-fn room_answer(capacity: usize, n: usize, lengths: &[u16; MAX_HELD], r: &[u8]) -> u8
-    ensures { λ a. ⌜ a ≡ judge (roomChecks capacity n (now (lengths .entry)) (now (r .entry))) ⌝ }
+// 0 for a record that finds room beside n held ones, which have `held` octets together; else 18 or 19.
+fn room_answer(capacity: usize, n: usize, held: u32, r: &[u8]) -> u8
+    ensures { λ a. ⌜ a ≡ judge (roomChecks capacity n held (now (r .entry))) ⌝ }
 {
     if MAX_HELD <= n {
         return Answer::QUEUE_FULL;
     }
-    let held = queue::octets_to(lengths, n) as usize;
-    if capacity < held + r.len() {
+    if capacity < (held as usize) + r.len() {
         return Answer::STORE_FULL;
     }
     Answer::DONE
 }
 
-// 0 for a record that can be put, by the parts of the state that soundness looks at and the length of the lent store; else the first
-// refusal of put.
-fn put_answer<'a, 'b, 'c>(
+// 0 for a record that can be put, else the first refusal of put: by whether the state is sound and the lent store of the length set, and by
+// how many octets the n held records have together.
+fn put_answer<'a, 'b>(
+    sound: bool,
     p: Settings,
     capacity: usize,
-    d: Delivery,
-    due: bool,
-    count: usize,
-    lengths: &'a [u16; MAX_HELD],
-    receivers: &'a [u16; MAX_HELD],
-    start: usize,
-    stored: usize,
-    table: &'b [u8],
+    n: usize,
+    held: u32,
+    table: &'a [u8],
     id: u16,
-    r: &'c [u8],
+    r: &'b [u8],
 ) -> u8
-    ensures { λ a. ⌜
-        (let s = stateOf p capacity d due count (now (lengths .entry)) [] (now (receivers .entry)) start 0 in
-        let form = recordChecks p (now (table .entry)) id (now (r .entry)) in
-        let room = roomChecks capacity count (now (lengths .entry)) (now (r .entry)) in
-        a ≡ judge ((unsoundState when not (sound s && eqb stored capacity)) ∷ (form ++ room))) ⌝ }
+    ensures { λ a. ⌜ a ≡ judge ((unsoundState when not sound)
+        ∷ (recordChecks p (now (table .entry)) id (now (r .entry)) ++ roomChecks capacity n held (now (r .entry)))) ⌝ }
 {
-    if !soundness::sound::parts_sound(p, capacity, d, due, count, lengths, receivers, start) {
-        return Answer::UNSOUND_STATE;
-    }
-    if stored != capacity {
+    if !sound {
         return Answer::UNSOUND_STATE;
     }
     let answer = record_answer(p, table, id, r);
     if answer != Answer::DONE {
         return answer;
     }
-    room_answer(capacity, count, lengths, r)
+    room_answer(capacity, n, held, r)
 }
 
 // What a refused put changes: nothing. The first entries stay as they are.
@@ -140,8 +126,7 @@ fn put_change<'a, 'b, 'c>(
         let o = putStep 32 s (now (store .entry)) (now (table .entry)) id (now (r .entry)) in
         (x ≡ puttingOf s id (now (r .entry)) o) × (now (store .exit) ≡ o .store)) ⌝ }
 {
-    let stored = store.len();
-    let answer = put_answer(
+    let sound = soundness::sound::parts_sound(
         p,
         capacity,
         d,
@@ -150,16 +135,14 @@ fn put_change<'a, 'b, 'c>(
         lengths,
         receivers,
         start,
-        stored,
-        table,
-        id,
-        r,
     );
+    let held = queue::octets_to(lengths, count);
+    let usable = sound & (store.len() == capacity);
+    let answer = put_answer(usable, p, capacity, count, held, table, id, r);
     if answer != Answer::DONE {
         return refuse_put(answer, count, lengths[0], templates[0], receivers[0], next);
     }
-    let at = start + (queue::octets_to(lengths, count) as usize);
-    queue::ring::ring_write(store, at, r);
+    queue::ring::ring_write(store, start + (held as usize), r);
     Putting {
         answer,
         place: count,

@@ -1,9 +1,9 @@
 -- What the ring's helpers answer, case by case: with the numbers of a sound state the definitions of `session`, outside of them nothing. Reading
--- copies one part of the store, or two where the octets reach past its end.
+-- and writing copy one part of the store, or two where the octets reach past its end.
 use mathlib.Core.Path.{_≡_, refl, sym, ap, _∙_}
 use Prim.Native.Nat.{ℕ, _+_, _-_, _%_, _≤_, _<_, min}
-use mathlib.Core.List.{List}
-use native.Mathlib.Nat.{mod-eq-of-lt, add-mod-right}
+use mathlib.Core.List.{List, [], _∷_}
+use native.Mathlib.Nat.{mod-eq-of-lt, mod-lt, add-mod-right}
 use native.Mathlib.Omega.{arith}
 use borrow.Author.Tests.{le-leb, lt-leb, le-ltb, lt-ltb, leb-true, leb-false}
 use mathlib.Core.Bool.{Bool, true, false}
@@ -13,7 +13,7 @@ use lib.Seq.{sets, length-take-le, take-all}
 use Rattle.octets.specs.Numbers.{putAt}
 use Rattle.octets.proofs.Stores.{put-fits, put-short, put-join}
 use Rattle.session.specs.Queue.{sumOf, ringPlace, ringRead, ringWrite}
-use Rattle.session.proofs.Rings.{read-length, read-near, read-far}
+use Rattle.session.proofs.Rings.{read-length, read-near, read-far, write-run, write-runs}
 use Rattle.queue.specs.Rings.{recordStart, ringStored, ringCopied}
 
 -- ---- lengths
@@ -56,14 +56,36 @@ start-far capacity start lengths i n e h k =
 
 -- ---- writing
 
-pub stored-inside : (store : List ℕ) (at : ℕ) (octets : List ℕ) → length octets ≤ length store
-    → ringStored store at octets ≡ ringWrite (length store) store at octets
-unfolding ringStored
-stored-inside store at octets h = rw (le-leb (length octets) (length store) h)
+module _ (store : List ℕ) (at : ℕ) (octets : List ℕ) where
+  pub stored-inside : length octets ≤ length store → ringStored store at octets ≡ ringWrite (length store) store at octets
+  unfolding ringStored
+  stored-inside h = rw (le-leb (length octets) (length store) h)
 
-pub stored-outside : (store : List ℕ) (at : ℕ) (octets : List ℕ) → length store < length octets → store ≡ ringStored store at octets
-unfolding ringStored
-stored-outside store at octets h = rw (lt-leb (length octets) (length store) h)
+  pub stored-outside : length store < length octets → store ≡ ringStored store at octets
+  unfolding ringStored
+  stored-outside h = rw (lt-leb (length octets) (length store) h)
+
+  -- no places, and so no octets
+  pub stored-nowhere : length octets ≤ length store → length store ≡ 0 → store ≡ ringStored store at octets
+  unfolding ringWrite
+  stored-nowhere h e = sym (stored-inside h ∙ go octets (omega arith))
+    where
+      go : (xs : List ℕ) → length xs ≤ 0 → ringWrite (length store) store at xs ≡ store
+      go [] l = refl
+      go (x ∷ xs) l = absurd (omega arith)
+
+  -- the octets do not reach past the end
+  pub stored-near : (place : ℕ) → place ≡ at % length store → 0 < length store → place + length octets ≤ length store
+      → putAt store place octets ≡ ringStored store at octets
+  stored-near place e z h =
+      write-run store place at octets h (ap (λ (k : ℕ). k % length store) e ∙ mod-eq-of-lt (mod-lt at z)) ∙ sym (stored-inside (omega arith))
+
+  -- they do: up to the end, and then the rest from the beginning on
+  pub stored-far : (place first : ℕ) → place ≡ at % length store → place + first ≡ length store → 0 < length store
+      → first ≤ length octets → length octets ≤ length store
+      → putAt (putAt store place (take first octets)) 0 (drop first octets) ≡ ringStored store at octets
+  stored-far place first e f z h k =
+      rw e (write-runs store at first octets (omega arith) z h k) ∙ sym (stored-inside k)
 
 -- ---- reading
 

@@ -46,11 +46,7 @@ pub fn record_start(capacity: usize, start: usize, lengths: &[u16; MAX_HELD], i:
     if behind < rest {
         return start + behind;
     }
-    let past = behind - rest;
-    if past < capacity {
-        return past;
-    }
-    past % capacity
+    ring::wrapped(behind - rest, capacity)
 }
 
 // How many servers the bits of a set can name.

@@ -1,18 +1,25 @@
 // Octets in the lent store, which is used as a ring.
 ghost use mathlib.Core.Path.{_≡_};
-ghost use Prim.Native.Nat.{_+_, _%_, _<_};
+ghost use Prim.Native.Nat.{_%_, _<_};
 ghost use Rattle.queue.specs.Rings.{ringStored, ringCopied};
 
-// The place behind one of a ring with this room.
-fn next_place(place: usize, room: usize) -> usize
-    requires { ⌜ place < room ⌝ }
-    ensures { λ r. ⌜ r ≡ (place + 1) % room ⌝ }
+// A place modulo the ring's length, by a comparison up to the end of a second round and by a division behind it.
+pub(crate) fn wrapped(at: usize, room: usize) -> usize
+    requires { ⌜ 0 < room ⌝ }
+    ensures { λ r. ⌜ r ≡ at % room ⌝ }
 {
-    let next = place + 1;
-    if next == room { 0 } else { next }
+    if at < room {
+        return at;
+    }
+    let past = at - room;
+    if past < room {
+        return past;
+    }
+    past % room
 }
 
-// Copies octets to the places from `at` on, modulo the store's length; nothing where there are more of them than places.
+// Copies octets to the places from `at` on, modulo the store's length: those up to its end, then the rest from its beginning. Nothing where
+// there are more of them than places.
 pub fn ring_write(store: &mut [u8], at: usize, octets: &[u8])
     ensures { λ _. ⌜ now (store .exit) ≡ ringStored (now (store .entry)) at (now (octets .entry)) ⌝ }
 {
@@ -20,16 +27,17 @@ pub fn ring_write(store: &mut [u8], at: usize, octets: &[u8])
     if room < octets.len() {
         return;
     }
-    if octets.len() == 0 {
+    if room == 0 {
         return;
     }
-    let mut place = at % room;
-    let mut i: usize = 0;
-    while i < octets.len() {
-        store[place] = octets[i];
-        place = next_place(place, room);
-        i += 1;
+    let place = wrapped(at, room);
+    let first = room - place;
+    if octets.len() <= first {
+        octets::copy(store, place, octets);
+        return;
     }
+    octets::copy(store, place, &octets[..first]);
+    octets::copy(store, 0, &octets[first..]);
 }
 
 // Copies the n octets from place `at` on, modulo the store's length, to a place of the output; nothing where `at` is no place of the store,

@@ -1,13 +1,15 @@
 -- Reading from the ring is splitting it: a octets and b octets behind them are a + b octets. So what does not reach past the end is one
--- part of the store, and what does is two. Writing one octet leaves what is left to write one shorter.
+-- part of the store, and what does is two. Writing goes likewise, in one run or in two.
 use mathlib.Core.Path.{_≡_, refl, sym, ap, _∙_}
-use mathlib.Core.List.{List, _∷_, _++_}
+use mathlib.Core.List.{List, [], _∷_, _++_}
 use Prim.Native.Nat.{ℕ, zero, suc, _+_, _-_, _%_, _≤_, _<_}
-use native.Mathlib.Nat.{add-assoc, add-zero, zero-add, add-mod-right, mod-add-mod, mod-eq-of-lt}
+use native.Mathlib.Nat.{add-zero, zero-add, add-mod-right, mod-add-mod, mod-eq-of-lt, mod-lt}
 use native.Mathlib.Numerals.{add-one}
 use native.Mathlib.Omega.{arith}
-use lib.ListN.{length, getD, take, drop, set, length-drop, drop-of-length-le}
-use lib.Seq.{drop-cons, take-all}
+use lib.ListN.{length, getD, take, drop, set, length-drop, take-append-drop}
+use lib.Seq.{drop-cons, take-all, sets, length-sets, length-take-le}
+use Rattle.octets.specs.Numbers.{putAt}
+use Rattle.octets.proofs.Stores.{put-fits}
 use Rattle.session.specs.Queue.{ringRead, ringWrite}
 
 -- ---- reading
@@ -21,13 +23,15 @@ read-join room st at (suc a) b =
     let n : suc a + b ≡ suc (a + b) = omega arith in
     rw (n, ← e) (ap (λ (l : List ℕ). getD st (at % room) 0 ∷ l) (read-join room st (at + 1) a b))
 
+-- places that are the same modulo the store's length have the same next one
+next-same : (room a b : ℕ) → a % room ≡ b % room → (a + 1) % room ≡ (b + 1) % room
+next-same room a b e = sym (mod-add-mod a room 1) ∙ ap (λ (x : ℕ). (x + 1) % room) e ∙ mod-add-mod b room 1
+
 -- only the place modulo the store's length counts
 pub read-same : (room : ℕ) (st : List ℕ) (a b n : ℕ) → a % room ≡ b % room → ringRead room st a n ≡ ringRead room st b n
 unfolding ringRead
 read-same room st a b zero e = refl
-read-same room st a b (suc n) e =
-    let k : (a + 1) % room ≡ (b + 1) % room = sym (mod-add-mod a room 1) ∙ ap (λ (x : ℕ). (x + 1) % room) e ∙ mod-add-mod b room 1 in
-    rw (e, read-same room st (a + 1) (b + 1) n k)
+read-same room st a b (suc n) e = rw (e, read-same room st (a + 1) (b + 1) n (next-same room a b e))
 
 pub read-length : (room : ℕ) (st : List ℕ) (at n : ℕ) → length (ringRead room st at n) ≡ n
 unfolding ringRead
@@ -59,21 +63,62 @@ read-far room st at n e l h k =
 
 -- ---- writing
 
--- a turn of a loop that writes octets from `at` on: what is left to write shrinks by one
-pub write-more : (room : ℕ) (st : List ℕ) (at : ℕ) (octets : List ℕ) (i : ℕ) → i < length octets
-    → ringWrite room (set st ((at + i) % room) (getD octets i 0)) (at + (i + 1)) (drop (i + 1) octets) ≡ ringWrite room st (at + i) (drop i octets)
+-- only the place modulo the store's length counts
+write-same : (room : ℕ) (st : List ℕ) (a b : ℕ) (octets : List ℕ) → a % room ≡ b % room → ringWrite room st a octets ≡ ringWrite room st b octets
 unfolding ringWrite
-write-more room st at octets i h = rw (← add-assoc at i 1, drop-cons octets i 0, add-one i)
+write-same room st a b [] e = refl
+write-same room st a b (x ∷ octets) e = rw e (write-same room (set st (b % room) x) (a + 1) (b + 1) octets (next-same room a b e))
 
--- nothing is left to write
-pub write-done : (room : ℕ) (st : List ℕ) (k : ℕ) (octets : List ℕ) (i : ℕ) → length octets ≤ i → ringWrite room st k (drop i octets) ≡ st
+-- octets, and others behind them
+write-join : (room : ℕ) (st : List ℕ) (at : ℕ) (xs ys : List ℕ)
+    → ringWrite room st at (xs ++ ys) ≡ ringWrite room (ringWrite room st at xs) (at + length xs) ys
 unfolding ringWrite
-write-done room st k octets i h = rw (drop-of-length-le octets h)
+write-join room st at [] ys = rw add-zero refl
+write-join room st at (x ∷ xs) ys =
+    let e : at + 1 + length xs ≡ at + suc (length xs) = omega arith in
+    rw (← e) (write-join room (set st (at % room) x) (at + 1) xs ys)
+
+-- octets that do not reach past the end
+write-near : (room : ℕ) (st : List ℕ) (at : ℕ) (octets : List ℕ) → at + length octets ≤ room → ringWrite room st at octets ≡ sets st at octets
+unfolding ringWrite
+write-near room st at [] h = refl
+write-near room st at (x ∷ octets) h =
+    rw (mod-eq-of-lt {n = at} {m = room} (omega arith), add-one at) (write-near room (set st at x) (suc at) octets (omega arith))
+
+-- One run: octets that from their place on do not reach past the end of the store are stored there.
+pub write-run : (st : List ℕ) (place at : ℕ) (octets : List ℕ) → place + length octets ≤ length st → place % length st ≡ at % length st
+    → putAt st place octets ≡ ringWrite (length st) st at octets
+write-run st place at octets h e =
+    put-fits st place octets h ∙ sym (write-near (length st) st place octets h) ∙ write-same (length st) st place at octets e
+
+-- Two runs: the octets up to the end of the store, then the rest from its beginning, leave the store that copying octet by octet modulo its
+-- length leaves. The first run has as many octets as there are places from `at` to the end.
+pub write-runs : (st : List ℕ) (at first : ℕ) (octets : List ℕ) → at % length st + first ≡ length st → 0 < length st
+    → first ≤ length octets → length octets ≤ length st
+    → putAt (putAt st (at % length st) (take first octets)) 0 (drop first octets) ≡ ringWrite (length st) st at octets
+write-runs st at first octets e z h k =
+    let room = length st in
+    let place = at % room in
+    let n : length (take first octets) ≡ first = length-take-le first octets h in
+    let m : place % room ≡ at % room = mod-eq-of-lt (mod-lt at z) in
+    let mid = putAt st place (take first octets) in
+    let one : mid ≡ ringWrite room st at (take first octets) = write-run st place at (take first octets) (omega arith) m in
+    let l : length mid ≡ room = ap length (put-fits st place (take first octets) (omega arith)) ∙ length-sets st place (take first octets) in
+    let b : 0 % room ≡ (at + first) % room =
+    sym (add-mod-right 0 room) ∙ ap (λ (x : ℕ). x % room) (zero-add room ∙ sym e) ∙ mod-add-mod at room first in
+    let two : putAt mid 0 (drop first octets) ≡ ringWrite room mid (at + first) (drop first octets) =
+    write-run mid 0 (at + first) (drop first octets) (omega (arith, length-drop first octets)) (rw l b)
+    ∙ ap (λ (r : ℕ). ringWrite r mid (at + first) (drop first octets)) l in
+    two
+    ∙ ap (λ (s : List ℕ). ringWrite room s (at + first) (drop first octets)) one
+    ∙ ap (λ (j : ℕ). ringWrite room (ringWrite room st at (take first octets)) (at + j) (drop first octets)) (sym n)
+    ∙ sym (write-join room st at (take first octets) (drop first octets))
+    ∙ ap (ringWrite room st at) (take-append-drop first octets)
 
 -- ---- places in the store
 
--- a place up to one store's length past the end, brought back into the store
-pub place-back : (at room : ℕ) → room ≤ at → at < room + room → at - room ≡ at % room
-place-back at room l h =
+-- a place past the end of the store, brought back by its length
+pub place-back : (at room : ℕ) → room ≤ at → (at - room) % room ≡ at % room
+place-back at room h =
     let e : at - room + room ≡ at = omega arith in
-    sym (mod-eq-of-lt {n = at - room} {m = room} (omega arith)) ∙ sym (add-mod-right (at - room) room) ∙ ap (λ (n : ℕ). n % room) e
+    sym (add-mod-right (at - room) room) ∙ ap (λ (n : ℕ). n % room) e

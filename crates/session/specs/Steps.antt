@@ -188,10 +188,10 @@ recordChecks p table id r =
     ∷ (recordInvalid when not (recordValid table (templateOf table id) r))
     ∷ []
 
--- The refusals of a record beside n held ones whose lengths are given: 18, 19.
-abbrev pub roomChecks : ℕ → ℕ → List ℕ → List ℕ → List Check
-roomChecks capacity n lengths r =
-    (queueFull when leb maxHeld n) ∷ (storeFull when ltb capacity (sumOf (take n lengths) + length r)) ∷ []
+-- The refusals of a record beside n held ones, which have `octets` octets together: 18, 19.
+abbrev pub roomChecks : ℕ → ℕ → ℕ → List ℕ → List Check
+roomChecks capacity n octets r =
+    (queueFull when leb maxHeld n) ∷ (storeFull when ltb capacity (octets + length r)) ∷ []
 
 -- The refusals of next data with n records held, after 1, that do not look at the output: 13, 14.
 abbrev pub sendChecks : Delivery → ℕ → List Check
@@ -209,7 +209,7 @@ ackChecks p d v config n =
 -- The refusals of each call in their order, after 1. `table` is the table that is lent to put and offer, `room` the output's length.
 unfoldable pub checks : ℕ → List ℕ → ℕ → Call → State → List ℕ → List Check
 checks w table room (put id r) s store =
-    recordChecks (s .settings) table id r ++ roomChecks (s .capacity) (s .queue .count) (s .queue .lengths) r
+    recordChecks (s .settings) table id r ++ roomChecks (s .capacity) (s .queue .count) (heldOctets (s .queue)) r
 checks w table room nextData s store =
     sendChecks (s .delivery) (s .queue .count)
     ++ ((outputTooShort when ltb room (length (written w table nextData s store))) ∷ [])

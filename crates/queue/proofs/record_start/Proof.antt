@@ -1,8 +1,6 @@
--- `record_start` meets its contract. The octets before the record end inside the store or reach past its end (laws `start-near`, `start-far`);
--- what reaches past it by less than a store's length is its own remainder.
-use mathlib.Core.Path.{sym, _∙_}
+-- `record_start` meets its contract. The octets before the record end inside the store or reach past its end (laws `start-near`, `start-far`).
+use mathlib.Core.Path.{_∙_}
 use native.Mathlib.Omega.{arith}
-use native.Mathlib.Nat.{mod-eq-of-lt}
 use Rattle.queue.proofs.Rings.{start-outside, start-near, start-far}
 use borrow.Author.Needs.{needs}
 use Rattle.queue.proofs.record_start.Statement.{statement}
@@ -28,19 +26,14 @@ returns-2 c =
     let z = c .before .before .before in
     start-near (z .args .capacity) (z .args .start) (z .args .lengths .now) (z .args .i) _ (c .before .octets-to .ensures) (omega arith) (c .if2 .taken)
 
+wrapped-requires : tie.Need-wrapped-requires
+wrapped-requires c κs = search needs
+
 returns-3 : tie.Need-returns-3
 returns-3 c =
     let z = c .before .before .before .before in
-    sym (mod-eq-of-lt (c .if3 .taken))
+    c .wrapped .ensures
     ∙ start-far (z .args .capacity) (z .args .start) (z .args .lengths .now) (z .args .i) _ (c .before .before .octets-to .ensures) (omega arith) (c .before .if2 .left)
-
-rem-result : tie.Need-rem-result
-rem-result c = search needs
-
-returns-4 : tie.Need-returns-4
-returns-4 c =
-    let z = c .before .before .before .before in
-    start-far (z .args .capacity) (z .args .start) (z .args .lengths .now) (z .args .i) _ (c .before .before .octets-to .ensures) (omega arith) (c .before .if2 .left)
 
 pub record-start-spec : {M : Type 1} → statement M
 record-start-spec =
@@ -52,6 +45,5 @@ record-start-spec =
     sub-rest
     add-result
     returns-2
-    returns-3
-    rem-result
-    returns-4)
+    wrapped-requires
+    returns-3)

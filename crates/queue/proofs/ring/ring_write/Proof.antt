@@ -1,91 +1,97 @@
--- `ring_write` meets its contract. The loop's invariant: what is left to write, written from here on, makes the store that all octets make,
--- and place is where the next one goes. At the end nothing is left. More octets than places, and no octets, leave the store as it was.
-use mathlib.Core.Path.{_≡_, refl, sym, _∙_}
-use Prim.Native.Nat.{_+_, _-_, _%_, _≤_}
-use native.Mathlib.Nat.{mod-lt, mod-add-mod, add-zero, add-assoc}
+-- `ring_write` meets its contract. Octets that do not reach past the end of the store are one run; others are two, up to the end and from
+-- the beginning on. More octets than places, and no places, leave the store as it was (laws `stored-..`).
+use mathlib.Core.Path.{sym, ap, _∙_}
+use mathlib.Core.List.{List}
+use Prim.Native.Nat.{ℕ, _-_, _<_}
+use native.Mathlib.Nat.{mod-lt}
 use native.Mathlib.Omega.{arith}
-use lib.ListN.{length, drop, length-set}
-use Rattle.session.specs.Queue.{ringWrite}
-use Rattle.session.proofs.Rings.{write-more, write-done}
-use Rattle.queue.proofs.Rings.{stored-inside, stored-outside}
+use lib.ListN.{length, take, drop}
+use lib.Seq.{length-take-le}
+use Rattle.octets.specs.Numbers.{putAt}
+use Rattle.octets.proofs.Stores.{take-rest}
+use Rattle.queue.proofs.Rings.{stored-outside, stored-nowhere, stored-near, stored-far}
 use borrow.Author.Needs.{needs}
 use Rattle.queue.proofs.ring.ring_write.Statement.{statement}
 use Rattle.queue.proofs.ring.ring_write.Tie as tie
 
-abbrev Inv-loop : tie.InvT-loop
-Inv-loop store₀ at octets room place₀ i₀ store place i = (i ≤ length octets) × ((length store ≡ room) × ((place ≡ (at + i) % room) × (ringWrite room store (at + i) (drop i octets) ≡ ringWrite room store₀ at octets)))
-
-abbrev μ-loop : tie.MeasureT-loop
-μ-loop store₀ at octets room place₀ i₀ store place i = length octets - i
-
-returns : tie.Need-returns Inv-loop μ-loop
+returns : tie.Need-returns
 returns c = stored-outside _ _ _ (c .if1 .taken)
 
-returns-2 : tie.Need-returns-2 Inv-loop μ-loop
-returns-2 c =
-    let a = c .before .before .before .before .args in
-    let h : length (a .octets .now) ≤ 0 = omega arith in
-    sym (stored-inside (a .store .now) (a .at) (a .octets .now) (omega arith) ∙ write-done _ (a .store .now) (a .at) (a .octets .now) 0 h)
+returns-2 : tie.Need-returns-2
+returns-2 c = stored-nowhere _ _ _ (omega arith) (c .if2 .taken)
 
-rem-place : tie.Need-rem-place Inv-loop μ-loop
-rem-place c = search needs
+wrapped-requires : tie.Need-wrapped-requires
+wrapped-requires c κs = search needs
 
-loop-holds : tie.Need-loop-holds Inv-loop μ-loop
-loop-holds c = (omega arith, (refl, (rw add-zero refl, rw add-zero refl)))
+sub-first : tie.Need-sub-first
+sub-first c =
+    let a = c .before .before .before .before .before .args in
+    omega (arith, c .wrapped .ensures, mod-lt (a .at) {m = length (a .store .now)} (omega arith))
 
-shared-slice-read-store : tie.Need-shared-slice-read-store Inv-loop μ-loop
-shared-slice-read-store c = search needs
+copy-requires : tie.Need-copy-requires
+copy-requires c κs = search needs
 
-slice-write-store : tie.Need-slice-write-store Inv-loop μ-loop
-slice-write-store c =
-    let l = c .before .before .loop in
-    let z = c .before .before .before .before .before .before .before in
-    let h = mod-lt (z .args .at + l .i) {m = length (z .args .store .now)} (omega (arith, c .before .before .before .if2 .left)) in
-    omega (arith, h, l .inv .1 .0, l .inv .1 .1 .0)
+same-length : tie.Need-same-length
+same-length c = search needs
 
-next-place-requires : tie.Need-next-place-requires Inv-loop μ-loop
-next-place-requires c κs =
-    let l = c .before .before .loop in
-    let z = c .before .before .before .before .before .before .before in
-    let h = mod-lt (z .args .at + l .i) {m = length (z .args .store .now)} (omega (arith, c .before .before .before .if2 .left)) in
-    omega (arith, h, l .inv .1 .1 .0)
-
-add-i : tie.Need-add-i Inv-loop μ-loop
-add-i c = search needs
-
-loop-less : tie.Need-loop-less Inv-loop μ-loop
-loop-less c = search needs
-
-loop-again : tie.Need-loop-again Inv-loop μ-loop
-loop-again c =
-    let l = c .before .before .before .loop in
-    let a = c .before .before .before .before .before .before .before .before .args in
-    (omega arith, (simp length-set (l .inv .1 .0), (c .next-place .ensures ∙ rw (l .inv .1 .1 .0, ← add-assoc (a .at) (l .i) 1) (mod-add-mod _ _ _), rw (l .inv .1 .1 .0) (write-more _ _ (a .at) (a .octets .now) (l .i) (omega arith) ∙ l .inv .1 .1 .1))))
-
-same-length : tie.Need-same-length Inv-loop μ-loop
-same-length c = c .before .loop .inv .1 .0
-
-returns-3 : tie.Need-returns-3 Inv-loop μ-loop
+returns-3 : tie.Need-returns-3
 returns-3 c =
-    let l = c .before .loop in
-    let a = c .before .before .before .before .before .before .args in
-    sym (write-done _ _ (a .at + l .i) (a .octets .now) (l .i) (omega arith)) ∙ l .inv .1 .1 .1 ∙ sym (stored-inside (a .store .now) (a .at) (a .octets .now) (omega arith))
+    let a = c .before .before .before .before .before .before .before .before .before .before .args in
+    let w = c .before .before .before .before .before .wrapped in
+    let m = mod-lt (a .at) {m = length (a .store .now)} (omega arith) in
+    c .before .before .copy .ensures
+    ∙ stored-near (a .store .now) (a .at) (a .octets .now) (w .result) (w .ensures) (omega arith) (omega (arith, w .ensures, m))
+
+slice-aggregate-copy : tie.Need-slice-aggregate-copy
+slice-aggregate-copy c = sym (length-take-le _ _ (omega arith))
+
+copy-requires-2 : tie.Need-copy-requires-2
+copy-requires-2 c κs = search needs
+
+sub-copy : tie.Need-sub-copy
+sub-copy c = search needs
+
+part-copy-start : tie.Need-part-copy-start
+part-copy-start c = search needs
+
+part-copy-end : tie.Need-part-copy-end
+part-copy-end c = search needs
+
+copy-requires-3 : tie.Need-copy-requires-3
+copy-requires-3 c κs = search needs
+
+same-length-2 : tie.Need-same-length-2
+same-length-2 c = search needs
+
+returns-4 : tie.Need-returns-4
+returns-4 c =
+    let a = c .before .before .before .before .before .before .before .before .before .before .before .before .before .before .before .before .args in
+    let w = c .before .before .before .before .before .before .before .before .before .before .before .wrapped in
+    let st = a .store .now in
+    let xs = a .octets .now in
+    let f = length st - w .result in
+    let m = mod-lt (a .at) {m = length st} (omega arith) in
+    c .before .before .copy3 .ensures
+    ∙ ap (λ (l : List ℕ). putAt l 0 (take (length xs - f) (drop f xs))) (c .before .before .before .before .before .before .before .copy2 .ensures)
+    ∙ ap (putAt (putAt st (w .result) (take f xs)) 0) (take-rest xs f)
+    ∙ stored-far st (a .at) xs (w .result) f (w .ensures) (omega (arith, w .ensures, m)) (omega arith) (omega arith) (omega arith)
 
 pub ring-write-spec : {M : Type 1} → statement M
 ring-write-spec =
     tie.close
     (tie.spec
-    Inv-loop
-    μ-loop
     returns
     returns-2
-    rem-place
-    loop-holds
-    shared-slice-read-store
-    slice-write-store
-    next-place-requires
-    add-i
-    loop-less
-    loop-again
+    wrapped-requires
+    sub-first
+    copy-requires
     same-length
-    returns-3)
+    returns-3
+    slice-aggregate-copy
+    copy-requires-2
+    sub-copy
+    part-copy-start
+    part-copy-end
+    copy-requires-3
+    same-length-2
+    returns-4)
