@@ -6,6 +6,7 @@
 
 mod actions;
 mod broken;
+mod edges;
 mod faults;
 mod hostile;
 mod layouts;
@@ -36,7 +37,7 @@ const fn profile(name: &'static str, weight: u64, what: &'static str, make: fn(u
     Profile { name, weight, what, make }
 }
 
-pub const PROFILES: [Profile; 16] = [
+pub const PROFILES: [Profile; 17] = [
     profile("sessions", 2, "typical sessions with one to eight servers", sessions::sessions),
     profile(
         "takeovers",
@@ -51,6 +52,7 @@ pub const PROFILES: [Profile; 16] = [
         sessions::resends,
     ),
     profile("ring", 2, "records of 0 to 1,024 octets that go round the store", sessions::ring),
+    profile("ring-edges", 2, "records that end at the end of the store, begin there and cross it", edges::ring_edges),
     profile("dsn-wrap", 1, "sequence numbers that pass 4,294,967,295", sessions::dsn_wrap),
     profile("full", 2, "64 records held, the store full, and both", sessions::full),
     profile("refusals", 1, "one fault at a time, of every kind", sessions::refusals),

@@ -16,6 +16,9 @@ const fn varying(number: u16, name: &'static str) -> FieldType {
 }
 
 pub const BOOLEAN: u16 = 0x0001;
+/// Unsigned numbers of one octet and of two.
+pub const UNSIGNED8: u16 = 0x0002;
+pub const UNSIGNED16: u16 = 0x0004;
 pub const IPV4: u16 = 0x0010;
 pub const IPV6: u16 = 0x0011;
 /// A 32-bit length, then octets below 128.
@@ -27,9 +30,9 @@ pub const BLOB: u16 = 0x4015;
 
 pub const FIELD_TYPES: [FieldType; 21] = [
     fixed(BOOLEAN, "boolean", 1),
-    fixed(0x0002, "unsigned8", 1),
+    fixed(UNSIGNED8, "unsigned8", 1),
     fixed(0x0003, "signed8", 1),
-    fixed(0x0004, "unsigned16", 2),
+    fixed(UNSIGNED16, "unsigned16", 2),
     fixed(0x0005, "signed16", 2),
     fixed(0x0006, "unsigned32", 4),
     fixed(0x0007, "signed32", 4),

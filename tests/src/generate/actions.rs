@@ -146,7 +146,8 @@ fn ack(session: &mut Session) {
     ack_count(session, count);
 }
 
-fn ack_count(session: &mut Session, count: usize) {
+/// The active server acknowledges that many of the held records.
+pub fn ack_count(session: &mut Session, count: usize) {
     if let Some(server) = session.exporter().active {
         let dsn = session.dsn_releasing(count as u32);
         session.ack(server, dsn);

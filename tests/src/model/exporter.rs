@@ -399,7 +399,7 @@ impl Exporter {
     }
 
     /// How many octets the first `count` held records have.
-    fn octets_before(&self, count: usize) -> usize {
+    pub fn octets_before(&self, count: usize) -> usize {
         let lengths = self.queue.iter().take(count).map(|held| held.length);
         lengths.fold(0, usize::saturating_add)
     }
@@ -408,6 +408,11 @@ impl Exporter {
     pub fn held_record(&self, store: &[u8], place: usize) -> Vec<u8> {
         let length = self.queue.get(place).map_or(0, |held| held.length);
         self.read_ring(store, self.octets_before(place), length)
+    }
+
+    /// The place in the store behind the held octets, where the next record begins.
+    pub fn next_place(&self) -> usize {
+        self.ring_place(self.held_octets()).unwrap_or(0)
     }
 
     /// The place in the store that lies `offset` octets after the ring's start, around its end.
