@@ -41,10 +41,12 @@ fn every_situation_is_met() {
 /// Runs a session and counts what each of its events meets.
 fn count_session(counts: &mut Counts, events: &[Event], mut replay: Replay) {
     let mut stopped = BTreeMap::new();
+    let mut octets_put = 0;
     for event in events {
         let before = replay.exporter.clone();
         let outcome = replay.event(event.kind, event.server, &event.body);
-        let step = Step { event, before: &before, after: &replay.exporter, outcome: &outcome, stopped: &stopped };
+        let after = &replay.exporter;
+        let step = Step { event, before: &before, after, outcome: &outcome, stopped: &stopped, octets_put };
         for (name, _) in SITUATIONS.iter().filter(|(_, holds)| holds(&step)) {
             *counts.entry(name).or_default() += 1;
         }
@@ -52,6 +54,8 @@ fn count_session(counts: &mut Counts, events: &[Event], mut replay: Replay) {
             stopped.remove(&event.server);
         } else if step.receives(STOP) {
             stopped.insert(event.server, before.state(event.server));
+        } else if step.is(PUT) {
+            octets_put += step.record_octets();
         }
     }
 }
@@ -64,6 +68,8 @@ struct Step<'a> {
     outcome: &'a Outcome,
     /// The servers that have not started since their last STOP, with their states before it.
     stopped: &'a BTreeMap<u8, ServerState>,
+    /// The octets of all records put before.
+    octets_put: usize,
 }
 
 impl Step<'_> {
@@ -107,12 +113,34 @@ impl Step<'_> {
         self.outcome.written.get(11).copied().unwrap_or(0)
     }
 
-    /// The record that a next data writes lies across the end of the store.
-    fn across_the_end(&self) -> bool {
-        let lengths = || self.before.queue.iter().map(|held| held.length);
-        let start =
-            (self.before.ring_start + lengths().take(self.before.sent).sum::<usize>()) % self.before.store_length;
-        start + lengths().nth(self.before.sent).unwrap_or(0) > self.before.store_length
+    /// The octets of the record of a put.
+    fn record_octets(&self) -> usize {
+        self.event.body.len().saturating_sub(2)
+    }
+
+    /// An accepted put of a record whose place in the store and octets, and the store's length, are so.
+    fn puts(&self, are_so: fn(usize, usize, usize) -> bool) -> bool {
+        self.is(PUT) && are_so(self.before.next_place(), self.record_octets(), self.before.store_length)
+    }
+
+    /// DATA of a record whose place in the store and octets, and the store's length, are so.
+    fn sends(&self, are_so: fn(usize, usize, usize) -> bool) -> bool {
+        let Exporter { store_length, ring_start, sent, queue, .. } = self.before;
+        let place = (ring_start + self.before.octets_before(*sent)) % store_length;
+        self.is(NEXT) && are_so(place, queue[*sent].length, *store_length)
+    }
+
+    /// How often the records put before this event have gone round the store, and those put after it.
+    fn rounds(&self) -> (usize, usize) {
+        let put = if self.is(PUT) { self.record_octets() } else { 0 };
+        let store = self.before.store_length;
+        (self.octets_put / store, (self.octets_put + put) / store)
+    }
+
+    /// A put that is refused for one octet more than is free.
+    fn lacks_one_octet(&self) -> bool {
+        let octets = self.before.held_octets() + self.record_octets();
+        self.event.kind == PUT && self.outcome.answer == STORE_FULL && octets == self.before.store_length + 1
     }
 
     fn late(&self, exporter: &Exporter) -> usize {
@@ -128,7 +156,7 @@ impl Step<'_> {
 
     /// A put that is refused for this store and would be taken by the largest.
     fn fills_a_small_store(&self) -> bool {
-        let octets = self.before.held_octets() + self.event.body.len().saturating_sub(2);
+        let octets = self.before.held_octets() + self.record_octets();
         self.event.kind == PUT && self.outcome.answer == STORE_FULL && octets <= LARGEST_STORE
     }
 }
@@ -136,12 +164,12 @@ impl Step<'_> {
 /// A situation: its name, and whether a step is in it.
 type Situation = (&'static str, fn(&Step) -> bool);
 
-const SITUATIONS: [Situation; 36] = [
+const SITUATIONS: [Situation; 51] = [
     ("a first DATA without D", |step| step.is(NEXT) && step.flags() == 1),
     ("a first DATA with D", |step| step.is(NEXT) && step.flags() == 3),
     ("a later DATA with D", |step| step.is(NEXT) && step.flags() == 2),
     ("DATA sent again to the same server", |step| step.is(NEXT) && step.before.sent < step.before.reached),
-    ("a record across the end of the store", |step| step.is(NEXT) && step.across_the_end()),
+    ("DATA of a record across the end of the store", |step| step.sends(|place, octets, store| place + octets > store)),
     ("an empty record", |step| step.is(PUT) && step.event.body.len() == 2),
     ("a put into a full store", |step| step.is(PUT) && step.before.held_octets() == step.before.store_length),
     ("the 64th record", |step| step.is(PUT) && step.after.queue.len() == 64),
@@ -201,4 +229,42 @@ const SITUATIONS: [Situation; 36] = [
         step.releases() > step.before.sent && step.releases() == step.before.reached
     }),
     ("a record that only a larger store takes", |step| step.fills_a_small_store()),
+    ("a record that ends at the end of the store", |step| {
+        step.puts(|place, octets, store| octets > 0 && place + octets == store)
+    }),
+    ("a record at place 0 behind held octets", |step| {
+        step.before.held_octets() > 0 && step.puts(|place, octets, _| place == 0 && octets > 0)
+    }),
+    ("a record at place 0 after all octets are released", |step| {
+        step.before.held_octets() == 0 && step.octets_put > 0 && step.puts(|place, octets, _| place == 0 && octets > 0)
+    }),
+    ("an empty record at place 0 behind held octets", |step| {
+        step.before.held_octets() > 0 && step.puts(|place, octets, _| place == 0 && octets == 0)
+    }),
+    ("a record that crosses the end by one octet", |step| {
+        step.puts(|place, octets, store| place + octets == store + 1)
+    }),
+    ("a record of two octets that crosses the end", |step| {
+        step.puts(|place, octets, store| place + 1 == store && octets == 2)
+    }),
+    ("a record that crosses the end with all but one octet", |step| {
+        step.puts(|place, octets, store| place + 1 == store && octets > 2)
+    }),
+    ("DATA that crosses the end by one octet", |step| step.sends(|place, octets, store| place + octets == store + 1)),
+    ("DATA that crosses the end with all but one octet", |step| {
+        step.sends(|place, octets, store| place + 1 == store && octets > 2)
+    }),
+    ("a record of 1,023 octets", |step| step.puts(|_, octets, _| octets == 1_023)),
+    ("a record of 1,024 octets that crosses the end", |step| {
+        step.puts(|place, octets, store| octets == 1_024 && place + octets > store)
+    }),
+    ("one record fills a store of 1,024 octets", |step| {
+        step.puts(|_, octets, store| octets == 1_024 && store == 1_024)
+    }),
+    ("several records fill a store of 1,024 octets", |step| {
+        step.after.held_octets() == 1_024
+            && step.puts(|_, octets, store| (1..1_024).contains(&octets) && store == 1_024)
+    }),
+    ("the ring has gone round three times", |step| step.rounds().0 < 3 && step.rounds().1 >= 3),
+    ("a put of one octet more than is free", |step| step.lacks_one_octet()),
 ];
