@@ -5,8 +5,9 @@ use crate::messages::{DATA_ACK, FINAL_TMPL_DATA_ACK, START, START_NEGOTIATE, STO
 use crate::model::answer::{DONE, DSN_NOT_ACKNOWLEDGEABLE};
 use crate::model::exporter::{Exporter, ServerState, LARGEST_STORE};
 use crate::model::replay::{Outcome, Replay};
-use crate::tape::{Event, MESSAGE, NEXT, TICK};
+use crate::tape::{Event, MESSAGE, NEXT, PUT, TICK};
 use std::collections::BTreeSet;
+use std::ops::Range;
 
 /// How many tapes must tell each mistake.
 const LEAST: usize = 20;
@@ -29,7 +30,7 @@ const fn mistake(name: &'static str, event: fn(&mut Program, &Event) -> Outcome)
     Mistake { name, begin: |_| {}, event }
 }
 
-const MISTAKES: [Mistake; 17] = [
+const MISTAKES: [Mistake; 23] = [
     mistake("STOP starts a closed server", |program, event| program.stop_from(ServerState::Closed, event)),
     mistake("STOP leaves a started server started", |program, event| program.stop_from(ServerState::Started, event)),
     mistake("STOP starts an offered server", |program, event| program.stop_from(ServerState::Offered, event)),
@@ -47,7 +48,46 @@ const MISTAKES: [Mistake; 17] = [
     mistake("what was sent is dropped at failover", Program::drop_at_failover),
     mistake("a late server is active again at once", Program::straight_back),
     mistake("a timer that runs out leaves the active server agreed", Program::never_late),
+    mistake("the second run has the record's octets one off", |program, event| {
+        program.copies(event, |right| Runs { second: right.second.start - 1..right.second.end - 1, ..right })
+    }),
+    mistake("the second run is left out", |program, event| {
+        program.copies(event, |right| Runs { second: 0..0, ..right })
+    }),
+    mistake("the second run begins at place 1", |program, event| {
+        program.copies(event, |right| Runs { second_place: 1, ..right })
+    }),
+    mistake("the first run is one octet too long", |program, event| {
+        program.copies(event, |right| right.with_first(|octets| octets + 1))
+    }),
+    mistake("the first run is one octet too short", |program, event| {
+        program.copies(event, |right| right.with_first(|octets| octets - 1))
+    }),
+    mistake("the end of the store is taken one place too late", |program, event| {
+        program.copies(event, |right| Runs { second_place: 1, ..right.with_first(|octets| octets + 1) })
+    }),
 ];
+
+/// How a record that reaches the end of the store is copied into it: how many octets go up to the end, which octets
+/// follow, and at which place they begin.
+struct Runs {
+    first: usize,
+    second: Range<usize>,
+    second_place: usize,
+}
+
+impl Runs {
+    /// Runs of which the first has other octets and the second the rest.
+    fn with_first(self, octets: fn(usize) -> usize) -> Runs {
+        let first = octets(self.first);
+        Runs { first, second: first..self.second.end, ..self }
+    }
+}
+
+/// Copies octets to a place of the store; those past its end are lost.
+fn copy(store: &mut [u8], place: usize, octets: &[u8]) {
+    store[place..].iter_mut().zip(octets).for_each(|(room, octet)| *room = *octet);
+}
 
 fn threshold_of_servers(replay: &mut Replay) {
     replay.exporter.settings.threshold = replay.exporter.settings.servers;
@@ -158,6 +198,26 @@ impl Program {
         let mut outcome = self.right(event);
         if resends && event.kind == NEXT && outcome.answer == DONE {
             outcome.written[11] |= 2;
+        }
+        outcome
+    }
+
+    /// Takes an event, and if it is an accepted put whose record reaches the end of the store, copies the record into
+    /// the store before it in runs that are changed from the right ones.
+    fn copies(&mut self, event: &Event, change: fn(Runs) -> Runs) -> Outcome {
+        let place = self.replay.exporter.next_place();
+        let to_end = self.replay.exporter.store_length - place;
+        let record = event.body.get(2..).unwrap_or(&[]);
+        if event.kind != PUT || record.len() < to_end {
+            return self.right(event);
+        }
+        let mut store = self.replay.store.clone();
+        let outcome = self.right(event);
+        if outcome.answer == DONE {
+            let runs = change(Runs { first: to_end, second: to_end..record.len(), second_place: 0 });
+            copy(&mut store, place, &record[..runs.first.min(record.len())]);
+            copy(&mut store, runs.second_place, record.get(runs.second).unwrap_or(&[]));
+            self.replay.store = store;
         }
         outcome
     }
