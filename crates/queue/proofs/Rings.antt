@@ -3,7 +3,7 @@
 use mathlib.Core.Path.{_≡_, refl, sym, ap, _∙_}
 use Prim.Native.Nat.{ℕ, _+_, _-_, _%_, _≤_, _<_, min}
 use mathlib.Core.List.{List, [], _∷_}
-use native.Mathlib.Nat.{mod-eq-of-lt, mod-lt, add-mod-right}
+use native.Mathlib.Nat.{mod-eq-of-lt, add-mod-right}
 use native.Mathlib.Omega.{arith}
 use borrow.Author.Tests.{le-leb, lt-leb, le-ltb, lt-ltb, leb-true, leb-false}
 use mathlib.Core.Bool.{Bool, true, false}
@@ -12,8 +12,8 @@ use lib.ListN.{length, take, drop, length-drop}
 use lib.Seq.{sets, length-take-le, take-all}
 use Rattle.octets.specs.Numbers.{putAt}
 use Rattle.octets.proofs.Stores.{put-fits, put-short, put-join}
-use Rattle.session.specs.Queue.{sumOf, ringPlace, ringRead, ringWrite}
-use Rattle.session.proofs.Rings.{read-length, read-near, read-far, write-run, write-runs}
+use Rattle.session.specs.Queue.{sumOf, ringPlace, ringRead, ringWrite, ringRuns}
+use Rattle.session.proofs.Rings.{read-length, read-near, read-far, one-run, two-runs}
 use Rattle.queue.specs.Rings.{recordStart, ringStored, ringCopied}
 
 -- ---- lengths
@@ -78,14 +78,14 @@ module _ (store : List ℕ) (at : ℕ) (octets : List ℕ) where
   pub stored-near : (place : ℕ) → place ≡ at % length store → 0 < length store → place + length octets ≤ length store
       → putAt store place octets ≡ ringStored store at octets
   stored-near place e z h =
-      write-run store place at octets h (ap (λ (k : ℕ). k % length store) e ∙ mod-eq-of-lt (mod-lt at z)) ∙ sym (stored-inside (omega arith))
+      let k : length octets ≤ length store = omega arith in
+      rw e (one-run store at octets (omega arith)) ∙ two-runs store at octets z k ∙ sym (stored-inside k)
 
   -- they do: up to the end, and then the rest from the beginning on
-  pub stored-far : (place first : ℕ) → place ≡ at % length store → place + first ≡ length store → 0 < length store
-      → first ≤ length octets → length octets ≤ length store
-      → putAt (putAt store place (take first octets)) 0 (drop first octets) ≡ ringStored store at octets
-  stored-far place first e f z h k =
-      rw e (write-runs store at first octets (omega arith) z h k) ∙ sym (stored-inside k)
+  pub stored-far : (place : ℕ) → place ≡ at % length store → 0 < length store → length octets ≤ length store
+      → putAt (putAt store place (take (length store - place) octets)) 0 (drop (length store - place) octets) ≡ ringStored store at octets
+  unfolding ringRuns
+  stored-far place e z k = rw e (two-runs store at octets z k) ∙ sym (stored-inside k)
 
 -- ---- reading
 

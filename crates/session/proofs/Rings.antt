@@ -1,16 +1,19 @@
 -- Reading from the ring is splitting it: a octets and b octets behind them are a + b octets. So what does not reach past the end is one
 -- part of the store, and what does is two. Writing goes likewise, in one run or in two.
 use mathlib.Core.Path.{_≡_, refl, sym, ap, _∙_}
+use mathlib.Core.Bool.{Bool, true, false}
 use mathlib.Core.List.{List, [], _∷_, _++_}
 use Prim.Native.Nat.{ℕ, zero, suc, _+_, _-_, _%_, _≤_, _<_}
 use native.Mathlib.Nat.{add-zero, zero-add, add-mod-right, mod-add-mod, mod-eq-of-lt, mod-lt}
 use native.Mathlib.Numerals.{add-one}
 use native.Mathlib.Omega.{arith}
-use lib.ListN.{length, getD, take, drop, set, length-drop, take-append-drop}
+use borrow.Author.Tests.{leb-true, leb-false}
+use lib.Dec.{leb}
+use lib.ListN.{length, getD, take, drop, set, length-drop, take-append-drop, drop-of-length-le}
 use lib.Seq.{drop-cons, take-all, sets, length-sets, length-take-le}
 use Rattle.octets.specs.Numbers.{putAt}
 use Rattle.octets.proofs.Stores.{put-fits}
-use Rattle.session.specs.Queue.{ringRead, ringWrite}
+use Rattle.session.specs.Queue.{ringRead, ringWrite, ringRuns}
 
 -- ---- reading
 
@@ -85,15 +88,14 @@ write-near room st at [] h = refl
 write-near room st at (x ∷ octets) h =
     rw (mod-eq-of-lt {n = at} {m = room} (omega arith), add-one at) (write-near room (set st at x) (suc at) octets (omega arith))
 
--- One run: octets that from their place on do not reach past the end of the store are stored there.
-pub write-run : (st : List ℕ) (place at : ℕ) (octets : List ℕ) → place + length octets ≤ length st → place % length st ≡ at % length st
+-- a run of octets that does not reach past the end is one store, whichever number its place has
+write-run : (st : List ℕ) (place at : ℕ) (octets : List ℕ) → place + length octets ≤ length st → place % length st ≡ at % length st
     → putAt st place octets ≡ ringWrite (length st) st at octets
 write-run st place at octets h e =
     put-fits st place octets h ∙ sym (write-near (length st) st place octets h) ∙ write-same (length st) st place at octets e
 
--- Two runs: the octets up to the end of the store, then the rest from its beginning, leave the store that copying octet by octet modulo its
--- length leaves. The first run has as many octets as there are places from `at` to the end.
-pub write-runs : (st : List ℕ) (at first : ℕ) (octets : List ℕ) → at % length st + first ≡ length st → 0 < length st
+-- the first run up to the end, and the second from the beginning on
+write-runs : (st : List ℕ) (at first : ℕ) (octets : List ℕ) → at % length st + first ≡ length st → 0 < length st
     → first ≤ length octets → length octets ≤ length st
     → putAt (putAt st (at % length st) (take first octets)) 0 (drop first octets) ≡ ringWrite (length st) st at octets
 write-runs st at first octets e z h k =
@@ -114,6 +116,37 @@ write-runs st at first octets e z h k =
     ∙ ap (λ (j : ℕ). ringWrite room (ringWrite room st at (take first octets)) (at + j) (drop first octets)) (sym n)
     ∙ sym (write-join room st at (take first octets) (drop first octets))
     ∙ ap (ringWrite room st at) (take-append-drop first octets)
+
+-- octets that do not reach past the end are the first run alone
+pub one-run : (st : List ℕ) (at : ℕ) (octets : List ℕ) → at % length st + length octets ≤ length st
+    → putAt st (at % length st) octets ≡ ringRuns st at octets
+unfolding ringRuns
+one-run st at octets h =
+    let f = length st - at % length st in
+    let x = putAt st (at % length st) octets in
+    let n : length octets ≤ f = omega arith in
+    sym
+    (ap (λ (xs : List ℕ). putAt (putAt st (at % length st) xs) 0 (drop f octets)) (take-all f octets n)
+    ∙ ap (putAt x 0) (drop-of-length-le octets n)
+    ∙ put-fits x 0 [] (omega arith))
+
+-- Two runs leave every octet of the store as copying octet by octet, modulo its length, leaves it.
+pub two-runs : (st : List ℕ) (at : ℕ) (octets : List ℕ) → 0 < length st → length octets ≤ length st
+    → ringRuns st at octets ≡ ringWrite (length st) st at octets
+unfolding ringRuns
+two-runs st at octets z k = go (leb (length octets) f) refl
+  where
+    f : ℕ
+    f = length st - at % length st
+
+    l : at % length st < length st
+    l = mod-lt at z
+
+    go : (b : Bool) → leb (length octets) f ≡ b → ringRuns st at octets ≡ ringWrite (length st) st at octets
+    go true e =
+        let h : at % length st + length octets ≤ length st = omega (arith, leb-true (length octets) f e, l) in
+        sym (one-run st at octets h) ∙ write-run st (at % length st) at octets h (mod-eq-of-lt l)
+    go false e = write-runs st at f octets (omega (arith, l)) z (omega (arith, leb-false (length octets) f e)) k
 
 -- ---- places in the store
 

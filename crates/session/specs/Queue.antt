@@ -4,8 +4,9 @@ use Prim.Native.Nat.{ℕ, zero, suc, _+_, _-_, _/_, _%_, _^_}
 use mathlib.Core.Bool.{Bool, false, not, _&&_, _||_}
 use mathlib.Core.List.{List, [], _∷_, _++_}
 use lib.Bits.{bitOr}
-use lib.ListN.{getD, set, take, drop, replicate}
+use lib.ListN.{length, getD, set, take, drop, replicate}
 use lib.Dec.{eqb}
+use Rattle.octets.specs.Numbers.{putAt}
 use Rattle.session.specs.declared.state.Active.{Active}
 use Rattle.session.specs.declared.state.Active.the-variants as active
 use Rattle.session.specs.declared.state.Queue.{Queue}
@@ -27,6 +28,14 @@ ringRead room store at (suc n) = getD store (at % room) 0 ∷ ringRead room stor
 unfoldable pub ringWrite : ℕ → List ℕ → ℕ → List ℕ → List ℕ
 ringWrite room store at [] = store
 ringWrite room store at (x ∷ octets) = ringWrite room (set store (at % room) x) (at + 1) octets
+
+-- The store with octets copied in two runs (02, ask 3): from `at` on, modulo its length, up to its end, then the rest from its beginning. The
+-- law `two-runs` shows that it ends as copying one by one leaves it.
+unfoldable pub ringRuns : List ℕ → ℕ → List ℕ → List ℕ
+ringRuns store at octets =
+    let place = at % length store in
+    let first = length store - place in
+    putAt (putAt store place (take first octets)) 0 (drop first octets)
 
 -- ---- the held records
 

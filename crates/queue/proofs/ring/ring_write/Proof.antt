@@ -70,11 +70,10 @@ returns-4 c =
     let st = a .store .now in
     let xs = a .octets .now in
     let f = length st - w .result in
-    let m = mod-lt (a .at) {m = length st} (omega arith) in
     c .before .before .copy3 .ensures
     ∙ ap (λ (l : List ℕ). putAt l 0 (take (length xs - f) (drop f xs))) (c .before .before .before .before .before .before .before .copy2 .ensures)
     ∙ ap (putAt (putAt st (w .result) (take f xs)) 0) (take-rest xs f)
-    ∙ stored-far st (a .at) xs (w .result) f (w .ensures) (omega (arith, w .ensures, m)) (omega arith) (omega arith) (omega arith)
+    ∙ stored-far st (a .at) xs (w .result) (w .ensures) (omega arith) (omega arith)
 
 pub ring-write-spec : {M : Type 1} → statement M
 ring-write-spec =
