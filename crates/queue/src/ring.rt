@@ -3,7 +3,7 @@ ghost use mathlib.Core.Path.{_≡_};
 ghost use Prim.Native.Nat.{_%_, _<_};
 ghost use Rattle.queue.specs.Rings.{ringStored, ringCopied};
 
-// A place modulo the ring's length, by a comparison up to the end of a second round and by a division behind it.
+// A place modulo the ring's length; a place less than two lengths from the beginning takes no division.
 pub(crate) fn wrapped(at: usize, room: usize) -> usize
     requires { ⌜ 0 < room ⌝ }
     ensures { λ r. ⌜ r ≡ at % room ⌝ }
