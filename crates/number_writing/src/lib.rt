@@ -1,8 +1,11 @@
 // Writing: unsigned numbers of 8, 16, 32 and 64 bits, or of any width, most significant octet first, and octets, to a place of a slice.
 // `octets` passes these on.
 //
-// Every function is total: a write that does not fit changes nothing.
+// Every public function is total: a write that does not fit changes nothing.
 ghost use mathlib.Core.Path.{_≡_};
+ghost use Prim.Native.Nat.{_+_, _≤_};
+ghost use lib.ListN.{length};
+ghost use lib.Seq.{sets};
 ghost use Rattle.numbers.specs.Numbers.{octetsOf, putAt};
 
 // One octet to a place.
@@ -66,6 +69,18 @@ pub fn put_uint(out: &mut [u8], at: usize, w: usize, v: u64)
     }
 }
 
+// Octets to a place where they fit.
+fn put_fitting(out: &mut [u8], at: usize, octets: &[u8])
+    requires { ⌜ at + length (now octets) ≤ length (now out) ⌝ }
+    ensures { λ _. ⌜ now (out .exit) ≡ sets (now (out .entry)) at (now (octets .entry)) ⌝ }
+{
+    let mut i: usize = 0;
+    while i < octets.len() {
+        out[at + i] = octets[i];
+        i += 1;
+    }
+}
+
 // Octets to a place.
 pub fn copy(out: &mut [u8], at: usize, octets: &[u8])
     ensures { λ _. ⌜ now (out .exit) ≡ putAt (now (out .entry)) at (now (octets .entry)) ⌝ }
@@ -76,9 +91,39 @@ pub fn copy(out: &mut [u8], at: usize, octets: &[u8])
     if number_reading::saturating_sub(out.len(), at) < octets.len() {
         return;
     }
-    let mut i: usize = 0;
-    while i < octets.len() {
-        out[at + i] = octets[i];
-        i += 1;
+    put_fitting(out, at, octets);
+}
+
+// The most octets that are moved at a time.
+const BLOCK_OCTETS: usize = 1024;
+
+// At most a block of octets to a place where they fit, through an array of its own: the compiler knows that the array is apart from both
+// and makes one move of the two copies.
+fn put_block(out: &mut [u8], at: usize, octets: &[u8])
+    requires { ⌜ (at + length (now octets) ≤ length (now out)) × (length (now octets) ≤ 1024) ⌝ }
+    ensures { λ _. ⌜ now (out .exit) ≡ sets (now (out .entry)) at (now (octets .entry)) ⌝ }
+{
+    let mut block = [0u8; BLOCK_OCTETS];
+    put_fitting(&mut block[..], 0, octets);
+    put_fitting(out, at, &block[..octets.len()]);
+}
+
+// Octets to a place, as `copy`, but a block at a time, each of them one move: for messages' bodies, which can be long. For the ring the
+// plain loop of `copy` is as quick.
+pub fn copy_blocks(out: &mut [u8], at: usize, octets: &[u8])
+    ensures { λ _. ⌜ now (out .exit) ≡ putAt (now (out .entry)) at (now (octets .entry)) ⌝ }
+{
+    let n = octets.len();
+    if out.len() < at {
+        return;
     }
+    if number_reading::saturating_sub(out.len(), at) < n {
+        return;
+    }
+    let mut done: usize = 0;
+    while BLOCK_OCTETS < n - done {
+        put_block(out, at + done, &octets[done..done + BLOCK_OCTETS]);
+        done += BLOCK_OCTETS;
+    }
+    put_block(out, at + done, &octets[done..]);
 }

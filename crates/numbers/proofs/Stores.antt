@@ -8,8 +8,8 @@ use native.Mathlib.Nat.{add-suc, add-zero, suc-add, zero-add}
 use native.Mathlib.Numerals.{add-one}
 use native.Mathlib.Omega.{arith}
 use borrow.Author.Tests.{le-leb, lt-leb}
-use lib.ListN.{length, getD, take, drop, set, length-append, drop-of-length-le, List·getD-append, length-drop}
-use lib.Seq.{sets, sets-eq, length-sets, drop-cons, length-take-le, getD-append-add, set-comm, take-all}
+use lib.ListN.{length, getD, take, drop, set, length-append, drop-of-length-le, List·getD-append, length-drop, take-append-drop}
+use lib.Seq.{sets, sets-eq, length-sets, drop-cons, length-take-le, getD-append-add, set-comm, take-all, drop-drop, take-append-seam}
 use Rattle.numbers.specs.Numbers.{uintAt, octetsOf, putAt}
 use Rattle.numbers.proofs.Numbers.{uint-same, octets-length, octets-join, octets-mod, read-back}
 
@@ -71,6 +71,11 @@ sets-at out at vs i h l =
     ∙ getD-append-add front (vs ++ drop (at + length vs) out) i 0
     ∙ List·getD-append vs (drop (at + length vs) out) 0 i l
 
+-- octets stored from the first place on are the first octets of what that left
+pub sets-front : (out l vs : List ℕ) → l ≡ sets out 0 vs → length vs ≤ length out → take (length vs) l ≡ vs
+sets-front out l vs e h =
+    ap (take (length vs)) (e ∙ sets-eq vs out 0 (omega arith)) ∙ take-append-seam vs (drop (0 + length vs) out)
+
 -- reading a number where it was written gives it back
 pub put-reads : (out : List ℕ) (at w v : ℕ) → at + w ≤ length out → v < 256 ^ w → uintAt (putAt out at (octetsOf w v)) at w ≡ v
 put-reads out at w v h l =
@@ -103,10 +108,33 @@ number-step l at (suc i) v h =
     ∙ set-behind vs l at (v % 256)
     ∙ sets-append vs l at (v % 256 ∷ [])
 
--- a turn of a loop that stores `octets` from `at` on: what is left to store shrinks by one
+-- the invariant of a loop that stores `octets` from `at` on: `out` was `before` and has i of them, and storing the others gives what
+-- storing all of them in `before` gives
+abbrev pub Storing : List ℕ → ℕ → List ℕ → List ℕ → ℕ → Type 0
+Storing before at octets out i =
+    (i ≤ length octets) × ((length out ≡ length before) × (sets out (at + i) (drop i octets) ≡ sets before at octets))
+
+-- it holds where none are stored
+pub storing-none : (out : List ℕ) (at : ℕ) (octets : List ℕ) → Storing out at octets out 0
+storing-none out at octets = (omega arith, (refl, ap (λ (n : ℕ). sets out n octets) (add-zero at)))
+
+-- a turn of such a loop: what is left to store shrinks by one
 pub sets-step : (out : List ℕ) (at : ℕ) (octets : List ℕ) (i : ℕ) → i < length octets
     → sets (set out (at + i) (getD octets i 0)) (at + (i + 1)) (drop (i + 1) octets) ≡ sets out (at + i) (drop i octets)
 sets-step out at octets i h = rw (add-one, add-suc, drop-cons octets i 0)
+
+-- the same by a run of octets, those from i up to j
+pub sets-run : (out : List ℕ) (at : ℕ) (octets : List ℕ) (i j : ℕ) → i ≤ j → j ≤ length octets
+    → sets (sets out (at + i) (take (j - i) (drop i octets))) (at + j) (drop j octets) ≡ sets out (at + i) (drop i octets)
+sets-run out at octets i j h k =
+    let run = take (j - i) (drop i octets) in
+    let n : length run ≡ j - i = length-take-le (j - i) (drop i octets) (omega (arith, length-drop i octets)) in
+    let e : at + j ≡ at + i + length run = omega arith in
+    let d : i + (j - i) ≡ j = omega arith in
+    ap (λ (p : ℕ). sets (sets out (at + i) run) p (drop j octets)) e
+    ∙ ap (sets (sets out (at + i) run) (at + i + length run)) (ap (λ (p : ℕ). drop p octets) (sym d) ∙ sym (drop-drop (j - i) i octets))
+    ∙ sets-append run out (at + i) (drop (j - i) (drop i octets))
+    ∙ ap (sets out (at + i)) (take-append-drop (j - i) (drop i octets))
 
 -- nothing is left to store
 pub sets-done : (out : List ℕ) (k : ℕ) (octets : List ℕ) (i : ℕ) → length octets ≤ i → sets out k (drop i octets) ≡ out

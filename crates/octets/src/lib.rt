@@ -16,6 +16,7 @@ pub use number_reading::saturating_sub;
 pub use number_reading::u16_of;
 pub use number_reading::u32_of;
 pub use number_writing::copy;
+pub use number_writing::copy_blocks;
 pub use number_writing::put_u8;
 pub use number_writing::put_u16;
 pub use number_writing::put_u32;

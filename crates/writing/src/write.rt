@@ -108,7 +108,7 @@ fn write_tmpl_data(session: u8, part: &[u8], out: &mut [u8]) -> Written
         return Written::Refused(Answer::OUTPUT_TOO_SHORT);
     }
     put_header(Message::TMPL_DATA, session, len as u32, out);
-    octets::copy(out, HEADER_OCTETS, part);
+    octets::copy_blocks(out, HEADER_OCTETS, part);
     Written::Octets(len)
 }
 
@@ -172,7 +172,7 @@ fn write_data(head: DataHead, part: &[u8], out: &mut [u8]) -> Written
         return Written::Refused(Answer::OUTPUT_TOO_SHORT);
     }
     put_data_head(head, part.len(), out);
-    octets::copy(out, DATA_HEAD_OCTETS, part);
+    octets::copy_blocks(out, DATA_HEAD_OCTETS, part);
     Written::Octets(len)
 }
 

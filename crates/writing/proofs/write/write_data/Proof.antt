@@ -29,8 +29,8 @@ returns-2 c =
 put-data-head-requires : tie.Need-put-data-head-requires
 put-data-head-requires c κs = search needs
 
-copy-requires : tie.Need-copy-requires
-copy-requires c κs = search needs
+copy-blocks-requires : tie.Need-copy-blocks-requires
+copy-blocks-requires c κs = search needs
 
 same-length : tie.Need-same-length
 same-length c = search needs
@@ -43,11 +43,11 @@ returns-3 c =
     let room = c .before .before .before .before .before .before .before .before .if2 .left in
     allowed _ _ _ _ _ refl (le-ltb _ _ (c .before .before .before .before .before .before .before .before .before .if1 .left))
     (placed _ _ _ (16 + length part) (data-length (a .head) part) room
-    (c .before .before .copy .ensures
+    (c .before .before .copy-blocks .ensures
     ∙ put-then (a .out .now) (dataHeadOctets (a .head) (length part)) part _ 16 (c .before .before .before .before .before .before .put-data-head .ensures) refl room
     ∙ ap (sets (a .out .now) 0) (sym (data-layout (a .head) part))))
 
 pub write-data-spec : {M : Type 1} → statement M
 write-data-spec =
     tie.close
-    (tie.spec returns add-len returns-2 put-data-head-requires copy-requires same-length returns-3)
+    (tie.spec returns add-len returns-2 put-data-head-requires copy-blocks-requires same-length returns-3)

@@ -38,8 +38,8 @@ cast-put-header c = let f = table-facts _ (sym (c .before .before .table-sound .
 put-header-requires : tie.Need-put-header-requires
 put-header-requires c κs = search needs
 
-copy-requires : tie.Need-copy-requires
-copy-requires c κs = search needs
+copy-blocks-requires : tie.Need-copy-blocks-requires
+copy-blocks-requires c κs = search needs
 
 same-length : tie.Need-same-length
 same-length c = search needs
@@ -54,7 +54,8 @@ returns-3 c =
     let header = headerOctetsOf tmplData (a .session) (8 + length part) in
     allowed _ _ _ _ _ sound refl
     (placed _ _ _ (8 + length part) (message-length tmplData (a .session) part) room
-    (c .before .before .copy .ensures ∙ put-then (a .out .now) header part _ 8 (c .before .before .before .before .before .before .put-header .ensures) refl room))
+    (c .before .before .copy-blocks .ensures
+    ∙ put-then (a .out .now) header part _ 8 (c .before .before .before .before .before .before .put-header .ensures) refl room))
 
 pub write-tmpl-data-spec : {M : Type 1} → statement M
 write-tmpl-data-spec =
@@ -66,6 +67,6 @@ write-tmpl-data-spec =
     returns-2
     cast-put-header
     put-header-requires
-    copy-requires
+    copy-blocks-requires
     same-length
     returns-3)
