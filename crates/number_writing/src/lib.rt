@@ -108,8 +108,7 @@ fn put_block(out: &mut [u8], at: usize, octets: &[u8])
     put_fitting(out, at, &block[..octets.len()]);
 }
 
-// Octets to a place, as `copy`, but a block at a time, each of them one move: for messages' bodies, which can be long. For the ring the
-// plain loop of `copy` is as quick.
+// Octets to a place, as `copy`, in blocks that are each one move.
 pub fn copy_blocks(out: &mut [u8], at: usize, octets: &[u8])
     ensures { λ _. ⌜ now (out .exit) ≡ putAt (now (out .entry)) at (now (octets .entry)) ⌝ }
 {

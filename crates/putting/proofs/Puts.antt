@@ -56,11 +56,13 @@ record-tests p table id r a ours e k b c d x y z =
     (record-judged (tableSound table) (eqb (configurationId table) (p .config)) (isMissing table id) (ltb 1024 (length r)) (recordValid table (templateOf table id) r))
 
 -- the record is judged, and then the room: a is what the record was judged, b the room
-module _ (p : Settings) (capacity n held : ℕ) (table : List ℕ) (id : ℕ) (r : List ℕ) (a : ℕ) (e : a ≡ judge (recordChecks p table id r)) where
+module _ (p : Settings) (capacity n held : ℕ) (table : List ℕ) (id : ℕ) (r : List ℕ) (a : ℕ)
+    (e : a ≡ judge (recordChecks p table id r)) where
   pub refused-first : (a ≡ done → ⊥) → a ≡ judge (recordChecks p table id r ++ roomChecks capacity n held r)
   refused-first h = e ∙ sym (judged-first (recordChecks p table id r) (roomChecks capacity n held r) (λ z. h (e ∙ z)))
 
-  pub passed-first : a ≡ done → (b : ℕ) → b ≡ judge (roomChecks capacity n held r) → b ≡ judge (recordChecks p table id r ++ roomChecks capacity n held r)
+  pub passed-first : a ≡ done → (b : ℕ) → b ≡ judge (roomChecks capacity n held r)
+      → b ≡ judge (recordChecks p table id r ++ roomChecks capacity n held r)
   passed-first z b k = k ∙ sym (judged-next (recordChecks p table id r) (roomChecks capacity n held r) tt (sym e ∙ z))
 
 -- put's answer, as it is judged by parts
@@ -71,7 +73,8 @@ putAnswer s store table id r =
     ∷ (recordChecks (s .settings) table id r ++ roomChecks (s .capacity) (s .queue .count) (heldOctets (s .queue)) r))
 
 -- the same, by what the code found on the way: whether the state is sound, and the held octets
-pub answer-of : (s : State) (store table : List ℕ) (id : ℕ) (r : List ℕ) (ok : Bool) (held a : ℕ) → ok ≡ sound (partsIn s) → held ≡ heldOctets (s .queue)
+pub answer-of : (s : State) (store table : List ℕ) (id : ℕ) (r : List ℕ) (ok : Bool) (held a : ℕ)
+    → ok ≡ sound (partsIn s) → held ≡ heldOctets (s .queue)
     → a ≡ judge ((unsoundState when not (ok && eqb (length store) (s .capacity)))
     ∷ (recordChecks (s .settings) table id r ++ roomChecks (s .capacity) (s .queue .count) held r))
     → a ≡ putAnswer s store table id r

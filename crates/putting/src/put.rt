@@ -64,10 +64,10 @@ fn room_answer(capacity: usize, n: usize, held: u32, r: &[u8]) -> u8
     Answer::DONE
 }
 
-// 0 for a record that can be put, else the first refusal of put: by whether the state is sound and the lent store of the length set, and by
-// how many octets the n held records have together.
+// 0 for a record that can be put, else put's first refusal. `usable`: the state is sound and the lent store of the length set; `held`: the
+// octets of the n held records together.
 fn put_answer<'a, 'b>(
-    sound: bool,
+    usable: bool,
     p: Settings,
     capacity: usize,
     n: usize,
@@ -76,10 +76,10 @@ fn put_answer<'a, 'b>(
     id: u16,
     r: &'b [u8],
 ) -> u8
-    ensures { λ a. ⌜ a ≡ judge ((unsoundState when not sound)
+    ensures { λ a. ⌜ a ≡ judge ((unsoundState when not usable)
         ∷ (recordChecks p (now (table .entry)) id (now (r .entry)) ++ roomChecks capacity n held (now (r .entry)))) ⌝ }
 {
-    if !sound {
+    if !usable {
         return Answer::UNSOUND_STATE;
     }
     let answer = record_answer(p, table, id, r);

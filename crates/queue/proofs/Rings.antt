@@ -3,7 +3,7 @@
 use mathlib.Core.Path.{_≡_, refl, sym, ap, _∙_}
 use Prim.Native.Nat.{ℕ, _+_, _-_, _%_, _≤_, _<_, min}
 use mathlib.Core.List.{List, [], _∷_}
-use native.Mathlib.Nat.{mod-eq-of-lt, add-mod-right}
+use native.Mathlib.Nat.{mod-eq-of-lt, mod-lt, add-mod-right}
 use native.Mathlib.Omega.{arith}
 use borrow.Author.Tests.{le-leb, lt-leb, le-ltb, lt-ltb, leb-true, leb-false}
 use mathlib.Core.Bool.{Bool, true, false}
@@ -13,7 +13,7 @@ use lib.Seq.{sets, length-take-le, take-all}
 use Rattle.octets.specs.Numbers.{putAt}
 use Rattle.octets.proofs.Stores.{put-fits, put-short, put-join}
 use Rattle.session.specs.Queue.{sumOf, ringPlace, ringRead, ringWrite, ringRuns}
-use Rattle.session.proofs.Rings.{read-length, read-near, read-far, one-run, two-runs}
+use Rattle.session.proofs.Rings.{read-length, read-near, read-far, write-run, two-runs}
 use Rattle.queue.specs.Rings.{recordStart, ringStored, ringCopied}
 
 -- ---- lengths
@@ -27,6 +27,14 @@ take-few xs n r e l = go (leb n 64) refl
     go false h =
         let k = leb-false n 64 h in
         take-all r xs (omega arith) ∙ sym (take-all n xs (omega arith))
+
+-- ---- places
+
+-- a place past the end of the store, brought back by its length
+pub place-back : (at room : ℕ) → room ≤ at → (at - room) % room ≡ at % room
+place-back at room h =
+    let e : at - room + room ≡ at = omega arith in
+    sym (add-mod-right (at - room) room) ∙ ap (λ (n : ℕ). n % room) e
 
 -- ---- where a record begins
 
@@ -50,9 +58,8 @@ start-near capacity start lengths i n e h k =
 pub start-far : (capacity start : ℕ) (lengths : List ℕ) (i n : ℕ) → n ≡ sumOf (take i lengths) → start < capacity → capacity - start ≤ n
     → (n - (capacity - start)) % capacity ≡ recordStart capacity start lengths i
 start-far capacity start lengths i n e h k =
-    let past = n - (capacity - start) in
-    let t : past + capacity ≡ start + sumOf (take i lengths) = omega arith in
-    sym (add-mod-right past capacity) ∙ ap (λ (j : ℕ). j % capacity) t ∙ sym (start-inside capacity start lengths i h)
+    let t : n - (capacity - start) ≡ start + sumOf (take i lengths) - capacity = omega arith in
+    ap (λ (j : ℕ). j % capacity) t ∙ place-back _ capacity (omega arith) ∙ sym (start-inside capacity start lengths i h)
 
 -- ---- writing
 
@@ -78,8 +85,8 @@ module _ (store : List ℕ) (at : ℕ) (octets : List ℕ) where
   pub stored-near : (place : ℕ) → place ≡ at % length store → 0 < length store → place + length octets ≤ length store
       → putAt store place octets ≡ ringStored store at octets
   stored-near place e z h =
-      let k : length octets ≤ length store = omega arith in
-      rw e (one-run store at octets (omega arith)) ∙ two-runs store at octets z k ∙ sym (stored-inside k)
+      write-run store place at octets h (ap (λ (k : ℕ). k % length store) e ∙ mod-eq-of-lt (mod-lt at z))
+      ∙ sym (stored-inside (omega arith))
 
   -- they do: up to the end, and then the rest from the beginning on
   pub stored-far : (place : ℕ) → place ≡ at % length store → 0 < length store → length octets ≤ length store

@@ -67,7 +67,8 @@ read-far room st at n e l h k =
 -- ---- writing
 
 -- only the place modulo the store's length counts
-write-same : (room : ℕ) (st : List ℕ) (a b : ℕ) (octets : List ℕ) → a % room ≡ b % room → ringWrite room st a octets ≡ ringWrite room st b octets
+write-same : (room : ℕ) (st : List ℕ) (a b : ℕ) (octets : List ℕ) → a % room ≡ b % room
+    → ringWrite room st a octets ≡ ringWrite room st b octets
 unfolding ringWrite
 write-same room st a b [] e = refl
 write-same room st a b (x ∷ octets) e = rw e (write-same room (set st (b % room) x) (a + 1) (b + 1) octets (next-same room a b e))
@@ -82,14 +83,15 @@ write-join room st at (x ∷ xs) ys =
     rw (← e) (write-join room (set st (at % room) x) (at + 1) xs ys)
 
 -- octets that do not reach past the end
-write-near : (room : ℕ) (st : List ℕ) (at : ℕ) (octets : List ℕ) → at + length octets ≤ room → ringWrite room st at octets ≡ sets st at octets
+write-near : (room : ℕ) (st : List ℕ) (at : ℕ) (octets : List ℕ) → at + length octets ≤ room
+    → ringWrite room st at octets ≡ sets st at octets
 unfolding ringWrite
 write-near room st at [] h = refl
 write-near room st at (x ∷ octets) h =
     rw (mod-eq-of-lt {n = at} {m = room} (omega arith), add-one at) (write-near room (set st at x) (suc at) octets (omega arith))
 
 -- a run of octets that does not reach past the end is one store, whichever number its place has
-write-run : (st : List ℕ) (place at : ℕ) (octets : List ℕ) → place + length octets ≤ length st → place % length st ≡ at % length st
+pub write-run : (st : List ℕ) (place at : ℕ) (octets : List ℕ) → place + length octets ≤ length st → place % length st ≡ at % length st
     → putAt st place octets ≡ ringWrite (length st) st at octets
 write-run st place at octets h e =
     put-fits st place octets h ∙ sym (write-near (length st) st place octets h) ∙ write-same (length st) st place at octets e
@@ -105,7 +107,8 @@ write-runs st at first octets e z h k =
     let m : place % room ≡ at % room = mod-eq-of-lt (mod-lt at z) in
     let mid = putAt st place (take first octets) in
     let one : mid ≡ ringWrite room st at (take first octets) = write-run st place at (take first octets) (omega arith) m in
-    let l : length mid ≡ room = ap length (put-fits st place (take first octets) (omega arith)) ∙ length-sets st place (take first octets) in
+    let l : length mid ≡ room =
+    ap length (put-fits st place (take first octets) (omega arith)) ∙ length-sets st place (take first octets) in
     let b : 0 % room ≡ (at + first) % room =
     sym (add-mod-right 0 room) ∙ ap (λ (x : ℕ). x % room) (zero-add room ∙ sym e) ∙ mod-add-mod at room first in
     let two : putAt mid 0 (drop first octets) ≡ ringWrite room mid (at + first) (drop first octets) =
@@ -117,18 +120,13 @@ write-runs st at first octets e z h k =
     ∙ sym (write-join room st at (take first octets) (drop first octets))
     ∙ ap (ringWrite room st at) (take-append-drop first octets)
 
--- octets that do not reach past the end are the first run alone
-pub one-run : (st : List ℕ) (at : ℕ) (octets : List ℕ) → at % length st + length octets ≤ length st
-    → putAt st (at % length st) octets ≡ ringRuns st at octets
-unfolding ringRuns
-one-run st at octets h =
-    let f = length st - at % length st in
-    let x = putAt st (at % length st) octets in
-    let n : length octets ≤ f = omega arith in
-    sym
-    (ap (λ (xs : List ℕ). putAt (putAt st (at % length st) xs) 0 (drop f octets)) (take-all f octets n)
-    ∙ ap (putAt x 0) (drop-of-length-le octets n)
-    ∙ put-fits x 0 [] (omega arith))
+-- of octets that the first run has room for, nothing is left for the second
+one-run : (st : List ℕ) (place first : ℕ) (octets : List ℕ) → length octets ≤ first
+    → putAt (putAt st place (take first octets)) 0 (drop first octets) ≡ putAt st place octets
+one-run st place first octets h =
+    ap (λ (xs : List ℕ). putAt (putAt st place xs) 0 (drop first octets)) (take-all first octets h)
+    ∙ ap (putAt (putAt st place octets) 0) (drop-of-length-le octets h)
+    ∙ put-fits (putAt st place octets) 0 [] (omega arith)
 
 -- Two runs leave every octet of the store as copying octet by octet, modulo its length, leaves it.
 pub two-runs : (st : List ℕ) (at : ℕ) (octets : List ℕ) → 0 < length st → length octets ≤ length st
@@ -144,14 +142,6 @@ two-runs st at octets z k = go (leb (length octets) f) refl
 
     go : (b : Bool) → leb (length octets) f ≡ b → ringRuns st at octets ≡ ringWrite (length st) st at octets
     go true e =
-        let h : at % length st + length octets ≤ length st = omega (arith, leb-true (length octets) f e, l) in
-        sym (one-run st at octets h) ∙ write-run st (at % length st) at octets h (mod-eq-of-lt l)
+        let h : length octets ≤ f = leb-true (length octets) f e in
+        one-run st (at % length st) f octets h ∙ write-run st (at % length st) at octets (omega (arith, l)) (mod-eq-of-lt l)
     go false e = write-runs st at f octets (omega (arith, l)) z (omega (arith, leb-false (length octets) f e)) k
-
--- ---- places in the store
-
--- a place past the end of the store, brought back by its length
-pub place-back : (at room : ℕ) → room ≤ at → (at - room) % room ≡ at % room
-place-back at room h =
-    let e : at - room + room ≡ at = omega arith in
-    sym (add-mod-right (at - room) room) ∙ ap (λ (n : ℕ). n % room) e

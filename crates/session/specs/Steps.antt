@@ -4,7 +4,7 @@ use Prim.Native.Nat.{ℕ, _+_, _-_, _%_, _^_}
 use mathlib.Core.Bool.{Bool, true, false, not, _&&_, _||_, cond}
 use mathlib.Core.List.{List, [], _∷_, _++_}
 use lib.Dec.{eqb, leb, ltb}
-use lib.ListN.{length, getD, take, replicate}
+use lib.ListN.{length, getD, replicate}
 use lib.Seq.{sets}
 use Rattle.octets.specs.Answers.{Check, _when_, judge, done, unsoundState, noSuchServer, otherSession, messageNotAccepted}
 use Rattle.octets.specs.Answers.{bodyLengthWrong, outOfTurn, otherConfiguration, dsnNotAcknowledgeable, outputTooShort, noActiveServer, nothingToSend}
@@ -19,7 +19,7 @@ use Rattle.messages.specs.declared.message.Message.the-variants.{StartNegotiate
 use Rattle.messages.specs.declared.message.DataHead.{DataHead}
 use Rattle.session.specs.Servers.{phaseAt, isClosed, isOffered, canOffer, sameActive, isNobody, changed, settle, freshDelivery}
 use Rattle.session.specs.Servers.{withServers, Transition, start, stop, negotiate, offer, down, agree, malformed, transition, sentOne, acknowledged, ticked}
-use Rattle.session.specs.Queue.{sumOf, heldOctets, ringPlace, recordAt, ringWrite, markedSet, hasOther, pushed, dropFront, marked}
+use Rattle.session.specs.Queue.{heldOctets, ringPlace, recordAt, ringWrite, markedSet, hasOther, pushed, dropFront, marked}
 use Rattle.session.specs.Limits.{maxServers, maxHeld}
 use Rattle.session.specs.Sound.{settingsSound, sound}
 use Rattle.session.specs.declared.state.Phase.{Phase}

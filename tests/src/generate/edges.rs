@@ -12,7 +12,7 @@ use crate::tape::Event;
 const STORES: [u32; 14] =
     [1_024, 1_025, 1_024, 1_026, 1_024, 1_100, 1_024, 1_500, 2_047, 2_048, 4_096, 10_000, 25_000, 65_536];
 
-/// What happens between the puts. No server stops or starts anew, so there is always an active one.
+/// What happens between the puts. No agreed server stops or starts anew, so there is always an active one.
 const BETWEEN: Mix =
     Mix { put: 0, step_up: 0, start: 0, stop: 0, down: 0, negotiate: 0, out_of_turn: 0, odd_put: 0, ..TYPICAL };
 

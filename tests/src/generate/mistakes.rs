@@ -63,7 +63,7 @@ const MISTAKES: [Mistake; 23] = [
     mistake("the first run is one octet too short", |program, event| {
         program.copies(event, |right| right.with_first(|octets| octets - 1))
     }),
-    mistake("the end of the store is taken one place too late", |program, event| {
+    mistake("the octet of place 0 is left out", |program, event| {
         program.copies(event, |right| Runs { second_place: 1, ..right.with_first(|octets| octets + 1) })
     }),
 ];

@@ -130,7 +130,7 @@ impl Step<'_> {
         self.is(NEXT) && are_so(place, queue[*sent].length, *store_length)
     }
 
-    /// How often the records put before this event have gone round the store, and those put after it.
+    /// How often the records put before this event have gone round the store, and how often with its own record.
     fn rounds(&self) -> (usize, usize) {
         let put = if self.is(PUT) { self.record_octets() } else { 0 };
         let store = self.before.store_length;
@@ -164,7 +164,7 @@ impl Step<'_> {
 /// A situation: its name, and whether a step is in it.
 type Situation = (&'static str, fn(&Step) -> bool);
 
-const SITUATIONS: [Situation; 51] = [
+const SITUATIONS: [Situation; 53] = [
     ("a first DATA without D", |step| step.is(NEXT) && step.flags() == 1),
     ("a first DATA with D", |step| step.is(NEXT) && step.flags() == 3),
     ("a later DATA with D", |step| step.is(NEXT) && step.flags() == 2),
@@ -243,6 +243,12 @@ const SITUATIONS: [Situation; 51] = [
     }),
     ("a record that crosses the end by one octet", |step| {
         step.puts(|place, octets, store| place + octets == store + 1)
+    }),
+    ("a record of one octet at the last place", |step| {
+        step.puts(|place, octets, store| place + 1 == store && octets == 1)
+    }),
+    ("a record of one octet at place 0 behind held octets", |step| {
+        step.before.held_octets() > 0 && step.puts(|place, octets, _| place == 0 && octets == 1)
     }),
     ("a record of two octets that crosses the end", |step| {
         step.puts(|place, octets, store| place + 1 == store && octets == 2)

@@ -1,4 +1,5 @@
--- `record_start` meets its contract. The octets before the record end inside the store or reach past its end (laws `start-near`, `start-far`).
+-- `record_start` meets its contract. The octets before the record end inside the store or reach past its end (laws `start-near` and
+-- `start-far`).
 use mathlib.Core.Path.{_∙_}
 use native.Mathlib.Omega.{arith}
 use Rattle.queue.proofs.Rings.{start-outside, start-near, start-far}

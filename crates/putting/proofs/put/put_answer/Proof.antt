@@ -15,7 +15,8 @@ returns-2 : tie.Need-returns-2
 returns-2 c =
     let a = c .before .before .before .before .before .args in
     rw (c .before .before .if1 .left)
-    (refused-first (a .p) (a .capacity) (a .n) (a .held) (a .table .now) (a .id) (a .r .now) (c .before .record-answer .result) (c .before .record-answer .ensures) (c .if2 .taken))
+    (refused-first (a .p) (a .capacity) (a .n) (a .held) (a .table .now) (a .id) (a .r .now)
+    (c .before .record-answer .result) (c .before .record-answer .ensures) (c .if2 .taken))
 
 room-answer-requires : tie.Need-room-answer-requires
 room-answer-requires c κs = search needs
@@ -25,7 +26,8 @@ returns-3 c =
     let a = c .before .before .before .before .before .before .args in
     rw (c .before .before .before .if1 .left)
     (passed-first (a .p) (a .capacity) (a .n) (a .held) (a .table .now) (a .id) (a .r .now)
-    (c .before .before .record-answer .result) (c .before .before .record-answer .ensures) (c .before .if2 .left) (c .room-answer .result) (c .room-answer .ensures))
+    (c .before .before .record-answer .result) (c .before .before .record-answer .ensures) (c .before .if2 .left)
+    (c .room-answer .result) (c .room-answer .ensures))
 
 pub put-answer-spec : {M : Type 1} → statement M
 put-answer-spec =

@@ -38,8 +38,11 @@ returns c =
     let ps = c .before .before .before .before .before .before .before .parts-sound in
     let n = c .before .before .before .before .before .before .octets-to in
     let pa = c .before .before .before .before .before .put-answer in
-    let j = answer-of s (a .store .now) (a .table .now) (a .id) (a .r .now) (ps .result) (n .result) (pa .result) (ps .ensures) (n .ensures) (pa .ensures) in
-    putting-kept s (a .store .now) (a .table .now) (a .id) (a .r .now) (pa .result) (c .refuse-put .result) (c .before .before .before .before .if1 .taken) j (c .refuse-put .ensures)
+    let j =
+    answer-of s (a .store .now) (a .table .now) (a .id) (a .r .now) (ps .result) (n .result) (pa .result)
+    (ps .ensures) (n .ensures) (pa .ensures) in
+    putting-kept s (a .store .now) (a .table .now) (a .id) (a .r .now) (pa .result) (c .refuse-put .result)
+    (c .before .before .before .before .if1 .taken) j (c .refuse-put .ensures)
 
 cast-ring-write : tie.Need-cast-ring-write
 cast-ring-write c = search needs
@@ -51,7 +54,9 @@ add-ring-write c =
     let ps = c .before .before .before .before .parts-sound in
     let n = c .before .before .before .octets-to in
     let pa = c .before .before .put-answer in
-    let j = answer-of s (a .store .now) (a .table .now) (a .id) (a .r .now) (ps .result) (n .result) (pa .result) (ps .ensures) (n .ensures) (pa .ensures) in
+    let j =
+    answer-of s (a .store .now) (a .table .now) (a .id) (a .r .now) (ps .result) (n .result) (pa .result)
+    (ps .ensures) (n .ensures) (pa .ensures) in
     let f = put-known s (a .store .now) (a .table .now) (a .id) (a .r .now) (pa .result) j (c .before .if1 .left) in
     let g = sound-facts s (f .isSound) in
     omega (arith, n .ensures, g .fits, g .numbers .inside, g .numbers .settings .smallRoom)
@@ -66,7 +71,9 @@ cast-t34 c =
     let ps = c .before .before .before .before .before .before .before .parts-sound in
     let n = c .before .before .before .before .before .before .octets-to in
     let pa = c .before .before .before .before .before .put-answer in
-    let j = answer-of s (a .store .now) (a .table .now) (a .id) (a .r .now) (ps .result) (n .result) (pa .result) (ps .ensures) (n .ensures) (pa .ensures) in
+    let j =
+    answer-of s (a .store .now) (a .table .now) (a .id) (a .r .now) (ps .result) (n .result) (pa .result)
+    (ps .ensures) (n .ensures) (pa .ensures) in
     let f = put-known s (a .store .now) (a .table .now) (a .id) (a .r .now) (pa .result) j (c .before .before .before .before .if1 .left) in
     omega (arith, f .short)
 
@@ -77,7 +84,9 @@ add-t33 c =
     let ps = c .before .before .before .before .before .before .before .parts-sound in
     let n = c .before .before .before .before .before .before .octets-to in
     let pa = c .before .before .before .before .before .put-answer in
-    let j = answer-of s (a .store .now) (a .table .now) (a .id) (a .r .now) (ps .result) (n .result) (pa .result) (ps .ensures) (n .ensures) (pa .ensures) in
+    let j =
+    answer-of s (a .store .now) (a .table .now) (a .id) (a .r .now) (ps .result) (n .result) (pa .result)
+    (ps .ensures) (n .ensures) (pa .ensures) in
     let f = put-known s (a .store .now) (a .table .now) (a .id) (a .r .now) (pa .result) j (c .before .before .before .before .if1 .left) in
     omega (arith, f .few)
 
@@ -94,12 +103,16 @@ returns-2 c =
     let ps = c .before .before .before .before .before .before .before .before .parts-sound in
     let n = c .before .before .before .before .before .before .before .octets-to in
     let pa = c .before .before .before .before .before .before .put-answer in
-    let j = answer-of s (a .store .now) (a .table .now) (a .id) (a .r .now) (ps .result) (n .result) (pa .result) (ps .ensures) (n .ensures) (pa .ensures) in
-    let f = put-known s (a .store .now) (a .table .now) (a .id) (a .r .now) (pa .result) j (c .before .before .before .before .before .if1 .left) in
+    let j =
+    answer-of s (a .store .now) (a .table .now) (a .id) (a .r .now) (ps .result) (n .result) (pa .result)
+    (ps .ensures) (n .ensures) (pa .ensures) in
+    let f = put-known s (a .store .now) (a .table .now) (a .id) (a .r .now) (pa .result) j
+    (c .before .before .before .before .before .if1 .left) in
     let g = sound-facts s (f .isSound) in
     let l = stored-inside (a .store .now) _ (a .r .now) (omega (arith, f .short, f .stored, g .numbers .settings .someRoom)) in
-    putting-done s (a .store .now) (a .table .now) (a .id) (a .r .now) (pa .result) _ (n .result) _ j (c .before .before .before .before .before .if1 .left)
-    (rw (c .wrapping-add-u32 .ensures)) (n .ensures) (c .before .before .before .ring-write .ensures ∙ l)
+    putting-done s (a .store .now) (a .table .now) (a .id) (a .r .now) (pa .result) _ (n .result) _ j
+    (c .before .before .before .before .before .if1 .left) (rw (c .wrapping-add-u32 .ensures)) (n .ensures)
+    (c .before .before .before .ring-write .ensures ∙ l)
 
 pub put-change-spec : {M : Type 1} → statement M
 put-change-spec =

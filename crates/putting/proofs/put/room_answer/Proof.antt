@@ -1,7 +1,4 @@
 -- `room_answer` meets its contract. The code makes both tests in the definition's order.
-use native.Mathlib.Omega.{arith}
-use Prim.Native.Nat.{_+_, _<_, _≤_}
-use lib.ListN.{length}
 use borrow.Author.Tests.{le-leb, lt-leb, le-ltb, lt-ltb}
 use borrow.Author.Needs.{needs}
 use Rattle.putting.proofs.put.room_answer.Statement.{statement}

@@ -2,7 +2,7 @@
 -- the beginning on. More octets than places, and no places, leave the store as it was (laws `stored-..`).
 use mathlib.Core.Path.{sym, ap, _∙_}
 use mathlib.Core.List.{List}
-use Prim.Native.Nat.{ℕ, _-_, _<_}
+use Prim.Native.Nat.{ℕ, _-_}
 use native.Mathlib.Nat.{mod-lt}
 use native.Mathlib.Omega.{arith}
 use lib.ListN.{length, take, drop}
@@ -65,13 +65,14 @@ same-length-2 c = search needs
 
 returns-4 : tie.Need-returns-4
 returns-4 c =
-    let a = c .before .before .before .before .before .before .before .before .before .before .before .before .before .before .before .before .args in
-    let w = c .before .before .before .before .before .before .before .before .before .before .before .wrapped in
+    let z = c .before .before .before .before .before .before .before in
+    let w = z .before .before .before .before .wrapped in
+    let a = z .before .before .before .before .before .before .before .before .before .args in
     let st = a .store .now in
     let xs = a .octets .now in
     let f = length st - w .result in
     c .before .before .copy3 .ensures
-    ∙ ap (λ (l : List ℕ). putAt l 0 (take (length xs - f) (drop f xs))) (c .before .before .before .before .before .before .before .copy2 .ensures)
+    ∙ ap (λ (l : List ℕ). putAt l 0 (take (length xs - f) (drop f xs))) (z .copy2 .ensures)
     ∙ ap (putAt (putAt st (w .result) (take f xs)) 0) (take-rest xs f)
     ∙ stored-far st (a .at) xs (w .result) (w .ensures) (omega arith) (omega arith)
 

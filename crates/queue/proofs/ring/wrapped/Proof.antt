@@ -1,7 +1,7 @@
 -- `wrapped` meets its contract. A place below the ring's length is its own remainder; from one past the end the length is taken away first.
 use mathlib.Core.Path.{sym, _∙_}
 use native.Mathlib.Nat.{mod-eq-of-lt}
-use Rattle.session.proofs.Rings.{place-back}
+use Rattle.queue.proofs.Rings.{place-back}
 use borrow.Author.Needs.{needs}
 use Rattle.queue.proofs.ring.wrapped.Statement.{statement}
 use Rattle.queue.proofs.ring.wrapped.Tie as tie
