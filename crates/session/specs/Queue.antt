@@ -30,7 +30,7 @@ ringWrite room store at [] = store
 ringWrite room store at (x ∷ octets) = ringWrite room (set store (at % room) x) (at + 1) octets
 
 -- The store with octets copied in two runs (02, ask 3): from `at` on, modulo its length, up to its end, then the rest from its beginning.
--- Where it has as many places as there are octets, it ends as copying one by one leaves it (law `two-runs`).
+-- With no more octets than it has places, it ends as copying one by one leaves it (law `two-runs`).
 unfoldable pub ringRuns : List ℕ → ℕ → List ℕ → List ℕ
 ringRuns store at octets =
     let place = at % length store in
