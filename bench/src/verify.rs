@@ -133,6 +133,7 @@ pub fn all() -> usize {
         + records(&mut random)
         + messages(&mut random)
         + measured_sessions()
+        + large_stores()
         + drawn_sessions(&mut random)
 }
 
@@ -222,6 +223,22 @@ fn measured_sessions() -> usize {
     };
     compare_beginnings(inputs::GIVEN, lent, &Valid::small(16), &list)
         + compare_beginnings(inputs::GIVEN, lent, &Valid::large(128), &list)
+}
+
+/// Records that go round the largest stores three times, which no tape has room for.
+fn large_stores() -> usize {
+    let list = Events::opening().times(200, |e| e.puts(1).nexts(1).ack(1));
+    let compare = |store, octets| {
+        let lent = Lent {
+            store,
+            out: OUTPUT_OCTETS,
+        };
+        compare_beginnings(inputs::GIVEN, lent, &Valid::small(octets), &list)
+    };
+    [65536, 65535]
+        .iter()
+        .flat_map(|&store| [1024, 1023, 997].map(|octets| compare(store, octets)))
+        .sum()
 }
 
 fn drawn_sessions(random: &mut Random) -> usize {
