@@ -8,9 +8,9 @@ ghost use Rattle.wire.specs.Messages.{readAnswer, readOf, partAt, partOf};
 ghost use Rattle.exports.specs.Numbers.{saying, dataSaying, saidBy, writtenNumber, againPart, againOut};
 use crate::numbers::accepted;
 use crate::numbers::sole_part;
+use wire::header::HEADER_OCTETS;
 use wire::message::DATA_HEAD_OCTETS;
 use wire::message::DataHead;
-use wire::message::HEADER_OCTETS;
 use wire::message::Message;
 use wire::message::Reading;
 use wire::message::Written;
@@ -133,7 +133,7 @@ fn one_of(part: u8, parts: [u64; 10]) -> u64
 }
 
 // The number of what writing a message answers: how many octets were written plus 256, or the refusal.
-fn written_number(written: Written) -> u64
+pub fn written_number(written: Written) -> u64
     ensures { λ n. ⌜ n ≡ writtenNumber written ⌝ }
 {
     match written {

@@ -12,7 +12,7 @@ use lib.Seq.{take-all, sets, length-sets}
 use Rattle.octets.specs.Answers.{judge, done, messageNotAccepted, bodyLengthWrong, outputTooShort, unsoundTable}
 use Rattle.octets.specs.Numbers.{octetsOf, putAt}
 use Rattle.octets.proofs.Stores.{put-fits, put-short, put-then, sets-append}
-use Rattle.messages.specs.Messages.{Form, ofForm, forms, isMessage, bodyFits, messageNumber, versionOf, lengthField, headerChecks, bodyChecks, headerAnswer, readAnswer, sessionOf, meaningOf, readWhere, readTable, readOf, partAt, partOf, tmplData, dataNumber}
+use Rattle.messages.specs.Messages.{Form, ofForm, forms, isMessage, bodyFits, messageNumber, versionOf, lengthField, headerChecks, bodyChecks, headerAnswer, headerAnswerFor, readAnswer, sessionOf, meaningOf, readWhere, readTable, readOf, partAt, partOf, tmplData, dataNumber}
 use Rattle.tables.specs.Table.{tableSound}
 use Rattle.messages.specs.Messages.{headerOctets, protocolVersion, dataHeadLength, maxRecordOctets, headerOctetsOf, messageOf, dataFront, dataHeadOctets, Placed, isTmplData, isData, layoutOf, writeChecks, writeAnswer, writeOf, writeOut, headWriteAnswer, headWriteOut}
 use Rattle.messages.specs.declared.message.DataHead.{DataHead}
@@ -21,25 +21,17 @@ use Rattle.messages.specs.declared.message.Message.the-variants.{TmplDat
 use Rattle.messages.specs.declared.message.Reading.the-variants as reading
 use Rattle.messages.specs.declared.message.Written.{Written}
 use Rattle.messages.specs.declared.message.Written.the-variants as written
+use Rattle.headers.proofs.Headers as shared
 use Rattle.octets.proofs.Judging.{passed, judged-done, judged-first, judged-next}
+use Rattle.octets.proofs.Rows.{Others, not-found}
 use Rattle.octets.proofs.Each.{and-false}
 
 -- ---- rows
 
--- U holds, and no row has the number n; in the form in which the last arm of a match is told it.
-abbrev pub Others : Type 0 → List Form → ℕ → Type 0
-Others U [] n = U
-Others U (r ∷ rows) n = Others (U × (n ≡ r .number → ⊥)) rows n
-
-pub no-row : (U : Type 0) (f : Form → Bool) (rows : List Form) (n : ℕ) → Others U rows n → (ofForm f rows n ≡ false) × U
-no-row U f [] n h = (refl, h)
-no-row U f (r ∷ rows) n h =
-    let p = no-row (U × (n ≡ r .number → ⊥)) f rows n h in
-    (rw (ne-eqb n (r .number) (p .1 .1)) (p .0), p .1 .0)
-
-pub no-message : (n : ℕ) → Others (Unit {0}) forms n → isMessage n ≡ false
+-- a number that no row has is no message's
+pub no-message : (n : ℕ) → Others (λ (f : Form). f .number) (Unit {0}) forms n → isMessage n ≡ false
 unfolding isMessage
-no-message n h = no-row (Unit {0}) (λ f. true) forms n h .0
+no-message n h = not-found (λ (f : Form). f .number) (Unit {0}) (λ f. true) false forms n h .0
 
 -- ---- a message that can be read
 
@@ -54,18 +46,17 @@ pub record Readable (m : List ℕ) : Type 0 where
 
 -- a header's refusal is the message's
 pub header-refused : (m : List ℕ) → (headerAnswer m ≡ done → ⊥) → readAnswer m ≡ headerAnswer m
-unfolding headerAnswer readAnswer
+unfolding headerAnswerFor readAnswer
 header-refused m h = judged-first (headerChecks m) (bodyChecks m) h
 
 -- where the header is not refused, the body is judged
 pub header-passed : (m : List ℕ) → headerAnswer m ≡ done → readAnswer m ≡ judge (bodyChecks m)
-unfolding headerAnswer readAnswer
+unfolding headerAnswerFor readAnswer
 header-passed m h = judged-next (headerChecks m) (bodyChecks m) tt h
 
 -- a header that is not refused has 8 octets
 pub header-long : (m : List ℕ) → headerAnswer m ≡ done → headerOctets ≤ length m
-unfolding headerAnswer
-header-long m h = ltb-false (length m) 8 (passed (headerChecks m) tt h .0)
+header-long m h = shared.header-long protocolVersion m h
 
 -- ---- what is read behind a header that is not refused
 
@@ -228,8 +219,8 @@ unfolding writeOf writeOut
 refused m part out a h e = (rw (e, ne-eqb a done h), rw (e, ne-eqb a done h))
 
 pub message-length : (number session : ℕ) (body : List ℕ) → length (messageOf number session body) ≡ headerOctets + length body
-unfolding messageOf octetsOf
-message-length number session body = omega arith
+unfolding messageOf
+message-length number session body = shared.message-length protocolVersion number session body
 
 -- a DATA message is what stands in front of its record, then the record
 pub data-layout : (h : DataHead) (part : List ℕ) → layoutOf (Data h) part ≡ dataHeadOctets h (length part) ++ part

@@ -13,7 +13,7 @@ use lib.Seq.{sets, sets-eq, drop-cons, drop-drop, take-at, drop-at}
 use Rattle.octets.specs.Answers.{done}
 use Rattle.octets.specs.Numbers.{numberOf, uintAt, octetsOf, Octets}
 use Rattle.octets.proofs.Numbers.{uint-one, uint-append, uint-front, read-back, write-back}
-use Rattle.messages.specs.Messages.{Form, ofForm, forms, isMessage, bodyFits, messageNumber, sessionOf, headerOctetsOf, messageOf, dataFront, flagsOf, flagFirst, flagDuplicate, layoutOf}
+use Rattle.messages.specs.Messages.{protocolVersion, Form, forms, isMessage, bodyFits, messageNumber, sessionOf, headerOctetsOf, messageOf, dataFront, flagsOf, flagFirst, flagDuplicate, layoutOf}
 use Rattle.messages.specs.Messages.{start, startAck, stop, stopAck, tmplData, finalTmplDataAck, startNegotiate, startNegotiateAck, dataNumber, dataAck}
 use Rattle.messages.specs.Messages.{maxRecordOctets, headerAnswer, headerOf, readAnswer, dataHeadOf, meaningOf, readOf, partAt, partOf, writeAnswer, writeOf, writeOut, headWriteAnswer, headWriteOf, isData, isTmplData}
 use Rattle.messages.specs.Messages.{writeChecks, carried, carriedAt, Writable, Plain, headerReadingAnswer, readingAnswer, writtenAnswer}
@@ -21,40 +21,42 @@ use Rattle.tables.specs.Table.{tableSound}
 use Rattle.messages.specs.declared.message.DataHead.{DataHead}
 use Rattle.messages.specs.declared.message.Message.{Message}
 use Rattle.messages.specs.declared.message.Message.the-variants.{Start, StartAck, Stop, StopAck, TmplData, FinalTmplDataAck, StartNegotiate, StartNegotiateAck, Data, DataAck}
-use Rattle.messages.specs.declared.message.HeaderReading.the-variants as header
 use Rattle.messages.specs.declared.message.Reading.the-variants as reading
 use Rattle.messages.specs.declared.message.Written.the-variants as written
 use Rattle.octets.proofs.Judging.{passed, judged-done, kept}
 use Rattle.messages.proofs.Messages.{not-both, Readable, readable, reads, part-of-data, part-of-table, part-of-other, message-length}
 use Rattle.tables.proofs.Tables.{table-facts}
+use Rattle.octets.proofs.Rows.{EachRow, none, _and_, each-row}
+use Rattle.headers.proofs.Headers as shared
+use Rattle.headers.proofs.Headers.{cut, cut-one}
 
 -- ---- reading the octets of a layout
 
 module _ (n s : ℕ) (body : List ℕ) where
   number-of : messageNumber (messageOf n s body) ≡ n
   unfolding messageOf
-  number-of = uint-one _ 1
+  number-of = shared.number-of protocolVersion n s body
 
   session-of : sessionOf (messageOf n s body) ≡ s
   unfolding messageOf
-  session-of = uint-one _ 2
+  session-of = shared.session-of protocolVersion n s body
 
   body-of : drop 8 (messageOf n s body) ≡ body
-  unfolding messageOf octetsOf
-  body-of = refl
+  unfolding messageOf
+  body-of = shared.body-of protocolVersion n s body
 
   -- a number of the body, at its place of the message
   at-body : (k w : ℕ) → uintAt (messageOf n s body) (8 + k) w ≡ uintAt body k w
-  unfolding messageOf octetsOf
-  at-body k w = uint-append (headerOctetsOf n s (8 + length body)) body k w
+  unfolding messageOf
+  at-body k w = shared.at-body protocolVersion n s body k w
 
   field-of : 8 + length body < 2 ^ 32 → uintAt (messageOf n s body) 4 4 ≡ length (messageOf n s body)
-  unfolding messageOf octetsOf uintAt numberOf
-  field-of h = read-back 4 (8 + length body) h ∙ sym (message-length n s body)
+  unfolding messageOf
+  field-of h = shared.field-of protocolVersion n s body h
 
   version-of : uintAt (messageOf n s body) 0 1 ≡ 1
   unfolding messageOf
-  version-of = uint-one _ 0
+  version-of = shared.version-of protocolVersion n s body
 
   -- a message with a known number, a body that fits it and, if it is a table, a sound one, is not refused
   answered : 8 + length body < 2 ^ 32 → isMessage n ≡ true → bodyFits n (length body) ≡ true → (n ≡ tmplData → tableSound body ≡ true)
@@ -188,17 +190,6 @@ reads-back (DataAck s dsn config) part w =
 
 -- ---- splitting a message into its fields
 
--- one octet, then the rest
-cut-one : (m : List ℕ) (at : ℕ) → at < length m → drop at m ≡ uintAt m at 1 ∷ drop (suc at) m
-cut-one m at h = drop-cons m at 0 h ∙ ap (λ (x : ℕ). x ∷ drop (suc at) m) (sym (uint-one m at))
-
--- the octets of a number, then the rest
-cut : (m : List ℕ) → Octets m → (at w : ℕ) → at + w ≤ length m → drop at m ≡ octetsOf w (uintAt m at w) ++ drop (at + w) m
-cut m octet at w h =
-    sym (take-append-drop w (drop at m))
-    ∙ ap (λ (l : List ℕ). take w (drop at m) ++ l) (drop-drop w at m)
-    ∙ ap (λ (l : List ℕ). l ++ drop (at + w) m) (sym (write-back m octet at w h))
-
 -- S and D are all of flags below 4
 flags-back : (f : ℕ) → f < 4 → flagsOf (flagFirst f) (flagDuplicate f) ≡ f
 flags-back zero h = refl
@@ -206,22 +197,6 @@ flags-back (suc zero) h = refl
 flags-back (suc (suc zero)) h = refl
 flags-back (suc (suc (suc zero))) h = refl
 flags-back (suc (suc (suc (suc f)))) h = absurd (omega arith)
-
--- A claim for the number of every row.
-infixr 20 _and_
-data EachRow (P : ℕ → Type 0) : List Form → Type 0 where
-  none : EachRow P []
-  _and_ : {row : Form} {rows : List Form} → P (row .number) → EachRow P rows → EachRow P (row ∷ rows)
-
--- what holds of every row's number holds of every number that a row has
-by-test : (P : ℕ → Type 0) (n k : ℕ) (b rest : Bool) → eqb n k ≡ b → P k → (rest ≡ true → P n) → cond b true rest ≡ true → P n
-by-test P n k true rest q h next e = subst P (sym (eqb-true n k q)) h
-by-test P n k false rest q h next e = next e
-
-each-row : (P : ℕ → Type 0) (rows : List Form) → EachRow P rows → (n : ℕ) → ofForm (λ f. true) rows n ≡ true → P n
-each-row P [] none n e = let z : _≡_ {A = ℕ} 0 1 = cc in absurd (omega arith)
-each-row P (row ∷ rows) (h and hs) n e =
-    by-test P n (row .number) (eqb n (row .number)) (ofForm (λ f. true) rows n) refl h (λ q. each-row P rows hs n q) e
 
 module _ (m : List ℕ) (octet : Octets m) (answer : readAnswer m ≡ done) (plain : Plain m) where
   abbrev s : ℕ
@@ -234,16 +209,7 @@ module _ (m : List ℕ) (octet : Octets m) (answer : readAnswer m ≡ done) (pla
   whole : m ≡ messageOf (messageNumber m) s (drop 8 m)
   unfolding messageOf
   whole =
-      let l = r .long in
-      let n : uintAt m 4 4 ≡ 8 + length (drop 8 m) = omega (arith, r .field, length-drop 8 m) in
-      let a = cut-one m 0 (omega arith) in
-      let b = cut-one m 1 (omega arith) in
-      let d = cut-one m 2 (omega arith) in
-      let e = cut-one m 3 (omega arith) in
-      let f = cut m octet 4 4 l in
-      let v = r .version in
-      let z = plain .flags in
-      cc
+      shared.taken-apart protocolVersion m octet (record { long = r .long; right = r .version; whole = r .field }) (plain .flags)
 
   -- a message with a given number and body
   with-body : (n : ℕ) (body : List ℕ) → messageNumber m ≡ n → drop 8 m ≡ body → m ≡ messageOf n s body
@@ -302,7 +268,7 @@ module _ (m : List ℕ) (octet : Octets m) (answer : readAnswer m ≡ done) (pla
   data-whole : messageNumber m ≡ dataNumber → leb 8 (length m - 8) ≡ true → drop 8 m ≡ dataFront (dataHeadOf m) ++ partOf m
   data-whole e l = data-body e l ∙ ap (λ (x : List ℕ). dataFront (dataHeadOf m) ++ x) (sym (part-of-data m answer e .1))
 
-  by-number : EachRow (λ n. messageNumber m ≡ n → m ≡ layoutOf (meaningOf m) (partOf m)) forms
+  by-number : EachRow (λ (f : Form). f .number) (λ f. messageNumber m ≡ f .number → m ≡ layoutOf (meaningOf m) (partOf m)) forms
   unfolding layoutOf meaningOf dataHeadOf bodyFits
   by-number =
       (λ (e : messageNumber m ≡ start). says (Start s) (rw e) (bare start e (fitting start e)))
@@ -320,12 +286,12 @@ module _ (m : List ℕ) (octet : Octets m) (answer : readAnswer m ≡ done) (pla
   -- ---- THE OTHER WAY: a message that reads without refusal, whose flags and reserved octets are 0, is the layout of what it says.
   pub is-layout : m ≡ layoutOf (meaningOf m) (partOf m)
   unfolding isMessage
-  is-layout = each-row (λ n. messageNumber m ≡ n → m ≡ layoutOf (meaningOf m) (partOf m)) forms by-number (messageNumber m) (r .known) refl
+  is-layout =
+      each-row (λ (f : Form). f .number) (λ n. messageNumber m ≡ n → m ≡ layoutOf (meaningOf m) (partOf m)) forms by-number (messageNumber m) (r .known) refl
 
 -- ---- THE ANSWER NUMBERS: the number of an answer that is an enum is the answer number that it was made from.
 pub header-number : (m : List ℕ) → headerReadingAnswer (headerOf m) ≡ headerAnswer m
-unfolding headerOf
-header-number m = kept headerReadingAnswer _ header.Refused refl (λ a. refl) (headerAnswer m)
+header-number m = shared.header-number protocolVersion m
 
 pub reading-number : (m : List ℕ) → readingAnswer (readOf m) ≡ readAnswer m
 unfolding readOf
@@ -351,7 +317,7 @@ writes m part room w h =
       ),
     )
 
-done-out : (m : Message) (part out : List ℕ) → writeAnswer m part (length out) ≡ done → writeOut m part out ≡ sets out 0 (layoutOf m part)
+pub done-out : (m : Message) (part out : List ℕ) → writeAnswer m part (length out) ≡ done → writeOut m part out ≡ sets out 0 (layoutOf m part)
 unfolding writeOut
 done-out m part out h = rw h
 
@@ -363,11 +329,7 @@ done-fits m part out h = ltb-false (length out) (length (layoutOf m part)) (pass
 pub written-out : (m : Message) (part out : List ℕ) → writeAnswer m part (length out) ≡ done
     → (take (length (layoutOf m part)) (writeOut m part out) ≡ layoutOf m part)
     × (drop (length (layoutOf m part)) (writeOut m part out) ≡ drop (length (layoutOf m part)) out)
-written-out m part out h =
-    let l = layoutOf m part in
-    let e : writeOut m part out ≡ l ++ drop (length l) out =
-    done-out m part out h ∙ sets-eq l out 0 (omega (arith, done-fits m part out h)) ∙ ap (λ (k : ℕ). l ++ drop k out) (zero-add (length l)) in
-    (ap (take (length l)) e ∙ take-at l (drop (length l) out) (length l) refl, ap (drop (length l)) e ∙ drop-at l (drop (length l) out) (length l) refl)
+written-out m part out h = rw (done-out m part out h) (shared.output-begins (layoutOf m part) out (done-fits m part out h))
 
 -- So what was written to an output with room reads back from there, and its part is handed back at its place.
 pub wrote-reads : (m : Message) (part out : List ℕ) → Writable m part → length (layoutOf m part) ≤ length out

@@ -6,46 +6,26 @@ use mathlib.Core.List.{List, [], _∷_, _++_}
 use lib.Dec.{eqb, leb, ltb}
 use lib.ListN.{length, drop}
 use lib.Seq.{sets}
-use Rattle.octets.specs.Answers.{Check, _when_, judge, done, shortMessage, otherVersion, lengthDiffers, messageNotAccepted, bodyLengthWrong, outputTooShort, recordTooLong, unsoundTable}
+use Rattle.octets.specs.Answers.{Check, _when_, judge, done, messageNotAccepted, bodyLengthWrong, outputTooShort, recordTooLong, unsoundTable}
 use Rattle.octets.specs.Numbers.{uintAt, octetsOf, putAt}
 use Rattle.octets.specs.Each.{lookUp}
 use Rattle.tables.specs.Table.{tableSound}
+pub use Rattle.headers.specs.Headers.{headerOctets, versionOf, messageNumber, sessionOf, lengthField, headerFor, messageFor, headerChecksFor, headerReadingAnswer}
+unfoldable pub use Rattle.headers.specs.Headers.{headerAnswerFor, headerReadingFor}
+use Rattle.headers.specs.declared.header.HeaderReading.{HeaderReading}
 use Rattle.messages.specs.declared.message.DataHead.{DataHead}
 use Rattle.messages.specs.declared.message.Message.{Message}
 use Rattle.messages.specs.declared.message.Message.the-variants.{Start, StartAck, Stop, StopAck, TmplData, FinalTmplDataAck, StartNegotiate, StartNegotiateAck, Data, DataAck}
-use Rattle.messages.specs.declared.message.Header.{Header}
-use Rattle.messages.specs.declared.message.HeaderReading.{HeaderReading}
-use Rattle.messages.specs.declared.message.HeaderReading.the-variants as header
 use Rattle.messages.specs.declared.message.Reading.{Reading}
 use Rattle.messages.specs.declared.message.Reading.the-variants as reading
 use Rattle.messages.specs.declared.message.Written.{Written}
 use Rattle.messages.specs.declared.message.Written.the-variants as written
 
--- ---- the header (01, "Messages")
-
--- Octets of the header.
-abbrev pub headerOctets : ℕ
-headerOctets = 8
+-- ---- the header (01, "Messages"), which is the shared one with version 1
 
 -- The version that every header names.
 abbrev pub protocolVersion : ℕ
 protocolVersion = 1
-
--- Octet 0: the version.
-abbrev pub versionOf : List ℕ → ℕ
-versionOf m = uintAt m 0 1
-
--- Octet 1: the message number.
-abbrev pub messageNumber : List ℕ → ℕ
-messageNumber m = uintAt m 1 1
-
--- Octet 2: the session.
-abbrev pub sessionOf : List ℕ → ℕ
-sessionOf m = uintAt m 2 1
-
--- Octets 4 to 7: the length of the whole message; octet 3, the message flags, is not read.
-abbrev pub lengthField : List ℕ → ℕ
-lengthField m = uintAt m 4 4
 
 -- ---- the table of messages (01, "Messages")
 
@@ -123,11 +103,11 @@ bodyFits n body = ofForm (λ f. cond (f .more) (leb (f .body) body) (eqb body (f
 
 -- Version, message number, session, message flags 0, the length of the whole message.
 abbrev pub headerOctetsOf : ℕ → ℕ → ℕ → List ℕ
-headerOctetsOf number session len = protocolVersion ∷ number ∷ session ∷ 0 ∷ octetsOf 4 len
+headerOctetsOf number session len = headerFor protocolVersion number session len
 
 -- The header, then the body.
 unfoldable pub messageOf : ℕ → ℕ → List ℕ → List ℕ
-messageOf number session body = headerOctetsOf number session (headerOctets + length body) ++ body
+messageOf number session body = messageFor protocolVersion number session body
 
 -- The S flag of DATA.
 abbrev pub sFlag : ℕ
@@ -170,22 +150,15 @@ layoutOf (DataAck s dsn config) part = messageOf dataAck s (octetsOf 4 dsn ++ (c
 
 -- The header is judged 3, 4, 5.
 abbrev pub headerChecks : List ℕ → List Check
-headerChecks m =
-    (shortMessage when ltb (length m) headerOctets)
-    ∷ (otherVersion when not (eqb (versionOf m) protocolVersion))
-    ∷ (lengthDiffers when not (eqb (lengthField m) (length m)))
-    ∷ []
+headerChecks m = headerChecksFor protocolVersion m
 
 -- The answer number of reading a header alone.
-unfoldable pub headerAnswer : List ℕ → ℕ
-headerAnswer m = judge (headerChecks m)
+abbrev pub headerAnswer : List ℕ → ℕ
+headerAnswer m = headerAnswerFor protocolVersion m
 
 -- Reading a header alone: its session and message number, or the refusal.
-unfoldable pub headerOf : List ℕ → HeaderReading
-headerOf m =
-    cond (eqb (headerAnswer m) done)
-    (header.Header (record { session = sessionOf m; number = messageNumber m }))
-    (header.Refused (headerAnswer m))
+abbrev pub headerOf : List ℕ → HeaderReading
+headerOf m = headerReadingFor protocolVersion m
 
 -- Its body is judged 7, 8, then 21 for the table of a TMPL DATA.
 abbrev pub bodyChecks : List ℕ → List Check
@@ -366,11 +339,6 @@ pub record Plain (m : List ℕ) : Type 0 where
   pub unused : messageNumber m ≡ dataAck → uintAt m 13 3 ≡ 0
 
 -- ---- the answer numbers of the answers that are enums
-
--- The answer number of reading a header: 0, or the refusal's.
-abbrev pub headerReadingAnswer : HeaderReading → ℕ
-headerReadingAnswer (header.Header h) = done
-headerReadingAnswer (header.Refused a) = a
 
 -- The answer number of reading a message: 0, or the refusal's.
 abbrev pub readingAnswer : Reading → ℕ

@@ -1,7 +1,5 @@
 // CRANE's messages: what each says, its number, and the lengths of its parts.
-
-// The octets of a message's header.
-pub const HEADER_OCTETS: usize = 8;
+use headers::header::HEADER_OCTETS;
 
 // The octets of a DATA message's body in front of its record.
 pub const DATA_FRONT_OCTETS: usize = 8;
@@ -95,18 +93,6 @@ impl Message {
 
     // DATA ACK: a DSN and a Configuration ID.
     pub const DATA_ACK: u8 = 0x21;
-}
-
-// What a message's header says.
-pub struct Header {
-    pub session: u8,
-    pub number: u8,
-}
-
-// What reading a header answers.
-pub enum HeaderReading {
-    Header(Header),
-    Refused(u8),
 }
 
 // What reading a message answers.

@@ -22,7 +22,7 @@ noSuchServer = 2
 abbrev pub shortMessage : ℕ
 shortMessage = 3
 
--- 4: a version other than 1.
+-- 4: a version other than the edition's: 1 for CRANE, 2 for IPDR/SP.
 abbrev pub otherVersion : ℕ
 otherVersion = 4
 
@@ -38,7 +38,7 @@ otherSession = 6
 abbrev pub messageNotAccepted : ℕ
 messageNotAccepted = 7
 
--- 8: the body has not its message's length.
+-- 8: the body has not its message's length, or a length in it is not that of the octets behind it.
 abbrev pub bodyLengthWrong : ℕ
 bodyLengthWrong = 8
 
@@ -74,7 +74,7 @@ templateNotFound = 15
 abbrev pub recordInvalid : ℕ
 recordInvalid = 16
 
--- 17: the record has more than 1,024 octets.
+-- 17: the record, or the text, has more than 1,024 octets.
 abbrev pub recordTooLong : ℕ
 recordTooLong = 17
 

@@ -2,4 +2,5 @@
 pub use Rattle.numbers.proofs.Numbers
 pub use Rattle.numbers.proofs.Stores
 pub use Rattle.numbers.proofs.Each
+pub use Rattle.numbers.proofs.Rows
 pub use Rattle.numbers.proofs.Judging

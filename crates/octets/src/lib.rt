@@ -41,7 +41,7 @@ impl Answer {
     // 3: fewer than 8 octets.
     pub const SHORT_MESSAGE: u8 = 3;
 
-    // 4: a version other than 1.
+    // 4: a version other than the edition's: 1 for CRANE, 2 for IPDR/SP.
     pub const OTHER_VERSION: u8 = 4;
 
     // 5: the length field is not the number of octets given.
@@ -53,7 +53,7 @@ impl Answer {
     // 7: a message number that is not accepted here.
     pub const MESSAGE_NOT_ACCEPTED: u8 = 7;
 
-    // 8: the body has not its message's length.
+    // 8: the body has not its message's length, or a length in it is not that of the octets behind it.
     pub const BODY_LENGTH_WRONG: u8 = 8;
 
     // 9: not this server's or this message's turn.
@@ -80,7 +80,7 @@ impl Answer {
     // 16: the record, or the value, is not valid under its template or type.
     pub const RECORD_INVALID: u8 = 16;
 
-    // 17: the record has more than 1,024 octets.
+    // 17: the record, or the text, has more than 1,024 octets.
     pub const RECORD_TOO_LONG: u8 = 17;
 
     // 18: 64 records are held.

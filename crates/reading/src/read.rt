@@ -8,49 +8,25 @@ ghost use Rattle.octets.specs.Answers.{done, Answered};
 ghost use Rattle.messages.specs.Messages.{headerOctets, dataHeadLength, sessionOf, headerAnswer, headerOf, readWhere, readTable, dataHeadOf, readOf, partAt, partOf};
 ghost use Rattle.messages.specs.Messages.{headerReadingAnswer, readAnswer, readingAnswer};
 ghost use Rattle.messages.specs.declared.message.Message.the-variants.{StartAck, FinalTmplDataAck, Data, DataAck};
+use headers::header::HEADER_OCTETS;
+use headers::header::HeaderReading;
+use headers::header::header_answer;
 use messages::message::DATA_ACK_BODY;
 use messages::message::DATA_FRONT_OCTETS;
 use messages::message::DATA_HEAD_OCTETS;
 use messages::message::DataHead;
 use messages::message::FINAL_TMPL_DATA_ACK_BODY;
-use messages::message::HEADER_OCTETS;
-use messages::message::Header;
-use messages::message::HeaderReading;
 use messages::message::Message;
 use messages::message::Reading;
 use messages::message::START_ACK_BODY;
 use messages::message::VERSION;
 use octets::Answer;
 
-// 0 for a whole header whose length field is right, else 3, 4 or 5.
-fn header_answer(message: &[u8]) -> u8
-    ensures { λ r. ⌜ r ≡ headerAnswer (now (message .entry)) ⌝ }
-{
-    if message.len() < HEADER_OCTETS {
-        return Answer::SHORT_MESSAGE;
-    }
-    if message[0] != VERSION {
-        return Answer::OTHER_VERSION;
-    }
-    let len = octets::u32_of(message[4], message[5], message[6], message[7]);
-    if len as usize != message.len() {
-        return Answer::LENGTH_DIFFERS;
-    }
-    Answer::DONE
-}
-
 // Reads a message's header alone: its session and number, or 3, 4 or 5.
 pub fn read_header(message: &[u8]) -> HeaderReading
     ensures { λ r. ⌜ Answered headerReadingAnswer r (headerOf (now (message .entry))) (headerAnswer (now (message .entry))) ⌝ }
 {
-    let answer = header_answer(message);
-    if answer == Answer::DONE {
-        return HeaderReading::Header(Header {
-            session: message[2],
-            number: message[1],
-        });
-    }
-    HeaderReading::Refused(answer)
+    headers::header::read_header(VERSION, message)
 }
 
 // Reads a message whose body has `body` octets, which says `meaning` where it has none.
@@ -178,7 +154,7 @@ fn read_body(message: &[u8]) -> Reading
 pub fn read_message(message: &[u8]) -> Reading
     ensures { λ r. ⌜ Answered readingAnswer r (readOf (now (message .entry))) (readAnswer (now (message .entry))) ⌝ }
 {
-    let answer = header_answer(message);
+    let answer = header_answer(VERSION, message);
     if answer != Answer::DONE {
         return Reading::Refused(answer);
     }
@@ -191,7 +167,7 @@ pub fn message_part(message: &[u8]) -> &[u8]
     ensures { λ r. ⌜ (now r ≡ partOf (now (message .entry)))
         × ((r .ptr .0 ≡ message .entry .ptr .0) × (r .ptr .1 ≡ partAt (now (message .entry)) + message .entry .ptr .1)) ⌝ }
 {
-    if header_answer(message) != Answer::DONE {
+    if header_answer(VERSION, message) != Answer::DONE {
         return &message[..0];
     }
     let number = message[1];

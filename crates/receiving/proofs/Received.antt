@@ -10,10 +10,10 @@ use lib.Dec.{eqb}
 use lib.ListN.{length}
 use Rattle.octets.specs.Answers.{Check, _when_, judge, done, otherSession, messageNotAccepted, bodyLengthWrong}
 use Rattle.octets.proofs.Judging.{judged-first, judged-next}
-use Rattle.wire.specs.Messages.{headerChecks, headerAnswer, headerOf, headerOctets, readAnswer, readOf, sessionOf, messageNumber, isMessage, bodyFits, meaningOf, tmplData}
+use Rattle.wire.specs.Messages.{headerChecks, headerAnswer, headerOf, headerAnswerFor, headerReadingFor, headerOctets, readAnswer, readOf, sessionOf, messageNumber, isMessage, bodyFits, meaningOf, tmplData}
 use Rattle.messages.specs.declared.message.Message.{Message}
-use Rattle.messages.specs.declared.message.Header.{Header}
-use Rattle.messages.specs.declared.message.HeaderReading.the-variants as header
+use Rattle.headers.specs.declared.header.Header.{Header}
+use Rattle.headers.specs.declared.header.HeaderReading.the-variants as header
 use Rattle.messages.specs.declared.message.Reading.the-variants as reading
 use Rattle.wire.proofs.Messages.{header-passed}
 use Rattle.session.specs.Servers.{malformed}
@@ -83,7 +83,7 @@ module _ (p : Settings) (v : ℕ) (m : List ℕ) where
       ∷ []
 
   pub request-refused : (a : ℕ) → headerOf m ≡ header.Refused a → move v (malformed a) ≡ received p v m
-  unfolding headerOf headerAnswer formAnswer
+  unfolding headerReadingFor headerAnswerFor formAnswer
   request-refused a e =
       let q = refusal-told (eqb (headerAnswer m) done) (record { session = sessionOf m; number = messageNumber m }) (headerAnswer m) a e in
       let h : a ≡ done → ⊥ = λ z. eqb-false (headerAnswer m) done (q .0) (q .1 ∙ z) in
@@ -91,13 +91,13 @@ module _ (p : Settings) (v : ℕ) (m : List ℕ) where
 
   module _ (h : Header) (e : headerOf m ≡ header.Header h) where
     facts : (headerAnswer m ≡ done) × ((sessionOf m ≡ h .session) × (messageNumber m ≡ h .number))
-    unfolding headerOf
+    unfolding headerReadingFor
     facts =
         let q = header-told (eqb (headerAnswer m) done) h (record { session = sessionOf m; number = messageNumber m }) (headerAnswer m) e in
         (eqb-true (headerAnswer m) done (q .0), (ap (λ (x : Header). x .session) (q .1), ap (λ (x : Header). x .number) (q .1)))
 
     behind : formAnswer p m ≡ judge rest
-    unfolding headerAnswer formAnswer
+    unfolding headerAnswerFor formAnswer
     behind = judged-next (headerChecks m) rest tt (facts .0)
 
     pub request-session : (h .session ≡ p .session → ⊥) → move v (malformed otherSession) ≡ received p v m

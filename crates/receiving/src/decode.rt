@@ -7,7 +7,7 @@ ghost use Rattle.receiving.specs.Requests.{callOfRequest, callOfReading}
 use octets::Answer;
 use session::state::Settings;
 use transitions::transition::Move;
-use wire::message::HeaderReading;
+use wire::header::HeaderReading;
 use wire::message::Message;
 use wire::message::Reading;
 

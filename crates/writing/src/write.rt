@@ -9,12 +9,12 @@ ghost use Rattle.octets.specs.Numbers.{octetsOf};
 ghost use Rattle.messages.specs.Messages.{headerOctets, dataHeadLength, maxRecordOctets, headerOctetsOf, dataHeadOctets, messageOf, flagsOf};
 ghost use Rattle.messages.specs.Messages.{startAck, finalTmplDataAck, dataAck, Placed, headWriteAnswer, headWriteOf, headWriteOut, writeAnswer, writeOf, writeOut, writtenAnswer};
 ghost use Rattle.messages.specs.declared.message.Message.the-variants.{TmplData, Data};
+use headers::header::HEADER_OCTETS;
 use messages::message::D_FLAG;
 use messages::message::DATA_ACK_OCTETS;
 use messages::message::DATA_HEAD_OCTETS;
 use messages::message::DataHead;
 use messages::message::FINAL_TMPL_DATA_ACK_OCTETS;
-use messages::message::HEADER_OCTETS;
 use messages::message::MAX_RECORD_OCTETS;
 use messages::message::Message;
 use messages::message::S_FLAG;
@@ -23,16 +23,12 @@ use messages::message::VERSION;
 use messages::message::Written;
 use octets::Answer;
 
-// The header of a message of `len` octets.
+// The header of a message of `len` octets, to an output with room for it.
 fn put_header(number: u8, session: u8, len: u32, out: &mut [u8])
     requires { ⌜ headerOctets ≤ length (now out) ⌝ }
     ensures { λ _. ⌜ now (out .exit) ≡ sets (now (out .entry)) 0 (headerOctetsOf number session len) ⌝ }
 {
-    out[0] = VERSION;
-    out[1] = number;
-    out[2] = session;
-    out[3] = 0;
-    octets::put_u32(out, 4, len);
+    headers::header::put_header(VERSION, number, session, len, out);
 }
 
 // Writes the message with a number that has no body.

@@ -1,45 +1,25 @@
--- `put_header` meets its contract: four octets are stored, and behind them the length, which has room.
+-- `put_header` meets its contract: the shared header with CRANE's version fits the output.
 use mathlib.Core.Path.{_∙_}
 use native.Mathlib.Omega.{arith}
 use borrow.Author.Needs.{needs}
-use lib.ListN.{length-set}
-use Rattle.octets.proofs.Stores.{put-fits}
-use Rattle.octets.proofs.Numbers.{octets-length}
 use Rattle.octets.specs.Numbers.{octetsOf}
+use Rattle.octets.proofs.Stores.{put-fits}
+use Rattle.messages.specs.Messages.{headerOctetsOf}
 use Rattle.writing.proofs.write.put_header.Statement.{statement}
 use Rattle.writing.proofs.write.put_header.Tie as tie
 
-slice-write-out : tie.Need-slice-write-out
-slice-write-out c = search needs
-
-slice-write-out-2 : tie.Need-slice-write-out-2
-slice-write-out-2 c = simp length-set (omega arith)
-
-slice-write-out-3 : tie.Need-slice-write-out-3
-slice-write-out-3 c = simp length-set (omega arith)
-
-slice-write-out-4 : tie.Need-slice-write-out-4
-slice-write-out-4 c = simp length-set (omega arith)
-
-put-u32-requires : tie.Need-put-u32-requires
-put-u32-requires c κs = search needs
+put-header-requires : tie.Need-put-header-requires
+put-header-requires c κs = search needs
 
 same-length : tie.Need-same-length
-same-length c = c .before .before .put-u32 .kept .0 ∙ simp length-set
+same-length c = search needs
 
 returns : tie.Need-returns
+unfolding octetsOf
 returns c =
-    let v = c .before .before .before .before .before .args .len in
-    c .before .before .put-u32 .ensures ∙ put-fits _ 4 (octetsOf 4 v) (simp length-set (omega (arith, octets-length 4 v)))
+    let a = c .before .before .before .before .before .args in
+    c .before .before .put-header .ensures
+    ∙ put-fits (a .out .now) 0 (headerOctetsOf (a .number) (a .session) (a .len)) (omega arith)
 
 pub put-header-spec : {M : Type 1} → statement M
-put-header-spec =
-    tie.close
-    (tie.spec
-    slice-write-out
-    slice-write-out-2
-    slice-write-out-3
-    slice-write-out-4
-    put-u32-requires
-    same-length
-    returns)
+put-header-spec = tie.close (tie.spec put-header-requires same-length returns)

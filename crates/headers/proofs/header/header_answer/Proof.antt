@@ -2,20 +2,20 @@
 use mathlib.Core.Path.{refl, _∙_}
 use borrow.Author.Tests.{lt-ltb, le-ltb, eq-eqb, ne-eqb}
 use Rattle.octets.proofs.Numbers.{uint-one, uint-four}
-use Rattle.messages.specs.Messages.{headerAnswer}
 use borrow.Author.Needs.{needs}
-use Rattle.reading.proofs.read.header_answer.Statement.{statement}
-use Rattle.reading.proofs.read.header_answer.Tie as tie
+use Rattle.headers.specs.Headers.{headerAnswerFor}
+use Rattle.headers.proofs.header.header_answer.Statement.{statement}
+use Rattle.headers.proofs.header.header_answer.Tie as tie
 
 returns : tie.Need-returns
-unfolding headerAnswer
+unfolding headerAnswerFor
 returns c = rw (lt-ltb _ _ (c .if1 .taken))
 
 shared-slice-read-if2 : tie.Need-shared-slice-read-if2
 shared-slice-read-if2 c = search needs
 
 returns-2 : tie.Need-returns-2
-unfolding headerAnswer
+unfolding headerAnswerFor
 returns-2 c = rw (le-ltb _ _ (c .before .before .if1 .left), uint-one _ 0, ne-eqb _ _ (c .if2 .taken))
 
 shared-slice-read-u32-of : tie.Need-shared-slice-read-u32-of
@@ -37,7 +37,7 @@ cast-if3 : tie.Need-cast-if3
 cast-if3 c = search needs
 
 returns-3 : tie.Need-returns-3
-unfolding headerAnswer
+unfolding headerAnswerFor
 returns-3 c =
     let m = c .before .before .before .before .before .before .before .before .before .before .args .message .now in
     rw (
@@ -49,7 +49,7 @@ returns-3 c =
     )
 
 returns-4 : tie.Need-returns-4
-unfolding headerAnswer
+unfolding headerAnswerFor
 returns-4 c =
     let m = c .before .before .before .before .before .before .before .before .before .before .args .message .now in
     rw (
