@@ -1,0 +1,141 @@
+// What an IPDR/SP message says, one number at a time.
+ghost use mathlib.Core.Path.{_≡_};
+ghost use mathlib.Core.Bool.{cond};
+ghost use mathlib.Core.List.{[], _∷_};
+ghost use Prim.Native.Nat.{ℕ};
+ghost use lib.ListN.{getD};
+ghost use Rattle.ipdr.specs.Messages.{sessionStart, sessionStartValues, readOf, partOf};
+ghost use Rattle.ipdr_exports.specs.Said.{saidBy, readPart};
+use ipdr::message::Content;
+use ipdr::message::Message;
+use ipdr::message::Reading;
+use ipdr::message::SessionStart;
+
+// 1 for a flag that is set, else 0.
+fn bit(flag: bool) -> u64
+    ensures { λ n. ⌜ n ≡ cond flag 1 0 ⌝ }
+{
+    if flag { 1 } else { 0 }
+}
+
+// A message's number and up to four fields.
+fn fields(number: u8, a: u64, b: u64, c: u64, d: u64) -> [u64; 9]
+    ensures { λ r. ⌜ r ≡ number ∷ a ∷ b ∷ c ∷ d ∷ 0 ∷ 0 ∷ 0 ∷ 0 ∷ [] ⌝ }
+{
+    [number as u64, a, b, c, d, 0, 0, 0, 0]
+}
+
+// SESSION START's number and fields.
+fn session_start_fields(fields: SessionStart) -> [u64; 9]
+    ensures { λ r. ⌜ r ≡ sessionStart ∷ sessionStartValues fields ⌝ }
+{
+    [
+        Message::SESSION_START as u64,
+        fields.exporter_boot_time as u64,
+        fields.first_record_sequence_number,
+        fields.dropped_record_count,
+        bit(fields.primary),
+        fields.ack_time_interval as u64,
+        fields.ack_sequence_interval as u64,
+        fields.document_id_high,
+        fields.document_id_low,
+    ]
+}
+
+// A message's number and fields, in the layout's order.
+fn said(content: Content) -> [u64; 9]
+    ensures { λ r. ⌜ ((i : ℕ) → getD r i 0 ≡ getD (saidBy content) i 0) ⌝ }
+{
+    match content {
+        Content::FlowStart => fields(Message::FLOW_START, 0, 0, 0, 0),
+        Content::FlowStop { reason_code } => fields(
+            Message::FLOW_STOP,
+            reason_code as u64,
+            0,
+            0,
+            0,
+        ),
+        Content::Connect(c) => fields(
+            Message::CONNECT,
+            c.initiator_id as u64,
+            c.initiator_port as u64,
+            c.capabilities as u64,
+            c.keep_alive_interval as u64,
+        ),
+        Content::ConnectResponse {
+            capabilities,
+            keep_alive_interval,
+        } => fields(
+            Message::CONNECT_RESPONSE,
+            capabilities as u64,
+            keep_alive_interval as u64,
+            0,
+            0,
+        ),
+        Content::Disconnect => fields(Message::DISCONNECT, 0, 0, 0, 0),
+        Content::SessionStart(s) => session_start_fields(s),
+        Content::SessionStop { reason_code } => fields(
+            Message::SESSION_STOP,
+            reason_code as u64,
+            0,
+            0,
+            0,
+        ),
+        Content::Data(h) => fields(
+            Message::DATA,
+            h.template_id as u64,
+            h.config_id as u64,
+            bit(h.duplicate),
+            h.sequence_num,
+        ),
+        Content::DataAcknowledge {
+            config_id,
+            sequence_num,
+        } => fields(
+            Message::DATA_ACKNOWLEDGE,
+            config_id as u64,
+            sequence_num,
+            0,
+            0,
+        ),
+        Content::Error {
+            time_stamp,
+            error_code,
+        } => fields(Message::ERROR, time_stamp as u64, error_code as u64, 0, 0),
+    }
+}
+
+// One of a message's number and fields, by its place, 0 where there is none.
+fn said_at(content: Content, i: u8) -> u64
+    ensures { λ n. ⌜ n ≡ getD (saidBy content) i 0 ⌝ }
+{
+    let all = said(content);
+    let at = i as usize;
+    if at < 9 { all[at] } else { 0 }
+}
+
+// Reads an IPDR/SP message alone. Answers a part of what was read, by its number: 0 the answer, 0 or the refusal; 1 the length of the part
+// that the message carries, 2 its session, 3 its number, and from 4 on its fields in the layout's order, documentId as two numbers; 0 for
+// what there is not, and for what could not be read.
+#[no_mangle]
+pub extern "C" fn ipdr_read_part(message: &[u8], part: u8) -> u64
+    ensures { λ n. ⌜ n ≡ readPart part (partOf (now (message .entry))) (readOf (now (message .entry))) ⌝ }
+{
+    let reading = ipdr_reading::read::read_message(message);
+    match reading {
+        Reading::Message(m) => {
+            if part == 0 {
+                return 0;
+            }
+            if part == 1 {
+                return ipdr_reading::read::message_part(message).len() as u64;
+            }
+            if part == 2 {
+                return m.session as u64;
+            }
+            let content = m.content;
+            said_at(content, part - 3)
+        }
+        Reading::Refused(a) => if part == 0 { a as u64 } else { 0 },
+    }
+}

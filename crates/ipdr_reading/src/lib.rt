@@ -1,0 +1,2 @@
+// Reading IPDR/SP's messages.
+pub mod read;

@@ -1,0 +1,53 @@
+-- `write_data_acknowledge` meets its contract: header and fields are put one behind the other.
+use mathlib.Core.Path.{refl}
+use mathlib.Core.List.{[], _∷_}
+use Rattle.ipdr.specs.Messages.{dataAcknowledge, numbers, widthsOf, isCounted}
+use Rattle.ipdr.proofs.Messages.{bare-short, bare-done}
+use borrow.Author.Needs.{needs}
+use Rattle.ipdr_writing.proofs.write.write_data_acknowledge.Statement.{statement}
+use Rattle.ipdr_writing.proofs.write.write_data_acknowledge.Tie as tie
+
+returns : tie.Need-returns
+unfolding widthsOf isCounted
+returns c =
+    let a = c .before .before .args in
+    λ part. bare-short (numbers dataAcknowledge (a .session) (a .config-id ∷ a .sequence-num ∷ [])) part _ (2 ∷ 8 ∷ []) refl refl (c .if1 .taken)
+
+cast-put-header : tie.Need-cast-put-header
+cast-put-header c = search needs
+
+put-header-requires : tie.Need-put-header-requires
+put-header-requires c κs = search needs
+
+put-u16-requires : tie.Need-put-u16-requires
+put-u16-requires c κs = search needs
+
+put-u64-requires : tie.Need-put-u64-requires
+put-u64-requires c κs = search needs
+
+same-length : tie.Need-same-length
+same-length c = search needs
+
+returns-2 : tie.Need-returns-2
+unfolding widthsOf isCounted
+returns-2 c =
+    let a = c .before .before .before .before .before .before .before .before .before .before .before .before .before .before .args in
+    λ part.
+    bare-done (numbers dataAcknowledge (a .session) (a .config-id ∷ a .sequence-num ∷ [])) part (a .out .now) (2 ∷ 8 ∷ []) refl refl _ _ (c .before .before .before .before .before .before .before .before .before .before .before .before .if1 .left)
+    (c .before .before .before .before .before .before .before .before .before .before .put-header .ensures)
+    (rw (
+      ← c .before .before .before .before .before .before .put-u16 .ensures,
+      ← c .before .before .put-u64 .ensures,
+    ))
+
+pub write-data-acknowledge-spec : {M : Type 1} → statement M
+write-data-acknowledge-spec =
+    tie.close
+    (tie.spec
+    returns
+    cast-put-header
+    put-header-requires
+    put-u16-requires
+    put-u64-requires
+    same-length
+    returns-2)

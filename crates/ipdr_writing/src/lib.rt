@@ -1,0 +1,2 @@
+// Writing IPDR/SP's messages.
+pub mod write;
