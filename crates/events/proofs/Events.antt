@@ -10,11 +10,12 @@ use lib.Dec.{eqb}
 use borrow.Author.Tests.{ne-eqb}
 use Rattle.octets.specs.Numbers.{uintAt, Octets}
 use Rattle.octets.proofs.Numbers.{uint-below}
+use Rattle.exporter.specs.Replies.{Reply, silent, crane, layout}
 use Rattle.session.specs.Limits.{maxStoreOctets}
 use Rattle.session.specs.Servers.{down, offer}
 use Rattle.session.specs.Steps.{put, nextData, tick, move, received, step, written, Outcome, steppedOf, wroteOf, outputAfter, putStep, tickStep, lineDownStep}
 use Rattle.session.proofs.Written.{writes-nothing}
-use Rattle.session.specs.Claim.{Event, Put, NextData, Receive, OfferTemplates, LineDown, Tick}
+use Rattle.session.specs.InOctets.{Event, Put, NextData, Receive, OfferTemplates, LineDown, Tick}
 use Rattle.session.specs.declared.state.State.{State}
 use Rattle.session.specs.declared.state.Stepped.{Stepped}
 use Rattle.session.specs.declared.state.Wrote.{Wrote}
@@ -80,42 +81,42 @@ pub same-call : (table : List ℕ) (s : State) (store : List ℕ) (kind server :
     → Same s store (eventCall kind server b out table) (eventCall kind server b more table)
 same-call table s store kind server b out more e =
     by-kind (Same s store) kind server b out more table (refl, refl)
-    (ap (λ (n : ℕ). step 32 [] n (received (s .settings) server b) s []) e, refl) (refl, refl) (refl, refl)
-    (ap (λ (n : ℕ). step 32 [] n nextData s store) e, refl)
-    (ap (λ (n : ℕ). step 32 table n (move server offer) s []) e, refl)
+    (ap (λ (n : ℕ). step crane n (received (s .settings) server b) s []) e, refl) (refl, refl) (refl, refl)
+    (ap (λ (n : ℕ). step crane n nextData s store) e, refl)
+    (ap (λ (n : ℕ). step crane n (move server (offer table)) s []) e, refl)
 
 -- ---- calls that write nothing
 
 -- what such a call hands back
-pub stepped : (o : Outcome) (s : Stepped) (r : Wrote) → o .written ≡ [] → s ≡ steppedOf o
+pub stepped : (o : Outcome) (s : Stepped) (r : Wrote) → o .written ≡ silent → s ≡ steppedOf o
     → r ≡ record { answer = s .answer; written = 0; state = s .state } → r ≡ wroteOf o
-stepped o s r e f g = rw (g, f) (ap (λ (l : List ℕ). record { answer = o .answer; written = length l; state = o .state }) (sym e))
+stepped o s r e f g = rw (g, f) (ap (λ (l : Reply). record { answer = o .answer; written = length (layout l); state = o .state }) (sym e))
 
 -- ---- each call, by what the exporter ensures of it
 
 pub put-called : (s : State) (store out : List ℕ) (e : Event) (table : List ℕ) (id : ℕ) (r : List ℕ) (st : Stepped) (x : Wrote) (after : List ℕ)
-    → e ≡ Put table id r → st ≡ steppedOf (putStep 32 s store table id r) → after ≡ putStep 32 s store table id r .store
+    → e ≡ Put table id r → st ≡ steppedOf (putStep s store table id r) → after ≡ putStep s store table id r .store
     → x ≡ record { answer = st .answer; written = 0; state = st .state } → Gives s store out e x after out
 unfolding written
 put-called s store out e table id r st x after f g h k =
-    let q = writes-nothing 32 table 0 (put id r) s store refl in
-    rw f (stepped (putStep 32 s store table id r) st x q g k, (h, rw q refl))
+    let q = writes-nothing crane 0 (put table id r) s store refl in
+    rw f (stepped (putStep s store table id r) st x q g k, (h, rw q refl))
 
 pub down-called : (s : State) (store out : List ℕ) (e : Event) (v : ℕ) (st : Stepped) (x : Wrote)
-    → e ≡ LineDown v → st ≡ steppedOf (lineDownStep 32 s v)
+    → e ≡ LineDown v → st ≡ steppedOf (lineDownStep s v)
     → x ≡ record { answer = st .answer; written = 0; state = st .state } → Gives s store out e x store out
 unfolding written
 down-called s store out e v st x f g k =
-    let q = writes-nothing 32 [] 0 (move v down) s [] refl in
-    rw f (stepped (lineDownStep 32 s v) st x q g k, (refl, rw q refl))
+    let q = writes-nothing crane 0 (move v down) s [] refl in
+    rw f (stepped (lineDownStep s v) st x q g k, (refl, rw q refl))
 
 pub tick-called : (s : State) (store out : List ℕ) (e : Event) (st : Stepped) (x : Wrote)
-    → e ≡ Tick → st ≡ steppedOf (tickStep 32 s)
+    → e ≡ Tick → st ≡ steppedOf (tickStep s)
     → x ≡ record { answer = st .answer; written = 0; state = st .state } → Gives s store out e x store out
 unfolding written
 tick-called s store out e st x f g k =
-    let q = writes-nothing 32 [] 0 tick s [] refl in
-    rw f (stepped (tickStep 32 s) st x q g k, (refl, rw q refl))
+    let q = writes-nothing crane 0 tick s [] refl in
+    rw f (stepped (tickStep s) st x q g k, (refl, rw q refl))
 
 -- a call that may write: its answer and its output are what the exporter ensures
 pub wrote-called : (s : State) (store out : List ℕ) (e f : Event) (x : Wrote) (after : List ℕ) → e ≡ f

@@ -8,7 +8,7 @@ use lib.ListN.{drop}
 use Rattle.octets.specs.Answers.{_when_, judge, unsoundTable}
 use Rattle.octets.specs.Numbers.{uintAt}
 use Rattle.exporter.specs.Steps.{isSessions, Outcome, wroteOf, outputAfter}
-use Rattle.exporter.specs.Claim.{Event, Put, NextData, Receive, OfferTemplates, LineDown, Tick, sessionOf32, outcome, storeLeft}
+use Rattle.exporter.specs.InOctets.{Event, Put, NextData, Receive, OfferTemplates, LineDown, Tick, eventStep, storeLeft}
 use Rattle.session.specs.declared.state.Settings.{Settings}
 use Rattle.session.specs.declared.state.State.{State}
 use Rattle.session.specs.declared.state.Wrote.{Wrote}
@@ -55,7 +55,7 @@ eventCall kind server b out table =
 
 -- The outcome of a call of an exporter with a state and a store.
 abbrev pub effect : State → List ℕ → Event → Outcome
-effect s store e = outcome (sessionOf32 (s .settings)) (record { state = s; store = store }) e
+effect s store e = eventStep (record { state = s; store = store }) e
 
 -- The store after that call.
 abbrev pub effectStore : State → List ℕ → Event → List ℕ

@@ -10,9 +10,10 @@ use Rattle.session.specs.Servers.{choose, changed, settle, transition, sentOne,
 use Rattle.session.specs.Queue.{ringRead, ringWrite, sumOf, recordAt, heldFrom, has, hasOther, pushed, dropFront, marked}
 use Rattle.session.specs.Sound.{settingsSound, numbersSound, sound}
 use Rattle.session.specs.Steps.{ackCount, formAnswer, callOfMessage, received, headOf, written, checks, answer, after, settled, storeAfter, step, fresh, setUp}
-use Rattle.session.specs.Claim.{advance, begin}
+use Rattle.session.specs.Claim.{begin}
+use Rattle.session.specs.InOctets.{afterEvent}
 use Rattle.exporter.specs.Driving.{Driven}
 
 pub driven : Driven
-unfolding numberOf uintAt octetsOf putAt every firstFrom widthOf isType isSigned isNumber keySound blockEnd headSound paddingSound blockSound blockAt tableSound templateIndex templateAt findOf locateOf fixedLength blobLength stringLength terminatedLength fieldLength fieldAt recordValid recordAnswer isMessage bodyFits messageOf layoutOf headerAnswerFor headerReadingFor readAnswer dataHeadOf meaningOf readOf partAt partOf writeAnswer choose changed settle transition sentOne acknowledged otherAgreed expired ticked ringRead ringWrite sumOf recordAt heldFrom has hasOther pushed dropFront marked settingsSound numbersSound sound ackCount formAnswer callOfMessage received headOf written checks answer after settled storeAfter step fresh setUp advance begin
+unfolding numberOf uintAt octetsOf putAt every firstFrom widthOf isType isSigned isNumber keySound blockEnd headSound paddingSound blockSound blockAt tableSound templateIndex templateAt findOf locateOf fixedLength blobLength stringLength terminatedLength fieldLength fieldAt recordValid recordAnswer isMessage bodyFits messageOf layoutOf headerAnswerFor headerReadingFor readAnswer dataHeadOf meaningOf readOf partAt partOf writeAnswer choose changed settle transition sentOne acknowledged otherAgreed expired ticked ringRead ringWrite sumOf recordAt heldFrom has hasOther pushed dropFront marked settingsSound numbersSound sound ackCount formAnswer callOfMessage received headOf written checks answer after settled storeAfter step fresh setUp begin afterEvent
 driven = ((refl, refl), ((refl, refl), ((refl, refl), ((refl, refl), ((refl, refl), ((refl, refl), ((refl, refl), ((refl, refl), ((refl, refl), tt)))))))))

@@ -6,7 +6,9 @@ use Prim.Native.Nat.{ℕ}
 use lib.ListN.{replicate}
 use Rattle.octets.specs.Answers.{done, noActiveServer, nothingToSend}
 use Rattle.session.specs.Limits.{maxServers, minStoreOctets}
-use Rattle.session.specs.Claim.{Event, Put, NextData, Receive, OfferTemplates, Tick, Session, sessionOf32, Exporter, outcome, advance, begin}
+use Rattle.session.specs.Steps.{octetsWritten}
+use Rattle.session.specs.Claim.{Exporter}
+use Rattle.session.specs.InOctets.{Event, Put, NextData, Receive, OfferTemplates, Tick, eventStep, afterEvent, freshOver}
 use Rattle.session.specs.Examples.{aTable}
 use Rattle.session.specs.declared.state.Settings.{Settings}
 
@@ -17,11 +19,11 @@ pub record Turn : Type 0 where
   pub octets : List ℕ
 
 -- The calls of a list, made one after the other, give these answers and write these octets.
-abbrev pub Goes : Session → Exporter → List Turn → Type 0
-Goes z x [] = Unit {0}
-Goes z x (t ∷ ts) =
-    let o = outcome z x (t .call) in
-    ((o .answer ≡ t .answer) × (o .written ≡ t .octets)) × Goes z (advance z x (t .call)) ts
+abbrev pub Goes : Exporter → List Turn → Type 0
+Goes x [] = Unit {0}
+Goes x (t ∷ ts) =
+    let o = eventStep x (t .call) in
+    ((o .answer ≡ t .answer) × (octetsWritten o ≡ t .octets)) × Goes (afterEvent x (t .call)) ts
 
 -- Session 7 with one server and the table of the examples, Configuration ID 1; its first DSN is 1.
 abbrev pub settings : Settings
@@ -83,4 +85,4 @@ turns =
 
 -- The session goes as it is written here, from a fresh exporter over the smallest store on.
 abbrev pub Driven : Type 0
-Driven = Goes (sessionOf32 settings) (begin (sessionOf32 settings) (replicate minStoreOctets 0)) turns
+Driven = Goes (freshOver settings (replicate minStoreOctets 0)) turns

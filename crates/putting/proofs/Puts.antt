@@ -15,6 +15,7 @@ use Rattle.octets.proofs.Judging.{passed, judged-first, judged-next}
 use Rattle.octets.proofs.Each.{and-left, and-right}
 use Rattle.wire.specs.Table.{tableSound, configurationId, isMissing, templateOf}
 use Rattle.wire.specs.Record.{recordValid, recordAnswer}
+use Rattle.wire.specs.Replies.{crane}
 use Rattle.session.specs.Sound.{sound}
 use Rattle.session.specs.Steps.{put, answer, checks, soundFor, after, storeAfter, putStep, steppedOf, recordChecks, roomChecks}
 use Rattle.session.specs.Queue.{heldOctets, ringWrite, pushed}
@@ -80,7 +81,7 @@ pub answer-of : (s : State) (store table : List ℕ) (id : ℕ) (r : List ℕ) (
     → a ≡ putAnswer s store table id r
 answer-of s store table id r ok held a e k j = rw (← e, ← k) j
 
-put-judged : (s : State) (store table : List ℕ) (id : ℕ) (r : List ℕ) → putAnswer s store table id r ≡ answer 32 table 0 (put id r) s store
+put-judged : (s : State) (store table : List ℕ) (id : ℕ) (r : List ℕ) → putAnswer s store table id r ≡ answer crane 0 (put table id r) s store
 unfolding answer checks
 put-judged s store table id r = rw (parts-of s)
 
@@ -91,10 +92,10 @@ pub record PutFacts (s : State) (store r : List ℕ) : Type 0 where
   pub few : s .queue .count < 64
   pub short : length r ≤ 1024
 
-put-facts : (s : State) (store table : List ℕ) (id : ℕ) (r : List ℕ) → answer 32 table 0 (put id r) s store ≡ 0 → PutFacts s store r
+put-facts : (s : State) (store table : List ℕ) (id : ℕ) (r : List ℕ) → answer crane 0 (put table id r) s store ≡ 0 → PutFacts s store r
 unfolding answer checks
 put-facts s store table id r e =
-    let p = passed ((unsoundState when not (soundFor (put id r) s store)) ∷ checks 32 table 0 (put id r) s store) tt e in
+    let p = passed ((unsoundState when not (soundFor (put table id r) s store)) ∷ checks crane 0 (put table id r) s store) tt e in
     let both = not-false (sound s && eqb (length store) (s .capacity)) (p .0) in
     record {
       isSound = and-left (sound s) _ both;
@@ -120,9 +121,9 @@ pub putting-kept : (s : State) (store table : List ℕ) (id : ℕ) (r : List ℕ
       count = s .queue .count;
       next = s .next;
     }
-    → (x ≡ puttingOf s id r (putStep 32 s store table id r)) × (store ≡ putStep 32 s store table id r .store)
+    → (x ≡ puttingOf s id r (putStep s store table id r)) × (store ≡ putStep s store table id r .store)
 putting-kept s store table id r a x h j q =
-    rw (step-refused 32 table 0 (put id r) s store a h (sym (j ∙ put-judged s store table id r)), ne-eqb a done h) (q, refl)
+    rw (step-refused crane 0 (put table id r) s store a h (sym (j ∙ put-judged s store table id r)), ne-eqb a done h) (q, refl)
 
 -- an accepted one fills the first unused entries
 pub putting-done : (s : State) (store table : List ℕ) (id : ℕ) (r : List ℕ) (a : ℕ) (x : Putting) (n : ℕ) (left : List ℕ)
@@ -137,14 +138,14 @@ pub putting-done : (s : State) (store table : List ℕ) (id : ℕ) (r : List ℕ
       next = (s .next + 1) % 4294967296;
     }
     → n ≡ heldOctets (s .queue) → left ≡ ringWrite (length store) store (s .start + n) r
-    → (x ≡ puttingOf s id r (putStep 32 s store table id r)) × (left ≡ putStep 32 s store table id r .store)
+    → (x ≡ puttingOf s id r (putStep s store table id r)) × (left ≡ putStep s store table id r .store)
 unfolding after pushed storeAfter
 putting-done s store table id r a x n left j z q k l =
     let e = sym (put-judged s store table id r) ∙ sym j ∙ z in
     let f = put-facts s store table id r e in
     rw (
-      step-done 32 table 0 (put id r) s store e,
-      settled-same (after 32 (put id r) s) (sound-facts s (f .isSound) .choice),
+      step-done crane 0 (put table id r) s store e,
+      settled-same (after 32 (put table id r) s) (sound-facts s (f .isSound) .choice),
     )
     (rw z at q, rw (k, f .stored) at l)
 
@@ -168,50 +169,50 @@ withPut s c =
 
 module _ (s : State) (store table : List ℕ) (id : ℕ) (r : List ℕ) where
   -- an outcome's change is made to one of the 64 entries
-  putting-place : puttingOf s id r (putStep 32 s store table id r) .place < 64
-  putting-place = go (eqb (answer 32 table 0 (put id r) s store) done) refl
+  putting-place : puttingOf s id r (putStep s store table id r) .place < 64
+  putting-place = go (eqb (answer crane 0 (put table id r) s store) done) refl
     where
-      go : (b : Bool) → eqb (answer 32 table 0 (put id r) s store) done ≡ b → puttingOf s id r (putStep 32 s store table id r) .place < 64
+      go : (b : Bool) → eqb (answer crane 0 (put table id r) s store) done ≡ b → puttingOf s id r (putStep s store table id r) .place < 64
       go true q =
-          let e = eqb-true (answer 32 table 0 (put id r) s store) done q in
-          rw (step-done 32 table 0 (put id r) s store e) (put-facts s store table id r e .few)
-      go false q = rw (step-refused 32 table 0 (put id r) s store _ (eqb-false (answer 32 table 0 (put id r) s store) done q) refl, q) (omega arith)
+          let e = eqb-true (answer crane 0 (put table id r) s store) done q in
+          rw (step-done crane 0 (put table id r) s store e) (put-facts s store table id r e .few)
+      go false q = rw (step-refused crane 0 (put table id r) s store _ (eqb-false (answer crane 0 (put table id r) s store) done q) refl, q) (omega arith)
 
-  pub putting-inside : (x : Putting) → x ≡ puttingOf s id r (putStep 32 s store table id r) → x .place < 64
+  pub putting-inside : (x : Putting) → x ≡ puttingOf s id r (putStep s store table id r) → x .place < 64
   putting-inside x e = rw e putting-place
 
   -- the state with an outcome's change is the outcome's
   putting-applied : _≡_ {A = Stepped}
       (record {
-        answer = puttingOf s id r (putStep 32 s store table id r) .answer;
-        state = withPut s (puttingOf s id r (putStep 32 s store table id r));
+        answer = puttingOf s id r (putStep s store table id r) .answer;
+        state = withPut s (puttingOf s id r (putStep s store table id r));
       })
-      (steppedOf (putStep 32 s store table id r))
+      (steppedOf (putStep s store table id r))
   unfolding after pushed
-  putting-applied = go (eqb (answer 32 table 0 (put id r) s store) done) refl
+  putting-applied = go (eqb (answer crane 0 (put table id r) s store) done) refl
     where
-      go : (b : Bool) → eqb (answer 32 table 0 (put id r) s store) done ≡ b → _≡_ {A = Stepped}
+      go : (b : Bool) → eqb (answer crane 0 (put table id r) s store) done ≡ b → _≡_ {A = Stepped}
           (record {
-            answer = puttingOf s id r (putStep 32 s store table id r) .answer;
-            state = withPut s (puttingOf s id r (putStep 32 s store table id r));
+            answer = puttingOf s id r (putStep s store table id r) .answer;
+            state = withPut s (puttingOf s id r (putStep s store table id r));
           })
-          (steppedOf (putStep 32 s store table id r))
+          (steppedOf (putStep s store table id r))
       go true q =
-          let e = eqb-true (answer 32 table 0 (put id r) s store) done q in
+          let e = eqb-true (answer crane 0 (put table id r) s store) done q in
           let f = put-facts s store table id r e in
           rw (
-            step-done 32 table 0 (put id r) s store e,
-            settled-same (after 32 (put id r) s) (sound-facts s (f .isSound) .choice),
+            step-done crane 0 (put table id r) s store e,
+            settled-same (after 32 (put table id r) s) (sound-facts s (f .isSound) .choice),
           )
       go false q =
           rw (
-            step-refused 32 table 0 (put id r) s store _ (eqb-false (answer 32 table 0 (put id r) s store) done q) refl,
+            step-refused crane 0 (put table id r) s store _ (eqb-false (answer crane 0 (put table id r) s store) done q) refl,
             q,
             set-getD (s .queue .lengths) 0 0,
             set-getD (s .queue .templates) 0 0,
             set-getD (s .queue .receivers) 0 0,
           )
 
-  pub put-applied : (x : Putting) → x ≡ puttingOf s id r (putStep 32 s store table id r)
-      → _≡_ {A = Stepped} (record { answer = x .answer; state = withPut s x }) (steppedOf (putStep 32 s store table id r))
+  pub put-applied : (x : Putting) → x ≡ puttingOf s id r (putStep s store table id r)
+      → _≡_ {A = Stepped} (record { answer = x .answer; state = withPut s x }) (steppedOf (putStep s store table id r))
   put-applied x e = rw e putting-applied

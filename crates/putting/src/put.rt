@@ -123,7 +123,7 @@ fn put_change<'a, 'b, 'c>(
 ) -> Putting
     ensures { λ x. ⌜
         (let s = stateOf p capacity d due count (now (lengths .entry)) (now (templates .entry)) (now (receivers .entry)) start next in
-        let o = putStep 32 s (now (store .entry)) (now (table .entry)) id (now (r .entry)) in
+        let o = putStep s (now (store .entry)) (now (table .entry)) id (now (r .entry)) in
         (x ≡ puttingOf s id (now (r .entry)) o) × (now (store .exit) ≡ o .store)) ⌝ }
 {
     let sound = soundness::sound::parts_sound(
@@ -157,8 +157,8 @@ fn put_change<'a, 'b, 'c>(
 // Puts a record under a template ID of the lent table: it takes the next DSN, and its octets follow the held ones in the store. Refused
 // with 1, 21, 15, 17, 16, 18 or 19.
 pub fn put(s: State, store: &mut [u8], table: &[u8], id: u16, r: &[u8]) -> Stepped
-    ensures { λ x. ⌜ (x ≡ steppedOf (putStep 32 s (now (store .entry)) (now (table .entry)) id (now (r .entry))))
-        × (now (store .exit) ≡ putStep 32 s (now (store .entry)) (now (table .entry)) id (now (r .entry)) .store) ⌝ }
+    ensures { λ x. ⌜ (x ≡ steppedOf (putStep s (now (store .entry)) (now (table .entry)) id (now (r .entry))))
+        × (now (store .exit) ≡ putStep s (now (store .entry)) (now (table .entry)) id (now (r .entry)) .store) ⌝ }
 {
     let p = s.settings;
     let d = s.delivery;

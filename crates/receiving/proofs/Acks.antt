@@ -14,6 +14,7 @@ use Rattle.octets.proofs.Judging.{passed}
 use Rattle.session.specs.Servers.{chosen, withCounts, acknowledged}
 use Rattle.session.specs.Queue.{octetsTo, shifted, dropFront}
 use Rattle.session.specs.Sound.{sound}
+use Rattle.wire.specs.Replies.{Encoding}
 use Rattle.session.specs.Steps.{ackCount, ack, checks, answer, after, settled, written, step, wroteOf, outputAfter, ackCountBy, ackChecks}
 use Rattle.soundness.specs.Parts.{stateOf}
 use Rattle.receiving.specs.Requests.{ackChangeOf}
@@ -97,43 +98,43 @@ ack-reached p d v config n a j e = ltb-false (d .reached) n (passed (ackChecks p
 abbrev namedIn : ℕ → State → ℕ → ℕ
 namedIn w s dsn = ackCountBy w (s .next) (s .queue .count) dsn
 
-module _ (w v dsn config : ℕ) (s : State) where
-  pub ack-unsound : sound s ≡ false → answer w [] 0 (ack v dsn config) s [] ≡ unsoundState
+module _ (enc : Encoding) (v dsn config : ℕ) (s : State) where
+  pub ack-unsound : sound s ≡ false → answer enc 0 (ack v dsn config) s [] ≡ unsoundState
   unfolding answer
   ack-unsound e = rw e
 
-  pub ack-judged : sound s ≡ true → answer w [] 0 (ack v dsn config) s [] ≡ judge (ackChecks (s .settings) (s .delivery) v config (namedIn w s dsn))
+  pub ack-judged : sound s ≡ true → answer enc 0 (ack v dsn config) s [] ≡ judge (ackChecks (s .settings) (s .delivery) v config (namedIn (enc .width) s dsn))
   unfolding answer checks ackCount
   ack-judged e = rw e
 
-  pub answered-ack : (a : ℕ) → sound s ≡ true → a ≡ judge (ackChecks (s .settings) (s .delivery) v config (namedIn w s dsn)) → answer w [] 0 (ack v dsn config) s [] ≡ a
+  pub answered-ack : (a : ℕ) → sound s ≡ true → a ≡ judge (ackChecks (s .settings) (s .delivery) v config (namedIn (enc .width) s dsn)) → answer enc 0 (ack v dsn config) s [] ≡ a
   answered-ack a e q = ack-judged e ∙ sym q
 
-  pub refused-ack : (a : ℕ) (r : AckChange) → (a ≡ done → ⊥) → answer w [] 0 (ack v dsn config) s [] ≡ a
+  pub refused-ack : (a : ℕ) (r : AckChange) → (a ≡ done → ⊥) → answer enc 0 (ack v dsn config) s [] ≡ a
       → r ≡ record { answer = a; released = 0; start = s .start; sent = s .delivery .sent; reached = s .delivery .reached; timer = s .delivery .timer }
-      → r ≡ ackChangeOf (namedIn w s dsn) (step w [] 0 (ack v dsn config) s [])
-  refused-ack a r h e k = rw (step-refused w [] 0 (ack v dsn config) s [] a h e, ne-eqb a done h) k
+      → r ≡ ackChangeOf (namedIn (enc .width) s dsn) (step enc 0 (ack v dsn config) s [])
+  refused-ack a r h e k = rw (step-refused enc 0 (ack v dsn config) s [] a h e, ne-eqb a done h) k
 
   -- the servers stay, and so does the choice
-  pub ack-settled : sound s ≡ true → settled (after w (ack v dsn config) s) ≡ after w (ack v dsn config) s
+  pub ack-settled : sound s ≡ true → settled (after (enc .width) (ack v dsn config) s) ≡ after (enc .width) (ack v dsn config) s
   unfolding after
-  ack-settled e = settled-same (after w (ack v dsn config) s) (acked-choice (s .settings) (s .delivery) (ackCount w s dsn) (sound-facts s e .choice))
+  ack-settled e = settled-same (after (enc .width) (ack v dsn config) s) (acked-choice (s .settings) (s .delivery) (ackCount (enc .width) s dsn) (sound-facts s e .choice))
 
-  pub accepted-ack : (r : AckChange) → sound s ≡ true → answer w [] 0 (ack v dsn config) s [] ≡ done
+  pub accepted-ack : (r : AckChange) → sound s ≡ true → answer enc 0 (ack v dsn config) s [] ≡ done
       → r ≡ record {
         answer = done;
-        released = namedIn w s dsn;
-        start = (s .start + octetsTo (s .queue) (namedIn w s dsn)) % s .capacity;
-        sent = acknowledged (namedIn w s dsn) (s .delivery) .sent;
-        reached = acknowledged (namedIn w s dsn) (s .delivery) .reached;
-        timer = acknowledged (namedIn w s dsn) (s .delivery) .timer;
+        released = namedIn (enc .width) s dsn;
+        start = (s .start + octetsTo (s .queue) (namedIn (enc .width) s dsn)) % s .capacity;
+        sent = acknowledged (namedIn (enc .width) s dsn) (s .delivery) .sent;
+        reached = acknowledged (namedIn (enc .width) s dsn) (s .delivery) .reached;
+        timer = acknowledged (namedIn (enc .width) s dsn) (s .delivery) .timer;
       }
-      → r ≡ ackChangeOf (namedIn w s dsn) (step w [] 0 (ack v dsn config) s [])
+      → r ≡ ackChangeOf (namedIn (enc .width) s dsn) (step enc 0 (ack v dsn config) s [])
   unfolding after ackCount
-  accepted-ack r q e k = rw (step-done w [] 0 (ack v dsn config) s [] e, ack-settled q) k
+  accepted-ack r q e k = rw (step-done enc 0 (ack v dsn config) s [] e, ack-settled q) k
 
   -- an accepted one finds a sound state
-  pub ack-sound : answer w [] 0 (ack v dsn config) s [] ≡ done → sound s ≡ true
+  pub ack-sound : answer enc 0 (ack v dsn config) s [] ≡ done → sound s ≡ true
   ack-sound e = go (sound s) refl
     where
       go : (b : Bool) → sound s ≡ b → sound s ≡ true
@@ -141,10 +142,10 @@ module _ (w v dsn config : ℕ) (s : State) where
       go false k = let z : _≡_ {A = ℕ} 1 0 = sym (ack-unsound k) ∙ e in absurd (omega arith)
 
   -- an accepted one releases records that are held
-  pub ack-held : answer w [] 0 (ack v dsn config) s [] ≡ done → (namedIn w s dsn ≤ s .queue .count) × (namedIn w s dsn ≤ 64)
+  pub ack-held : answer enc 0 (ack v dsn config) s [] ≡ done → (namedIn (enc .width) s dsn ≤ s .queue .count) × (namedIn (enc .width) s dsn ≤ 64)
   ack-held e =
       let f = sound-facts s (ack-sound e) .numbers in
-      let g = ack-reached (s .settings) (s .delivery) v config (namedIn w s dsn) done (sym e ∙ ack-judged (ack-sound e)) refl in
+      let g = ack-reached (s .settings) (s .delivery) v config (namedIn (enc .width) s dsn) done (sym e ∙ ack-judged (ack-sound e)) refl in
       omega arith
 
 -- ---- by parts
@@ -162,59 +163,59 @@ ack-parts-sound : (s : State) → sound (ackParts s) ≡ sound s
 unfolding sound
 ack-parts-sound s = refl
 
-module _ (w v dsn config : ℕ) (s : State) where
-  ack-same : answer w [] 0 (ack v dsn config) (ackParts s) [] ≡ answer w [] 0 (ack v dsn config) s []
+module _ (enc : Encoding) (v dsn config : ℕ) (s : State) where
+  ack-same : answer enc 0 (ack v dsn config) (ackParts s) [] ≡ answer enc 0 (ack v dsn config) s []
   unfolding answer checks ackCount sound
   ack-same = refl
 
   -- what is released was held
-  pub released-few : (ackChangeOf (namedIn w s dsn) (step w [] 0 (ack v dsn config) (ackParts s) []) .released ≤ s .queue .count)
-      × (ackChangeOf (namedIn w s dsn) (step w [] 0 (ack v dsn config) (ackParts s) []) .released ≤ 64)
-  released-few = go (eqb (answer w [] 0 (ack v dsn config) (ackParts s) []) done) refl
+  pub released-few : (ackChangeOf (namedIn (enc .width) s dsn) (step enc 0 (ack v dsn config) (ackParts s) []) .released ≤ s .queue .count)
+      × (ackChangeOf (namedIn (enc .width) s dsn) (step enc 0 (ack v dsn config) (ackParts s) []) .released ≤ 64)
+  released-few = go (eqb (answer enc 0 (ack v dsn config) (ackParts s) []) done) refl
     where
-      go : (b : Bool) → eqb (answer w [] 0 (ack v dsn config) (ackParts s) []) done ≡ b
-          → (ackChangeOf (namedIn w s dsn) (step w [] 0 (ack v dsn config) (ackParts s) []) .released ≤ s .queue .count)
-          × (ackChangeOf (namedIn w s dsn) (step w [] 0 (ack v dsn config) (ackParts s) []) .released ≤ 64)
+      go : (b : Bool) → eqb (answer enc 0 (ack v dsn config) (ackParts s) []) done ≡ b
+          → (ackChangeOf (namedIn (enc .width) s dsn) (step enc 0 (ack v dsn config) (ackParts s) []) .released ≤ s .queue .count)
+          × (ackChangeOf (namedIn (enc .width) s dsn) (step enc 0 (ack v dsn config) (ackParts s) []) .released ≤ 64)
       go true q =
-          let e = eqb-true (answer w [] 0 (ack v dsn config) (ackParts s) []) done q in
-          rw (step-done w [] 0 (ack v dsn config) (ackParts s) [] e) (ack-held w v dsn config (ackParts s) e)
+          let e = eqb-true (answer enc 0 (ack v dsn config) (ackParts s) []) done q in
+          rw (step-done enc 0 (ack v dsn config) (ackParts s) [] e) (ack-held enc v dsn config (ackParts s) e)
       go false q =
-          let h = eqb-false (answer w [] 0 (ack v dsn config) (ackParts s) []) done q in
-          rw (step-refused w [] 0 (ack v dsn config) (ackParts s) [] _ h refl, q) (omega arith)
+          let h = eqb-false (answer enc 0 (ack v dsn config) (ackParts s) []) done q in
+          rw (step-refused enc 0 (ack v dsn config) (ackParts s) [] _ h refl, q) (omega arith)
 
   -- an acknowledgement by parts
   pub ack-parts : _≡_ {A = Wrote}
       (record {
-        answer = ackChangeOf (namedIn w s dsn) (step w [] 0 (ack v dsn config) (ackParts s) []) .answer;
+        answer = ackChangeOf (namedIn (enc .width) s dsn) (step enc 0 (ack v dsn config) (ackParts s) []) .answer;
         written = 0;
-        state = releasedFrom s (ackChangeOf (namedIn w s dsn) (step w [] 0 (ack v dsn config) (ackParts s) []));
+        state = releasedFrom s (ackChangeOf (namedIn (enc .width) s dsn) (step enc 0 (ack v dsn config) (ackParts s) []));
       })
-      (wroteOf (step w [] 0 (ack v dsn config) s []))
+      (wroteOf (step enc 0 (ack v dsn config) s []))
   unfolding after written ackCount
-  ack-parts = go (eqb (answer w [] 0 (ack v dsn config) s []) done) refl
+  ack-parts = go (eqb (answer enc 0 (ack v dsn config) s []) done) refl
     where
-      go : (b : Bool) → eqb (answer w [] 0 (ack v dsn config) s []) done ≡ b → _≡_ {A = Wrote}
+      go : (b : Bool) → eqb (answer enc 0 (ack v dsn config) s []) done ≡ b → _≡_ {A = Wrote}
           (record {
-            answer = ackChangeOf (namedIn w s dsn) (step w [] 0 (ack v dsn config) (ackParts s) []) .answer;
+            answer = ackChangeOf (namedIn (enc .width) s dsn) (step enc 0 (ack v dsn config) (ackParts s) []) .answer;
             written = 0;
-            state = releasedFrom s (ackChangeOf (namedIn w s dsn) (step w [] 0 (ack v dsn config) (ackParts s) []));
+            state = releasedFrom s (ackChangeOf (namedIn (enc .width) s dsn) (step enc 0 (ack v dsn config) (ackParts s) []));
           })
-          (wroteOf (step w [] 0 (ack v dsn config) s []))
+          (wroteOf (step enc 0 (ack v dsn config) s []))
       go true q =
-          let e = eqb-true (answer w [] 0 (ack v dsn config) s []) done q in
-          let k = ack-sound w v dsn config s e in
+          let e = eqb-true (answer enc 0 (ack v dsn config) s []) done q in
+          let k = ack-sound enc v dsn config s e in
           rw (
-            step-done w [] 0 (ack v dsn config) (ackParts s) [] (ack-same ∙ e),
-            step-done w [] 0 (ack v dsn config) s [] e,
-            ack-settled w v dsn config (ackParts s) (ack-parts-sound s ∙ k),
-            ack-settled w v dsn config s k,
-            acked-counts (s .delivery) (namedIn w s dsn),
+            step-done enc 0 (ack v dsn config) (ackParts s) [] (ack-same ∙ e),
+            step-done enc 0 (ack v dsn config) s [] e,
+            ack-settled enc v dsn config (ackParts s) (ack-parts-sound s ∙ k),
+            ack-settled enc v dsn config s k,
+            acked-counts (s .delivery) (namedIn (enc .width) s dsn),
           )
       go false q =
-          let h = eqb-false (answer w [] 0 (ack v dsn config) s []) done q in
+          let h = eqb-false (answer enc 0 (ack v dsn config) s []) done q in
           rw (
-            step-refused w [] 0 (ack v dsn config) (ackParts s) [] (answer w [] 0 (ack v dsn config) s []) h ack-same,
-            step-refused w [] 0 (ack v dsn config) s [] (answer w [] 0 (ack v dsn config) s []) h refl,
+            step-refused enc 0 (ack v dsn config) (ackParts s) [] (answer enc 0 (ack v dsn config) s []) h ack-same,
+            step-refused enc 0 (ack v dsn config) s [] (answer enc 0 (ack v dsn config) s []) h refl,
             q,
             dropped-none (s .queue),
           )
@@ -222,12 +223,12 @@ module _ (w v dsn config : ℕ) (s : State) where
 -- ---- the output
 
 -- a DATA ACK looks at no output and writes none
-pub ack-wrote : (w room v dsn config : ℕ) (s : State) (out : List ℕ) (r : Wrote) → r ≡ wroteOf (step w [] 0 (ack v dsn config) s [])
-    → (r ≡ wroteOf (step w [] room (ack v dsn config) s [])) × (out ≡ outputAfter out (step w [] room (ack v dsn config) s []))
+pub ack-wrote : (enc : Encoding) (room v dsn config : ℕ) (s : State) (out : List ℕ) (r : Wrote) → r ≡ wroteOf (step enc 0 (ack v dsn config) s [])
+    → (r ≡ wroteOf (step enc room (ack v dsn config) s [])) × (out ≡ outputAfter out (step enc room (ack v dsn config) s []))
 unfolding step answer checks written
-ack-wrote w room v dsn config s out r e = (e, go (eqb (answer w [] room (ack v dsn config) s []) done) refl)
+ack-wrote enc room v dsn config s out r e = (e, go (eqb (answer enc room (ack v dsn config) s []) done) refl)
   where
-    go : (b : Bool) → eqb (answer w [] room (ack v dsn config) s []) done ≡ b → out ≡ outputAfter out (step w [] room (ack v dsn config) s [])
-    go true q = rw (step-done w [] room (ack v dsn config) s [] (eqb-true (answer w [] room (ack v dsn config) s []) done q))
+    go : (b : Bool) → eqb (answer enc room (ack v dsn config) s []) done ≡ b → out ≡ outputAfter out (step enc room (ack v dsn config) s [])
+    go true q = rw (step-done enc room (ack v dsn config) s [] (eqb-true (answer enc room (ack v dsn config) s []) done q))
     go false q =
-        rw (step-refused w [] room (ack v dsn config) s [] (answer w [] room (ack v dsn config) s []) (eqb-false (answer w [] room (ack v dsn config) s []) done q) refl)
+        rw (step-refused enc room (ack v dsn config) s [] (answer enc room (ack v dsn config) s []) (eqb-false (answer enc room (ack v dsn config) s []) done q) refl)

@@ -2,6 +2,7 @@
 -- rule of 01: the rules are in Steps, and every public contract cites those.
 use Prim.Native.Nat.{ℕ}
 use mathlib.Core.Bool.{cond}
+use mathlib.Core.List.{[]}
 use lib.Dec.{eqb}
 use Rattle.octets.specs.Answers.{done}
 use Rattle.messages.specs.declared.message.Reading.{Reading}
@@ -18,7 +19,7 @@ use Rattle.transitions.specs.Moves.{transitionOf}
 -- The call that the code's value stands for, from server v.
 abbrev pub callOfRequest : ℕ → Request → Call
 callOfRequest v (request.Ack dsn config) = ack v dsn config
-callOfRequest v (request.Move m) = move v (transitionOf m)
+callOfRequest v (request.Move m) = move v (transitionOf [] m)
 
 -- The call that reading a message alone stands for, from server v.
 abbrev pub callOfReading : ℕ → Reading → Call

@@ -5,6 +5,7 @@ ghost use Prim.Native.Nat.{_≤_, _<_};
 ghost use Rattle.octets.specs.Answers.{judge, done};
 ghost use Rattle.session.specs.Limits.{maxHeld};
 ghost use Rattle.session.specs.Servers.{acknowledged};
+ghost use Rattle.wire.specs.Replies.{crane};
 ghost use Rattle.session.specs.Queue.{ringPlace};
 ghost use Rattle.soundness.specs.Parts.{stateOf};
 ghost use Rattle.session.specs.Steps.{ack, step, wroteOf, ackCountBy, ackChecks};
@@ -140,7 +141,7 @@ fn ack_change<'a>(
 ) -> AckChange
     ensures { λ r. ⌜
         (let s = stateOf p capacity d due count (now (lengths .entry)) [] (now (receivers .entry)) start next in
-        r ≡ ackChangeOf (ackCountBy 32 next count dsn) (step 32 [] 0 (ack v dsn config) s [])) ⌝ }
+        r ≡ ackChangeOf (ackCountBy 32 next count dsn) (step crane 0 (ack v dsn config) s [])) ⌝ }
 {
     if !soundness::sound::parts_sound(p, capacity, d, due, count, lengths, receivers, start) {
         return refuse_ack(Answer::UNSOUND_STATE, d, start);
@@ -155,7 +156,7 @@ fn ack_change<'a>(
 
 // A DATA ACK from server v. Refused with 1, 2, 9, 10 or 11.
 pub(crate) fn acknowledge(s: State, v: u8, dsn: u32, config: u8) -> Wrote
-    ensures { λ r. ⌜ r ≡ wroteOf (step 32 [] 0 (ack v dsn config) s []) ⌝ }
+    ensures { λ r. ⌜ r ≡ wroteOf (step crane 0 (ack v dsn config) s []) ⌝ }
 {
     let p = s.settings;
     let d = s.delivery;

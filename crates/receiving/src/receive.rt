@@ -7,8 +7,8 @@ use session::state::Wrote;
 
 // Takes a message from server v, and writes its acknowledgement if it has one. Refused with the least of 1 to 12 that applies.
 pub fn receive(s: State, v: u8, message: &[u8], out: &mut [u8]) -> Wrote
-    ensures { λ r. ⌜ (r ≡ wroteOf (receiveStep 32 s v (now (message .entry)) (now (out .entry))))
-        × (now (out .exit) ≡ outputAfter (now (out .entry)) (receiveStep 32 s v (now (message .entry)) (now (out .entry)))) ⌝ }
+    ensures { λ r. ⌜ (r ≡ wroteOf (receiveStep s v (now (message .entry)) (now (out .entry))))
+        × (now (out .exit) ≡ outputAfter (now (out .entry)) (receiveStep s v (now (message .entry)) (now (out .entry)))) ⌝ }
 {
     let p = s.settings;
     let request = crate::decode::decode(p, message);

@@ -19,6 +19,7 @@ use Rattle.messages.specs.declared.message.Message.the-variants.{Data}
 use Rattle.messages.specs.declared.message.DataHead.{DataHead}
 use Rattle.messages.specs.declared.message.Written.{Written}
 use Rattle.messages.specs.declared.message.Written.the-variants.{Octets, Refused}
+use Rattle.wire.specs.Replies.{crane, layout}
 use Rattle.session.specs.Servers.{withCounts, sentOne}
 use Rattle.session.specs.Queue.{ringRead, recordAt, octetsTo, markedSet, marked}
 use Rattle.session.specs.Sound.{sound}
@@ -70,6 +71,10 @@ head-kept h n out l r = rw (le-ltb 1024 n l, lt-ltb (length out) (16 + n) r)
 
 -- ---- the call
 
+-- the octets of the next DATA
+abbrev pub octetsNext : State → List ℕ → List ℕ
+octetsNext s store = layout (written 32 nextData s store)
+
 -- what is judged before the room
 abbrev earlyChecks : State → List ℕ → List Check
 earlyChecks s store =
@@ -90,14 +95,14 @@ send-facts s store a j e =
     }
 
 -- a refusal before the room is judged is the call's
-send-refused : (s : State) (store out : List ℕ) → (sendAnswer s store ≡ 0 → ⊥) → sendAnswer s store ≡ answer 32 [] (length out) nextData s store
-unfolding answer checks
-send-refused s store out n = sym (judged-first (earlyChecks s store) ((outputTooShort when ltb (length out) (length (written 32 [] nextData s store))) ∷ []) n) ∙ rw (parts-of s)
+send-refused : (s : State) (store out : List ℕ) → (sendAnswer s store ≡ 0 → ⊥) → sendAnswer s store ≡ answer crane (length out) nextData s store
+unfolding answer checks written
+send-refused s store out n = sym (judged-first (earlyChecks s store) ((outputTooShort when ltb (length out) (length (octetsNext s store))) ∷ []) n) ∙ rw (parts-of s)
 
 -- where there is a record to send and a server to send it to, only the output's room is judged
 answer-room : (s : State) (store out : List ℕ) → SendFacts s store
-    → answer 32 [] (length out) nextData s store ≡ cond (ltb (length out) (length (written 32 [] nextData s store))) 12 0
-unfolding answer checks
+    → answer crane (length out) nextData s store ≡ cond (ltb (length out) (length (octetsNext s store))) 12 0
+unfolding answer checks written
 answer-room s store out f =
     rw (f .isSound, eq-eqb (length store) (s .capacity) (f .stored), f .some, lt-leb (s .queue .count) (s .delivery .sent) (f .more))
 
@@ -116,7 +121,7 @@ head-parts s = refl
 -- the octets of the next DATA, where the record is read from a place inside the store
 pub next-octets : (s : State) (store : List ℕ) (h : DataHead) (room at : ℕ) → h ≡ headOf 32 (headParts s) → room ≡ s .capacity
     → at ≡ recordStart (s .capacity) (s .start) (s .queue .lengths) (s .delivery .sent) → s .start < s .capacity
-    → layoutOf (Data h) (ringRead room store at (getD (s .queue .lengths) (s .delivery .sent) 0)) ≡ written 32 [] nextData s store
+    → layoutOf (Data h) (ringRead room store at (getD (s .queue .lengths) (s .delivery .sent) 0)) ≡ octetsNext s store
 unfolding written recordAt
 next-octets s store h room at e r a l =
     rw (e, head-parts s, r)
@@ -125,35 +130,35 @@ next-octets s store h room at e r a l =
     (ap (λ (n : ℕ). n % s .capacity) (a ∙ start-inside (s .capacity) (s .start) (s .queue .lengths) (s .delivery .sent) l) ∙ mod-mod (s .start + octetsTo (s .queue) (s .delivery .sent)) (s .capacity))))
 
 -- the message was written
-sent-done : (s : State) (store out after' octets : List ℕ) (r : Written) (n : ℕ) → SendFacts s store → octets ≡ written 32 [] nextData s store → r ≡ Octets n
+sent-done : (s : State) (store out after' octets : List ℕ) (r : Written) (n : ℕ) → SendFacts s store → octets ≡ octetsNext s store → r ≡ Octets n
     → Placed octets out r after'
-    → _≡_ {A = Wrote} (record { answer = 0; written = n; state = settled (after 32 nextData s) }) (wroteOf (nextDataStep 32 s store out))
-    × (after' ≡ outputAfter out (nextDataStep 32 s store out))
+    → _≡_ {A = Wrote} (record { answer = 0; written = n; state = settled (after 32 nextData s) }) (wroteOf (nextDataStep s store out))
+    × (after' ≡ outputAfter out (nextDataStep s store out))
 sent-done s store out after' octets r n f o q p = go (ltb (length out) (length octets)) refl (sym q ∙ p .answered)
   where
     go : (b : Bool) → ltb (length out) (length octets) ≡ b → Octets n ≡ cond b (Refused 12) (Octets (length octets))
-        → _≡_ {A = Wrote} (record { answer = 0; written = n; state = settled (after 32 nextData s) }) (wroteOf (nextDataStep 32 s store out))
-        × (after' ≡ outputAfter out (nextDataStep 32 s store out))
+        → _≡_ {A = Wrote} (record { answer = 0; written = n; state = settled (after 32 nextData s) }) (wroteOf (nextDataStep s store out))
+        × (after' ≡ outputAfter out (nextDataStep s store out))
     go true t x = let z : _≡_ {A = ℕ} 0 1 = cc in absurd (omega arith)
     go false t x =
-        let e = step-done 32 [] (length out) nextData s store (answer-room s store out f ∙ ap (λ (b : Bool). cond b 12 0) (ap (λ (l : List ℕ). ltb (length out) (length l)) (sym o) ∙ t)) in
+        let e = step-done crane (length out) nextData s store (answer-room s store out f ∙ ap (λ (b : Bool). cond b 12 0) (ap (λ (l : List ℕ). ltb (length out) (length l)) (sym o) ∙ t)) in
         let k : n ≡ length octets = cc in
         (rw (e, k, o), rw (e, ← o) (p .left ∙ put-fits out 0 octets (omega (arith, ltb-false (length out) (length octets) t))))
 
 -- it was not: the output is too short
-sent-refused : (s : State) (store out after' octets : List ℕ) (r : Written) (a : ℕ) → SendFacts s store → octets ≡ written 32 [] nextData s store → r ≡ Refused a
+sent-refused : (s : State) (store out after' octets : List ℕ) (r : Written) (a : ℕ) → SendFacts s store → octets ≡ octetsNext s store → r ≡ Refused a
     → Placed octets out r after'
-    → _≡_ {A = Wrote} (record { answer = a; written = 0; state = s }) (wroteOf (nextDataStep 32 s store out))
-    × (after' ≡ outputAfter out (nextDataStep 32 s store out))
+    → _≡_ {A = Wrote} (record { answer = a; written = 0; state = s }) (wroteOf (nextDataStep s store out))
+    × (after' ≡ outputAfter out (nextDataStep s store out))
 sent-refused s store out after' octets r a f o q p = go (ltb (length out) (length octets)) refl (sym q ∙ p .answered)
   where
     go : (b : Bool) → ltb (length out) (length octets) ≡ b → Refused a ≡ cond b (Refused 12) (Octets (length octets))
-        → _≡_ {A = Wrote} (record { answer = a; written = 0; state = s }) (wroteOf (nextDataStep 32 s store out))
-        × (after' ≡ outputAfter out (nextDataStep 32 s store out))
+        → _≡_ {A = Wrote} (record { answer = a; written = 0; state = s }) (wroteOf (nextDataStep s store out))
+        × (after' ≡ outputAfter out (nextDataStep s store out))
     go false t x = let z : _≡_ {A = ℕ} 0 1 = cc in absurd (omega arith)
     go true t x =
         let v = answer-room s store out f ∙ ap (λ (b : Bool). cond b 12 0) (ap (λ (l : List ℕ). ltb (length out) (length l)) (sym o) ∙ t) in
-        let e = step-refused 32 [] (length out) nextData s store 12 (λ z. absurd (omega (arith, z))) v in
+        let e = step-refused crane (length out) nextData s store 12 (λ z. absurd (omega (arith, z))) v in
         let k : a ≡ 12 = cc in
         (rw (e, k), rw e (p .left ∙ put-short out 0 octets (omega (arith, ltb-true (length out) (length octets) t))))
 
@@ -193,16 +198,16 @@ advanced s n k = rw (settled-same (after 32 nextData s) (sound-facts s k .choice
 
 -- a record was sent
 pub sending-done : (s : State) (store out after' octets : List ℕ) (r : Written) (n : ℕ) (x : Sending) → SendFacts s store
-    → octets ≡ written 32 [] nextData s store → r ≡ Octets n → Placed octets out r after'
+    → octets ≡ octetsNext s store → r ≡ Octets n → Placed octets out r after'
     → x ≡ sentOctets s n
-    → (x ≡ sendingOf s (nextDataStep 32 s store out)) × (after' ≡ outputAfter out (nextDataStep 32 s store out))
+    → (x ≡ sendingOf s (nextDataStep s store out)) × (after' ≡ outputAfter out (nextDataStep s store out))
 sending-done s store out after' octets r n x f o q p e =
     let d = sent-done s store out after' octets r n f o q p in
     (e ∙ advanced s n (f .isSound) ∙ ap (sendingBy s) (d .0), d .1)
 
 -- none was: the output is too short
 pub sending-refused : (s : State) (store out after' octets : List ℕ) (r : Written) (a : ℕ) (x : Sending) → SendFacts s store
-    → octets ≡ written 32 [] nextData s store → r ≡ Refused a → Placed octets out r after'
+    → octets ≡ octetsNext s store → r ≡ Refused a → Placed octets out r after'
     → x ≡ record {
       answer = a;
       written = 0;
@@ -212,7 +217,7 @@ pub sending-refused : (s : State) (store out after' octets : List ℕ) (r : Writ
       reached = s .delivery .reached;
       due = s .due;
     }
-    → (x ≡ sendingOf s (nextDataStep 32 s store out)) × (after' ≡ outputAfter out (nextDataStep 32 s store out))
+    → (x ≡ sendingOf s (nextDataStep s store out)) × (after' ≡ outputAfter out (nextDataStep s store out))
 sending-refused s store out after' octets r a x f o q p e =
     let d = sent-refused s store out after' octets r a f o q p in
     let t = number (ltb (length out) (length octets)) (sym q ∙ p .answered) in
@@ -238,16 +243,16 @@ pub sending-kept : (s : State) (store out : List ℕ) (a : ℕ) (x : Sending) �
       reached = s .delivery .reached;
       due = s .due;
     }
-    → (x ≡ sendingOf s (nextDataStep 32 s store out)) × (out ≡ outputAfter out (nextDataStep 32 s store out))
+    → (x ≡ sendingOf s (nextDataStep s store out)) × (out ≡ outputAfter out (nextDataStep s store out))
 sending-kept s store out a x h e q =
     let j = e ∙ send-refused s store out (λ z. h (e ∙ z)) in
-    rw (step-refused 32 [] (length out) nextData s store a h (sym j), ne-eqb a done h) (q, refl)
+    rw (step-refused crane (length out) nextData s store a h (sym j), ne-eqb a done h) (q, refl)
 
 -- an accepted call found a record to send and a server to send it to
-next-facts : (s : State) (store out : List ℕ) → answer 32 [] (length out) nextData s store ≡ done → SendFacts s store
+next-facts : (s : State) (store out : List ℕ) → answer crane (length out) nextData s store ≡ done → SendFacts s store
 unfolding answer checks
 next-facts s store out e =
-    let p = passed ((unsoundState when not (soundFor nextData s store)) ∷ checks 32 [] (length out) nextData s store) tt e in
+    let p = passed ((unsoundState when not (soundFor nextData s store)) ∷ checks crane (length out) nextData s store) tt e in
     let both = not-false (sound s && eqb (length store) (s .capacity)) (p .0) in
     record {
       isSound = and-left (sound s) _ both;
@@ -276,30 +281,30 @@ withSent s c =
 
 module _ (s : State) (store out : List ℕ) where
   -- an outcome's change is made to one of the 64 entries
-  sending-place : sendingOf s (nextDataStep 32 s store out) .place < 64
-  sending-place = go (eqb (answer 32 [] (length out) nextData s store) done) refl
+  sending-place : sendingOf s (nextDataStep s store out) .place < 64
+  sending-place = go (eqb (answer crane (length out) nextData s store) done) refl
     where
-      go : (b : Bool) → eqb (answer 32 [] (length out) nextData s store) done ≡ b → sendingOf s (nextDataStep 32 s store out) .place < 64
+      go : (b : Bool) → eqb (answer crane (length out) nextData s store) done ≡ b → sendingOf s (nextDataStep s store out) .place < 64
       go true q =
-          let e = eqb-true (answer 32 [] (length out) nextData s store) done q in
+          let e = eqb-true (answer crane (length out) nextData s store) done q in
           let f = next-facts s store out e in
           let n = sound-facts s (f .isSound) .numbers in
-          rw (step-done 32 [] (length out) nextData s store e) (omega (arith, f .more, n .few))
-      go false q = rw (step-refused 32 [] (length out) nextData s store _ (eqb-false (answer 32 [] (length out) nextData s store) done q) refl, q) (omega arith)
+          rw (step-done crane (length out) nextData s store e) (omega (arith, f .more, n .few))
+      go false q = rw (step-refused crane (length out) nextData s store _ (eqb-false (answer crane (length out) nextData s store) done q) refl, q) (omega arith)
 
-  pub sending-inside : (x : Sending) → x ≡ sendingOf s (nextDataStep 32 s store out) → x .place < 64
+  pub sending-inside : (x : Sending) → x ≡ sendingOf s (nextDataStep s store out) → x .place < 64
   sending-inside x e = rw e sending-place
 
   -- the state with an outcome's change is the outcome's
   sending-applied : _≡_ {A = Wrote}
       (record {
-        answer = sendingOf s (nextDataStep 32 s store out) .answer;
-        written = sendingOf s (nextDataStep 32 s store out) .written;
-        state = withSent s (sendingOf s (nextDataStep 32 s store out));
+        answer = sendingOf s (nextDataStep s store out) .answer;
+        written = sendingOf s (nextDataStep s store out) .written;
+        state = withSent s (sendingOf s (nextDataStep s store out));
       })
-      (wroteOf (nextDataStep 32 s store out))
+      (wroteOf (nextDataStep s store out))
   unfolding after sentOne marked
-  sending-applied = go (eqb (answer 32 [] (length out) nextData s store) done) refl
+  sending-applied = go (eqb (answer crane (length out) nextData s store) done) refl
     where
       applied : Outcome → Wrote
       applied o =
@@ -309,21 +314,21 @@ module _ (s : State) (store out : List ℕ) where
             state = withSent s (sendingOf s o);
           }
 
-      go : (b : Bool) → eqb (answer 32 [] (length out) nextData s store) done ≡ b → applied (nextDataStep 32 s store out) ≡ wroteOf (nextDataStep 32 s store out)
+      go : (b : Bool) → eqb (answer crane (length out) nextData s store) done ≡ b → applied (nextDataStep s store out) ≡ wroteOf (nextDataStep s store out)
       go true q =
-          let e = eqb-true (answer 32 [] (length out) nextData s store) done q in
+          let e = eqb-true (answer crane (length out) nextData s store) done q in
           let k = next-facts s store out e .isSound in
           rw (
-            step-done 32 [] (length out) nextData s store e,
+            step-done crane (length out) nextData s store e,
             settled-same (after 32 nextData s) (sound-facts s k .choice),
           )
       go false q =
           rw (
-            step-refused 32 [] (length out) nextData s store _ (eqb-false (answer 32 [] (length out) nextData s store) done q) refl,
+            step-refused crane (length out) nextData s store _ (eqb-false (answer crane (length out) nextData s store) done q) refl,
             q,
             set-getD (s .queue .receivers) 0 0,
           )
 
-  pub sent-applied : (x : Sending) → x ≡ sendingOf s (nextDataStep 32 s store out)
-      → _≡_ {A = Wrote} (record { answer = x .answer; written = x .written; state = withSent s x }) (wroteOf (nextDataStep 32 s store out))
+  pub sent-applied : (x : Sending) → x ≡ sendingOf s (nextDataStep s store out)
+      → _≡_ {A = Wrote} (record { answer = x .answer; written = x .written; state = withSent s x }) (wroteOf (nextDataStep s store out))
   sent-applied x e = rw e sending-applied

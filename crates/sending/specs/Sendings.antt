@@ -9,7 +9,7 @@ use Rattle.octets.specs.Answers.{done}
 use Rattle.session.specs.Servers.{isNobody}
 use Rattle.session.specs.Queue.{markedSet}
 use Rattle.session.specs.Sound.{sound}
-use Rattle.session.specs.Steps.{Outcome}
+use Rattle.session.specs.Steps.{Outcome, octetsWritten}
 use Rattle.sending.specs.declared.next_data.Sending.{Sending}
 use Rattle.session.specs.declared.state.State.{State}
 
@@ -27,7 +27,7 @@ sendingOf s o =
     let sets = s .queue .receivers in
     record {
       answer = o .answer;
-      written = length (o .written);
+      written = length (octetsWritten o);
       place = cond accepted (s .delivery .sent) 0;
       set = cond accepted (markedSet (s .delivery .active) (getD sets (s .delivery .sent) 0)) (getD sets 0 0);
       sent = o .state .delivery .sent;

@@ -225,7 +225,7 @@ fn send<'a, 'b>(
     requires { ⌜ SendFacts (stateOf p capacity d due count (now lengths) (now templates) (now receivers) start next) (now store) ⌝ }
     ensures { λ r. ⌜
         (let s = stateOf p capacity d due count (now (lengths .entry)) (now (templates .entry)) (now (receivers .entry)) start next in
-        let o = nextDataStep 32 s (now (store .entry)) (now (out .entry)) in
+        let o = nextDataStep s (now (store .entry)) (now (out .entry)) in
         (r ≡ sendingOf s o) × (now (out .exit) ≡ outputAfter (now (out .entry)) o)) ⌝ }
 {
     let i = d.sent;
@@ -256,7 +256,7 @@ fn next_change<'a, 'b>(
 ) -> Sending
     ensures { λ r. ⌜
         (let s = stateOf p capacity d due count (now (lengths .entry)) (now (templates .entry)) (now (receivers .entry)) start next in
-        let o = nextDataStep 32 s (now (store .entry)) (now (out .entry)) in
+        let o = nextDataStep s (now (store .entry)) (now (out .entry)) in
         (r ≡ sendingOf s o) × (now (out .exit) ≡ outputAfter (now (out .entry)) o)) ⌝ }
 {
     let stored = store.len();
@@ -292,8 +292,8 @@ fn next_change<'a, 'b>(
 
 // Sends the next unsent record as DATA to the active server, into the output. Refused with 1, 13, 14 or 12.
 pub fn next_data(s: State, store: &[u8], out: &mut [u8]) -> Wrote
-    ensures { λ r. ⌜ (r ≡ wroteOf (nextDataStep 32 s (now (store .entry)) (now (out .entry))))
-        × (now (out .exit) ≡ outputAfter (now (out .entry)) (nextDataStep 32 s (now (store .entry)) (now (out .entry)))) ⌝ }
+    ensures { λ r. ⌜ (r ≡ wroteOf (nextDataStep s (now (store .entry)) (now (out .entry))))
+        × (now (out .exit) ≡ outputAfter (now (out .entry)) (nextDataStep s (now (store .entry)) (now (out .entry)))) ⌝ }
 {
     let p = s.settings;
     let d = s.delivery;

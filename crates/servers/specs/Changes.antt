@@ -4,7 +4,7 @@ use mathlib.Core.Bool.{Bool, _||_}
 use lib.ListN.{length}
 use Rattle.octets.specs.Answers.{done}
 use Rattle.session.specs.Servers.{changed, settle}
-use Rattle.session.specs.Steps.{withDue, Outcome}
+use Rattle.session.specs.Steps.{withDue, Outcome, octetsWritten}
 use Rattle.servers.specs.declared.change.Change.{Change}
 use Rattle.session.specs.declared.state.Active.{Active}
 use Rattle.session.specs.declared.state.Active.the-variants as active
@@ -22,7 +22,7 @@ refusedChange a d due = record { answer = a; written = 0; delivery = d; due = du
 
 -- The change that an outcome makes.
 abbrev pub changeOf : Outcome → Change
-changeOf o = record { answer = o .answer; written = length (o .written); delivery = o .state .delivery; due = o .state .due }
+changeOf o = record { answer = o .answer; written = length (octetsWritten o); delivery = o .state .delivery; due = o .state .due }
 
 -- The state with a change.
 abbrev pub appliedTo : State → Change → State

@@ -12,19 +12,20 @@ use native.Mathlib.Omega.{arith}
 use lib.Dec.{eqb, leb, ltb}
 use lib.ListN.{length, getD, take, take-append-drop}
 use lib.Seq.{getD-drop}
-use borrow.Author.Tests.{leb-false, eqb-true, eqb-false, not-true, not-false, eq-eqb, le-leb, lt-leb, lt-ltb, le-ltb}
+use borrow.Author.Tests.{leb-false, eqb-true, eqb-false, not-true, not-false, eq-eqb, ne-eqb, le-leb, lt-leb, lt-ltb, le-ltb}
 use Rattle.octets.specs.Answers.{Check, _when_, judge, done, unsoundState}
 use Rattle.octets.proofs.Judging.{passed}
 use Rattle.octets.proofs.Each.{and-left, and-right}
 use Rattle.wire.specs.Table.{isMissing, templateOf}
 use Rattle.wire.specs.Record.{recordValid}
 use Rattle.wire.specs.Messages.{maxRecordOctets}
-use Rattle.session.specs.Servers.{sameActive, changed, settle, Transition, start, stop, negotiate, offer, down, agree, malformed}
+use Rattle.wire.specs.Replies.{silent, Encoding}
+use Rattle.session.specs.Servers.{sameActive, changed, settle, start, stop, negotiate, offer, down, agree, malformed}
 use Rattle.session.specs.Queue.{Entry, sumOf, heldOctets, held}
 use Rattle.session.specs.Limits.{maxHeld}
 use Rattle.session.specs.Steps.{modulus, ackCount, Call, put, nextData, tick, ack, move, isDuplicate, headOf, written, isSessions, checks, soundFor, answer, after, settled, storeAfter, Outcome, step}
 use Rattle.session.specs.History.{Ledger, History, dsnOf, ackPlace, deliveryAfter, ledgerAfter, afterAccepted, afterCall, writtenIn}
-use Rattle.session.specs.Claim.{Session, InRange, entryAt, nextPlace, isDuplicateFor, dueMessage, octetsIn, dueChecks, Named, ReleasedBy, Acknowledgeable, CallClaim, Account}
+use Rattle.session.specs.Claim.{Session, InRange, entryAt, nextPlace, isDuplicateFor, dueReply, octetsIn, dueChecks, Named, ReleasedBy, Acknowledgeable, CallClaim, Account}
 use Rattle.session.specs.declared.state.Active.{Active}
 use Rattle.session.specs.declared.state.Active.the-variants.{Nobody, Server}
 use Rattle.session.specs.declared.state.Delivery.{Delivery}
@@ -42,43 +43,43 @@ use Rattle.session.proofs.Keeps.{begun, begun-released, written-release
 -- ---- the state is sound
 
 pub sound-for : {w : ℕ} {h : History} {s : State} {store : List ℕ} → Agrees w h s store → (k : Call) → soundFor k s store ≡ true
-sound-for {s} {store} a (put id r) = rw (a .isSound) (eq-eqb (length store) (s .capacity) (a .core .stored))
+sound-for {s} {store} a (put table id r) = rw (a .isSound) (eq-eqb (length store) (s .capacity) (a .core .stored))
 sound-for {s} {store} a nextData = rw (a .isSound) (eq-eqb (length store) (s .capacity) (a .core .stored))
 sound-for a tick = a .isSound
 sound-for a (ack v d config) = a .isSound
 sound-for a (move v m) = a .isSound
 
 -- so that a call is judged by its own checks
-pub answer-checks : {w : ℕ} {h : History} {s : State} {store : List ℕ} → Agrees w h s store → (table : List ℕ) (room : ℕ) (k : Call)
-    → answer w table room k s store ≡ judge (checks w table room k s store)
+pub answer-checks : (enc : Encoding) {h : History} {s : State} {store : List ℕ} → Agrees (enc .width) h s store → (room : ℕ) (k : Call)
+    → answer enc room k s store ≡ judge (checks enc room k s store)
 unfolding answer
-answer-checks a table room k = rw (sound-for a k)
+answer-checks enc a room k = rw (sound-for a k)
 
 -- ---- the step
 
-abbrev accepted : ℕ → List ℕ → Call → State → List ℕ → Outcome
-accepted w table k s store =
-    record { answer = done; state = settled (after w k s); store = storeAfter k s store; written = written w table k s store }
+abbrev accepted : ℕ → Call → State → List ℕ → Outcome
+accepted w k s store =
+    record { answer = done; state = settled (after w k s); store = storeAfter k s store; written = written w k s store }
 
 abbrev refused : ℕ → State → List ℕ → Outcome
-refused a s store = record { answer = a; state = s; store = store; written = [] }
+refused a s store = record { answer = a; state = s; store = store; written = silent }
 
 -- the settings stay
 after-settings : (w : ℕ) (k : Call) (s : State) → after w k s .settings ≡ s .settings
 unfolding after
-after-settings w (put id r) s = refl
+after-settings w (put table id r) s = refl
 after-settings w nextData s = refl
 after-settings w tick s = refl
 after-settings w (ack v d config) s = refl
 after-settings w (move v m) s = refl
 
-pub step-settings : (w : ℕ) (table : List ℕ) (room : ℕ) (k : Call) (s : State) (store : List ℕ)
-    → step w table room k s store .state .settings ≡ s .settings
+pub step-settings : (enc : Encoding) (room : ℕ) (k : Call) (s : State) (store : List ℕ)
+    → step enc room k s store .state .settings ≡ s .settings
 unfolding step settled
-step-settings w table room k s store = go (eqb (answer w table room k s store) done)
+step-settings enc room k s store = go (eqb (answer enc room k s store) done)
   where
-    go : (b : Bool) → cond b (accepted w table k s store) (refused (answer w table room k s store) s store) .state .settings ≡ s .settings
-    go true = after-settings w k s
+    go : (b : Bool) → cond b (accepted (enc .width) k s store) (refused (answer enc room k s store) s store) .state .settings ≡ s .settings
+    go true = after-settings (enc .width) k s
     go false = refl
 
 -- ---- an answer that is none of the checks' numbers
@@ -87,42 +88,29 @@ abbrev others : ℕ → List Check → Bool
 others n [] = not (eqb done n)
 others n ((a when b) ∷ cs) = not (eqb a n) && others n cs
 
-pub judge-other : (n : ℕ) (cs : List Check) → others n cs ≡ true → eqb (judge cs) n ≡ false
+judge-other : (n : ℕ) (cs : List Check) → others n cs ≡ true → eqb (judge cs) n ≡ false
 judge-other n [] e = not-true (eqb done n) e
 judge-other n ((a when true) ∷ cs) e = not-true (eqb a n) (and-left (not (eqb a n)) (others n cs) e)
 judge-other n ((a when false) ∷ cs) e = judge-other n cs (and-right (not (eqb a n)) (others n cs) e)
 
 -- a message that its form refuses is not refused with 1
-abbrev pub FairTransition : Transition → Type 0
-FairTransition start = Unit {0}
-FairTransition stop = Unit {0}
-FairTransition negotiate = Unit {0}
-FairTransition offer = Unit {0}
-FairTransition down = Unit {0}
-FairTransition (agree config) = Unit {0}
-FairTransition (malformed a) = eqb a unsoundState ≡ false
+form-other : (a : ℕ) → 3 ≤ a → eqb a unsoundState ≡ false
+form-other a h = ne-eqb a 1 (omega arith)
 
-abbrev pub Fair : Call → Type 0
-Fair (put id r) = Unit {0}
-Fair nextData = Unit {0}
-Fair tick = Unit {0}
-Fair (ack v d config) = Unit {0}
-Fair (move v m) = FairTransition m
-
-never-unsound : (w : ℕ) (table : List ℕ) (room : ℕ) (k : Call) (s : State) (store : List ℕ) → Fair k
-    → eqb (judge (checks w table room k s store)) unsoundState ≡ false
+never-unsound : (enc : Encoding) (room : ℕ) (k : Call) (s : State) (store : List ℕ) → InRange (enc .width) k
+    → eqb (judge (checks enc room k s store)) unsoundState ≡ false
 unfolding checks
-never-unsound w table room (put id r) s store f = judge-other unsoundState (checks w table room (put id r) s store) refl
-never-unsound w table room nextData s store f = judge-other unsoundState (checks w table room nextData s store) refl
-never-unsound w table room tick s store f = refl
-never-unsound w table room (ack v d config) s store f = judge-other unsoundState (checks w table room (ack v d config) s store) refl
-never-unsound w table room (move v start) s store f = judge-other unsoundState (checks w table room (move v start) s store) refl
-never-unsound w table room (move v stop) s store f = judge-other unsoundState (checks w table room (move v stop) s store) refl
-never-unsound w table room (move v negotiate) s store f = judge-other unsoundState (checks w table room (move v negotiate) s store) refl
-never-unsound w table room (move v offer) s store f = judge-other unsoundState (checks w table room (move v offer) s store) refl
-never-unsound w table room (move v down) s store f = judge-other unsoundState (checks w table room (move v down) s store) refl
-never-unsound w table room (move v (agree config)) s store f = judge-other unsoundState (checks w table room (move v (agree config)) s store) refl
-never-unsound w table room (move v (malformed a)) s store f = judge-other unsoundState (checks w table room (move v (malformed a)) s store) (rw f refl)
+never-unsound enc room (put table id r) s store f = judge-other unsoundState (checks enc room (put table id r) s store) refl
+never-unsound enc room nextData s store f = judge-other unsoundState (checks enc room nextData s store) refl
+never-unsound enc room tick s store f = refl
+never-unsound enc room (ack v d config) s store f = judge-other unsoundState (checks enc room (ack v d config) s store) refl
+never-unsound enc room (move v start) s store f = judge-other unsoundState (checks enc room (move v start) s store) refl
+never-unsound enc room (move v stop) s store f = judge-other unsoundState (checks enc room (move v stop) s store) refl
+never-unsound enc room (move v negotiate) s store f = judge-other unsoundState (checks enc room (move v negotiate) s store) refl
+never-unsound enc room (move v (offer table)) s store f = judge-other unsoundState (checks enc room (move v (offer table)) s store) refl
+never-unsound enc room (move v down) s store f = judge-other unsoundState (checks enc room (move v down) s store) refl
+never-unsound enc room (move v (agree config)) s store f = judge-other unsoundState (checks enc room (move v (agree config)) s store) refl
+never-unsound enc room (move v (malformed a)) s store f = judge-other unsoundState (checks enc room (move v (malformed a)) s store) (rw (form-other a (f .0)) refl)
 
 -- ---- the held records
 
@@ -137,45 +125,49 @@ held-entry {h} {s} {store} a i g =
 -- ---- a call
 
 -- the session that a state belongs to
-abbrev pub sessionAt : ℕ → State → Session
-sessionAt w s = record { width = w; settings = s .settings }
+abbrev pub sessionAt : Encoding → State → Session
+sessionAt enc s = record { encoding = enc; settings = s .settings }
 
-module _ (w : ℕ) (table : List ℕ) (room : ℕ) (h : History) (s : State) (store : List ℕ) (wide : 64 < modulus w) (a : Agrees w h s store) where
+module _ (enc : Encoding) (room : ℕ) (h : History) (s : State) (store : List ℕ) (wide : 64 < modulus (enc .width)) (a : Agrees (enc .width) h s store) where
+  -- how many bits a sequence number has
+  abbrev w : ℕ
+  w = enc .width
+
   -- what the sound state is known by
   facts : SoundFacts s
   facts = sound-facts s (a .isSound)
 
   -- an accepted call
-  accept-keeps : (k : Call) → InRange w k → judge (checks w table room k s store) ≡ done
+  accept-keeps : (k : Call) → InRange w k → judge (checks enc room k s store) ≡ done
       → Agrees w (afterAccepted w (s .settings) k h) (settled (after w k s)) (storeAfter k s store)
   unfolding afterAccepted settled
   accept-keeps k r e =
       let same : after w k s .settings ≡ s .settings = after-settings w k s in
-      let z : after w k s .delivery ≡ deliveryAfter w (s .settings) k (h .ledger) (s .delivery) = call-delivery w (h .ledger) s store wide (a .isSound) (a .sized) (a .core) table room k r e in
+      let z : after w k s .delivery ≡ deliveryAfter w (s .settings) k (h .ledger) (s .delivery) = call-delivery enc (h .ledger) s store wide (a .isSound) (a .sized) (a .core) room k r e in
       let l : Ledger = ledgerAfter w (s .settings) k (s .delivery) (h .ledger) in
-      let c = settle-keeps (call-keeps w (h .ledger) s store wide (a .isSound) (a .sized) (a .core) table room k r e) in
+      let c = settle-keeps (call-keeps enc (h .ledger) s store wide (a .isSound) (a .sized) (a .core) room k r e) in
       let q : changed (after w k s .settings) (after w k s .delivery) ≡ changed (s .settings) (deliveryAfter w (s .settings) k (h .ledger) (s .delivery)) =
       λ i. changed (same i) (z i) in
       rw (a .delivery) (record {
         delivery = λ i. settle (sym same i) (sym z i);
-        isSound = accepted-sound w table room k s store (a .sized) (a .isSound) e;
-        sized = after-sized s (a .sized) facts w table room k store e;
+        isSound = accepted-sound enc room k s store (a .sized) (a .isSound) e;
+        sized = after-sized s (a .sized) facts enc room k store e;
         core = subst (λ (b : Bool). Core w (begun b l) (settled (after w k s)) (storeAfter k s store)) q c;
       })
 
   pub step-keeps : (k : Call) → InRange w k
-      → let o = step w table room k s store in Agrees w (afterCall w (s .settings) k (o .answer) h) (o .state) (o .store)
+      → let o = step enc room k s store in Agrees w (afterCall w (s .settings) k (o .answer) h) (o .state) (o .store)
   unfolding step afterCall
-  step-keeps k r = go (eqb (answer w table room k s store) done) refl
+  step-keeps k r = go (eqb (answer enc room k s store) done) refl
     where
       b₀ : ℕ
-      b₀ = answer w table room k s store
+      b₀ = answer enc room k s store
 
       o : Bool → Outcome
-      o b = cond b (accepted w table k s store) (refused b₀ s store)
+      o b = cond b (accepted w k s store) (refused b₀ s store)
 
       go : (b : Bool) → eqb b₀ done ≡ b → Agrees w (afterCall w (s .settings) k (o b .answer) h) (o b .state) (o b .store)
-      go true z = accept-keeps k r (sym (answer-checks a table room k) ∙ eqb-true b₀ done z)
+      go true z = accept-keeps k r (sym (answer-checks enc a room k) ∙ eqb-true b₀ done z)
       go false z = rw z a
 
   -- ---- what the next DATA is
@@ -200,12 +192,12 @@ module _ (w : ℕ) (table : List ℕ) (room : ℕ) (h : History) (s : State) (st
       (λ u. a .core .stock .marks (s .delivery .sent) u g)
       (a .core .stock .existing (h .ledger .released + (s .delivery .sent + 1)))
 
-  next-written : s .delivery .sent < s .queue .count → written w table nextData s store ≡ dueMessage (sessionAt w s) table h nextData
+  next-written : s .delivery .sent < s .queue .count → written w nextData s store ≡ dueReply (sessionAt enc s) h nextData
   unfolding written headOf
   next-written g =
       let e = next-entry g in
       let c = a .core in
-      rw (a .delivery, e, c .starts, held-dsn w (h .ledger) s store wide (a .isSound) (a .sized) c (s .delivery .sent), duplicate-at (s .delivery .active) g) refl
+      rw (a .delivery, e, c .starts, held-dsn enc (h .ledger) s store wide (a .isSound) (a .sized) c (s .delivery .sent), duplicate-at (s .delivery .active) g) refl
 
   -- ---- the refusals that are due
 
@@ -218,12 +210,12 @@ module _ (w : ℕ) (table : List ℕ) (room : ℕ) (h : History) (s : State) (st
       let n : ℕ = s .queue .count in
       sym (zero-add (octetsIn (held s store))) ∙ held-octets s store 0 n (omega (arith, a .sized .lengths, facts .numbers .few)) ∙ ap (λ (i : ℕ). sumOf (take i (s .queue .lengths))) (zero-add n)
 
-  due-put : (id : ℕ) (r : List ℕ)
-      → judge (checks w table room (put id r) s store) ≡ judge (dueChecks (sessionAt w s) (length store) room table h (held s store) (put id r))
+  due-put : (table : List ℕ) (id : ℕ) (r : List ℕ)
+      → judge (checks enc room (put table id r) s store) ≡ judge (dueChecks (sessionAt enc s) (length store) room h (held s store) (put table id r))
   unfolding checks
-  due-put id r = rw (count-held, octets-held, a .core .stored) refl
+  due-put table id r = rw (count-held, octets-held, a .core .stored) refl
 
-  due-next : judge (checks w table room nextData s store) ≡ judge (dueChecks (sessionAt w s) (length store) room table h (held s store) nextData)
+  due-next : judge (checks enc room nextData s store) ≡ judge (dueChecks (sessionAt enc s) (length store) room h (held s store) nextData)
   unfolding checks
   due-next = go (decLt (s .delivery .sent) (s .queue .count))
     where
@@ -234,7 +226,7 @@ module _ (w : ℕ) (table : List ℕ) (room : ℕ) (h : History) (s : State) (st
       active = ap (λ (d : Delivery). d .active) (a .delivery)
 
       go : Dec (s .delivery .sent < s .queue .count)
-          → judge (checks w table room nextData s store) ≡ judge (dueChecks (sessionAt w s) (length store) room table h (held s store) nextData)
+          → judge (checks enc room nextData s store) ≡ judge (dueChecks (sessionAt enc s) (length store) room h (held s store) nextData)
       go (yes g) =
           rw (
             next-written g,
@@ -250,7 +242,7 @@ module _ (w : ℕ) (table : List ℕ) (room : ℕ) (h : History) (s : State) (st
           ) refl
 
   due-ack : (v d config : ℕ) → d < modulus w
-      → judge (checks w table room (ack v d config) s store) ≡ judge (dueChecks (sessionAt w s) (length store) room table h (held s store) (ack v d config))
+      → judge (checks enc room (ack v d config) s store) ≡ judge (dueChecks (sessionAt enc s) (length store) room h (held s store) (ack v d config))
   unfolding checks
   due-ack v d config r =
       let c = a .core in
@@ -258,13 +250,13 @@ module _ (w : ℕ) (table : List ℕ) (room : ℕ) (h : History) (s : State) (st
       rw (
         a .delivery,
         reached-test w (s .settings) wide (s .delivery .reached) (l .released) (ackCount w s d) d (omega (arith, facts .numbers .reachedHeld, facts .numbers .few))
-            (ack-below w l s store wide (a .isSound) (a .sized) c d) (ack-dsn w l s store wide (a .isSound) (a .sized) c d r),
+            (ack-below enc l s store wide (a .isSound) (a .sized) c d) (ack-dsn enc l s store wide (a .isSound) (a .sized) c d r),
       ) refl
 
   due-answer : (k : Call) → InRange w k
-      → judge (checks w table room k s store) ≡ judge (dueChecks (sessionAt w s) (length store) room table h (held s store) k)
+      → judge (checks enc room k s store) ≡ judge (dueChecks (sessionAt enc s) (length store) room h (held s store) k)
   unfolding checks
-  due-answer (put id r) i = due-put id r
+  due-answer (put table id r) i = due-put table id r
   due-answer nextData i = due-next
   due-answer tick i = refl
   due-answer (ack v d config) i = due-ack v d config i
@@ -272,34 +264,34 @@ module _ (w : ℕ) (table : List ℕ) (room : ℕ) (h : History) (s : State) (st
 
   -- ---- what is claimed of an accepted call
 
-  sent-held : judge (checks w table room nextData s store) ≡ done → s .delivery .sent < s .queue .count
+  sent-held : judge (checks enc room nextData s store) ≡ done → s .delivery .sent < s .queue .count
   unfolding checks
-  sent-held e = leb-false _ _ (passed (checks w table room nextData s store) tt e .1 .0)
+  sent-held e = leb-false _ _ (passed (checks enc room nextData s store) tt e .1 .0)
 
-  due-written : (k : Call) → judge (checks w table room k s store) ≡ done → written w table k s store ≡ dueMessage (sessionAt w s) table h k
+  due-written : (k : Call) → judge (checks enc room k s store) ≡ done → written w k s store ≡ dueReply (sessionAt enc s) h k
   unfolding written
-  due-written (put id r) e = refl
+  due-written (put table id r) e = refl
   due-written nextData e = next-written (sent-held e)
   due-written tick e = refl
   due-written (ack v d config) e = refl
   due-written (move v m) e = refl
 
-  stands-for : judge (checks w table room nextData s store) ≡ done → (q : ℕ) → h .ledger .released < q → q ≤ h .ledger .released + 64
+  stands-for : judge (checks enc room nextData s store) ≡ done → (q : ℕ) → h .ledger .released < q → q ≤ h .ledger .released + 64
       → dsnOf w (s .settings) q ≡ dsnOf w (s .settings) (nextPlace h) → q ≡ nextPlace h
   stands-for e q lo hi x =
       one-place w (s .settings) wide q (nextPlace h) (omega (arith, next-place))
       (omega (arith, next-place, sent-held e, facts .numbers .few)) x
 
-  next-accepted : judge (checks w table room nextData s store) ≡ done → nextPlace h ≤ length (h .ledger .records)
+  next-accepted : judge (checks enc room nextData s store) ≡ done → nextPlace h ≤ length (h .ledger .records)
   next-accepted e = omega (arith, next-place, sent-held e, a .core .stock .counted)
 
-  names-one : (v d config : ℕ) → d < modulus w → judge (checks w table room (ack v d config) s store) ≡ done → Named w (s .settings) (h .ledger) d
+  names-one : (v d config : ℕ) → d < modulus w → judge (checks enc room (ack v d config) s store) ≡ done → Named w (s .settings) (h .ledger) d
   names-one v d config b e =
       let l = h .ledger in
       let c = a .core in
-      let n : ackCount w s d ≤ s .delivery .reached = acked w l s store wide (a .isSound) (a .sized) c table room v d config e in
-      let y : ackPlace w (s .settings) l d ≡ l .released + ackCount w s d = ack-named w l s store wide (a .isSound) (a .sized) c d b n in
-      let x : dsnOf w (s .settings) (ackPlace w (s .settings) l d) ≡ d = rw y (ack-dsn w l s store wide (a .isSound) (a .sized) c d b) in
+      let n : ackCount w s d ≤ s .delivery .reached = acked enc l s store wide (a .isSound) (a .sized) c room v d config e in
+      let y : ackPlace w (s .settings) l d ≡ l .released + ackCount w s d = ack-named enc l s store wide (a .isSound) (a .sized) c d b n in
+      let x : dsnOf w (s .settings) (ackPlace w (s .settings) l d) ≡ d = rw y (ack-dsn enc l s store wide (a .isSound) (a .sized) c d b) in
       record {
         from = omega arith;
         upTo = omega (arith, facts .numbers .reachedHeld, facts .numbers .few);
@@ -310,24 +302,24 @@ module _ (w : ℕ) (table : List ℕ) (room : ℕ) (h : History) (s : State) (st
         accepted = omega (arith, facts .numbers .reachedHeld, c .stock .counted);
       }
 
-  ledger-releases : (k : Call) → InRange w k → judge (checks w table room k s store) ≡ done → (q : ℕ) → h .ledger .released < q
+  ledger-releases : (k : Call) → InRange w k → judge (checks enc room k s store) ≡ done → (q : ℕ) → h .ledger .released < q
       → q ≤ ledgerAfter w (s .settings) k (h .delivery) (h .ledger) .released → ReleasedBy h k q
   unfolding ledgerAfter checks
-  ledger-releases (put id r) i e q lo hi = let y : ⊥ = omega arith in absurd y
+  ledger-releases (put table id r) i e q lo hi = let y : ⊥ = omega arith in absurd y
   ledger-releases nextData i e q lo hi = let y : ⊥ = omega (arith, written-released (h .delivery .active) (nextPlace h) (h .ledger)) in absurd y
   ledger-releases tick i e q lo hi = let y : ⊥ = omega arith in absurd y
   ledger-releases (move v m) i e q lo hi = let y : ⊥ = omega arith in absurd y
   ledger-releases (ack v d config) i e q lo hi =
-      let t = passed (checks w table room (ack v d config) s store) tt e in
+      let t = passed (checks enc room (ack v d config) s store) tt e in
       let active : s .delivery .active ≡ Server v = same-active (s .delivery .active) (Server v) (not-false (sameActive (s .delivery .active) (Server v)) (t .1 .0)) in
-      let n : ackCount w s d ≤ s .delivery .reached = acked w (h .ledger) s store wide (a .isSound) (a .sized) (a .core) table room v d config e in
+      let n : ackCount w s d ≤ s .delivery .reached = acked enc (h .ledger) s store wide (a .isSound) (a .sized) (a .core) room v d config e in
       record {
         server = v;
         dsn = d;
         config = config;
         acknowledges = refl;
         isActive = ap (λ (x : Delivery). x .active) (a .delivery) ∙ active;
-        wasWritten = a .core .since v q active lo (omega (arith, ack-named w (h .ledger) s store wide (a .isSound) (a .sized) (a .core) d i n));
+        wasWritten = a .core .since v q active lo (omega (arith, ack-named enc (h .ledger) s store wide (a .isSound) (a .sized) (a .core) d i n));
       }
 
   dsn-below : (q : ℕ) → dsnOf w (s .settings) q < modulus w
@@ -341,7 +333,7 @@ module _ (w : ℕ) (table : List ℕ) (room : ℕ) (h : History) (s : State) (st
 
   -- so its DATA ACK names no more than was reached, and passes every test
   ack-accepted : (v q : ℕ) → s .delivery .active ≡ Server v → Acknowledgeable h v q
-      → judge (checks w table room (ack v (dsnOf w (s .settings) q) (s .settings .config)) s store) ≡ done
+      → judge (checks enc room (ack v (dsnOf w (s .settings) q) (s .settings .config)) s store) ≡ done
   unfolding checks
   ack-accepted v q active x =
       let d : ℕ = dsnOf w (s .settings) q in
@@ -350,9 +342,9 @@ module _ (w : ℕ) (table : List ℕ) (room : ℕ) (h : History) (s : State) (st
       let far = within-reached v q x in
       let same : h .ledger .released + n ≡ q =
       one-place w (s .settings) wide (h .ledger .released + n) q
-      (omega (arith, ack-below w (h .ledger) s store wide (a .isSound) (a .sized) c d))
+      (omega (arith, ack-below enc (h .ledger) s store wide (a .isSound) (a .sized) c d))
       (omega (arith, far .1, facts .numbers .reachedHeld, facts .numbers .few))
-      (ack-dsn w (h .ledger) s store wide (a .isSound) (a .sized) c d (dsn-below q)) in
+      (ack-dsn enc (h .ledger) s store wide (a .isSound) (a .sized) c d (dsn-below q)) in
       let below : v < s .settings .servers =
       chosen-below (s .settings .priorities) (s .delivery .servers) (s .settings .servers) v (sym (facts .choice) ∙ active) in
       let turn : sameActive (s .delivery .active) (Server v) ≡ true = rw active (active-same (Server v)) in
@@ -363,11 +355,11 @@ module _ (w : ℕ) (table : List ℕ) (room : ℕ) (h : History) (s : State) (st
         le-ltb (s .delivery .reached) n (omega (arith, far .1)),
       )
 
-  due-putting : (id : ℕ) (r : List ℕ) → isSessions (s .settings) table ≡ true → isMissing table id ≡ false
+  due-putting : (table : List ℕ) (id : ℕ) (r : List ℕ) → isSessions (s .settings) table ≡ true → isMissing table id ≡ false
       → recordValid table (templateOf table id) r ≡ true → length r ≤ maxRecordOctets
-      → not (eqb (judge (checks w table room (put id r) s store)) done) ≡ (leb maxHeld (length (held s store)) || ltb (length store) (octetsIn (held s store) + length r))
-  due-putting id r t m v b =
-      rw (due-put id r, t, m, v, le-ltb maxRecordOctets (length r) b)
+      → not (eqb (judge (checks enc room (put table id r) s store)) done) ≡ (leb maxHeld (length (held s store)) || ltb (length store) (octetsIn (held s store) + length r))
+  due-putting table id r t m v b =
+      rw (due-put table id r, t, m, v, le-ltb maxRecordOctets (length r) b)
       (go (leb maxHeld (length (held s store))) (ltb (length store) (octetsIn (held s store) + length r)))
     where
       go : (x y : Bool) → not (eqb (cond x 18 (cond y 19 0)) 0) ≡ x || y
@@ -377,23 +369,23 @@ module _ (w : ℕ) (table : List ℕ) (room : ℕ) (h : History) (s : State) (st
 
   -- ---- what is claimed of any call
 
-  call-answer : (k : Call) → step w table room k s store .answer ≡ judge (checks w table room k s store)
-  call-answer k = step-answer w table room k s store ∙ answer-checks a table room k
+  call-answer : (k : Call) → step enc room k s store .answer ≡ judge (checks enc room k s store)
+  call-answer k = step-answer enc room k s store ∙ answer-checks enc a room k
 
   step-writes : (k : Call)
-      → let o = step w table room k s store in o .written ≡ cond (eqb (o .answer) done) (dueMessage (sessionAt w s) table h k) []
+      → let o = step enc room k s store in o .written ≡ cond (eqb (o .answer) done) (dueReply (sessionAt enc s) h k) silent
   unfolding step
-  step-writes k = go (eqb (answer w table room k s store) done) refl
+  step-writes k = go (eqb (answer enc room k s store) done) refl
     where
       b₀ : ℕ
-      b₀ = answer w table room k s store
+      b₀ = answer enc room k s store
 
       go : (b : Bool) → eqb b₀ done ≡ b
-          → let o = cond b (accepted w table k s store) (refused b₀ s store) in o .written ≡ cond (eqb (o .answer) done) (dueMessage (sessionAt w s) table h k) []
-      go true e = due-written k (sym (answer-checks a table room k) ∙ eqb-true b₀ done e)
+          → let o = cond b (accepted w k s store) (refused b₀ s store) in o .written ≡ cond (eqb (o .answer) done) (dueReply (sessionAt enc s) h k) silent
+      go true e = due-written k (sym (answer-checks enc a room k) ∙ eqb-true b₀ done e)
       go false e = rw e refl
 
-  step-releases : (k : Call) → InRange w k → (n : ℕ) → judge (checks w table room k s store) ≡ n → (q : ℕ) → h .ledger .released < q
+  step-releases : (k : Call) → InRange w k → (n : ℕ) → judge (checks enc room k s store) ≡ n → (q : ℕ) → h .ledger .released < q
       → q ≤ afterCall w (s .settings) k n h .ledger .released → ReleasedBy h k q
   unfolding afterCall afterAccepted
   step-releases k i n e q lo hi = go (eqb n done) refl hi
@@ -404,15 +396,15 @@ module _ (w : ℕ) (table : List ℕ) (room : ℕ) (h : History) (s : State) (st
           (rw (begun-released (changed (s .settings) (deliveryAfter w (s .settings) k (h .ledger) (h .delivery))) (ledgerAfter w (s .settings) k (h .delivery) (h .ledger))) at y)
       go false x y = let f : ⊥ = omega arith in absurd f
 
-  pub call-claim : (k : Call) → InRange w k → Fair k
-      → CallClaim (sessionAt w s) (length store) room table h (held s store) k (step w table room k s store)
-  call-claim k i f =
-      let o = step w table room k s store in
-      let checked : (j : Call) → k ≡ j → o .answer ≡ done → judge (checks w table room j s store) ≡ done =
-      λ j e x. subst (λ (j : Call). judge (checks w table room j s store) ≡ done) e (sym (call-answer k) ∙ x) in
+  pub call-claim : (k : Call) → InRange w k
+      → CallClaim (sessionAt enc s) (length store) room h (held s store) k (step enc room k s store)
+  call-claim k i =
+      let o = step enc room k s store in
+      let checked : (j : Call) → k ≡ j → o .answer ≡ done → judge (checks enc room j s store) ≡ done =
+      λ j e x. subst (λ (j : Call). judge (checks enc room j s store) ≡ done) e (sym (call-answer k) ∙ x) in
       record {
         answered = call-answer k ∙ due-answer k i;
-        neverUnsound = λ x. eqb-false (judge (checks w table room k s store)) unsoundState (never-unsound w table room k s store f) (sym (call-answer k) ∙ x);
+        neverUnsound = λ x. eqb-false (judge (checks enc room k s store)) unsoundState (never-unsound enc room k s store i) (sym (call-answer k) ∙ x);
         writes = step-writes k;
         standsFor = λ e x. stands-for (checked nextData e x);
         accepted = λ e x. next-accepted (checked nextData e x);
@@ -420,12 +412,12 @@ module _ (w : ℕ) (table : List ℕ) (room : ℕ) (h : History) (s : State) (st
         releases = step-releases k i (o .answer) (sym (call-answer k));
         ackAccepted = λ v q e active x.
             call-answer k
-            ∙ ap (λ (j : Call). judge (checks w table room j s store)) e
+            ∙ ap (λ (j : Call). judge (checks enc room j s store)) e
             ∙ ack-accepted v q (sym (ap (λ (y : Delivery). y .active) (a .delivery)) ∙ active) x;
-        putting = λ id r e t m v b.
+        putting = λ table id r e t m v b.
             ap (λ (n : ℕ). not (eqb n done)) (call-answer k)
-            ∙ ap (λ (j : Call). not (eqb (judge (checks w table room j s store)) done)) e
-            ∙ due-putting id r t m v b;
+            ∙ ap (λ (j : Call). not (eqb (judge (checks enc room j s store)) done)) e
+            ∙ due-putting table id r t m v b;
       }
 
 -- of the places that are not released, exactly the reached ones were written to the active server in its activation

@@ -2,7 +2,7 @@
 -- stays; the rest is what the step's definitions say.
 use mathlib.Core.Path.{_≡_, refl, sym, ap, _∙_}
 use mathlib.Core.Bool.{Bool, true, false, not, cond}
-use mathlib.Core.List.{List, []}
+use mathlib.Core.List.{List}
 use Prim.Native.Nat.{ℕ, _-_, _<_}
 use native.Mathlib.Omega.{arith}
 use lib.Dec.{eqb}
@@ -10,10 +10,11 @@ use lib.ListN.{length}
 use borrow.Author.Tests.{eqb-true, eqb-false}
 use Rattle.octets.specs.Answers.{judge, done, unsoundState}
 use Rattle.octets.proofs.Each.{and-left}
+use Rattle.wire.specs.Replies.{Encoding}
 use Rattle.session.specs.Servers.{choose, chosen, withCounts, sentOne, acknowledged}
 use Rattle.session.specs.Queue.{dropFront, marked}
 use Rattle.session.specs.Sound.{sound}
-use Rattle.session.specs.Steps.{ackCount, Call, nextData, ack, answer, checks, soundFor, after, Outcome, step, nextDataStep}
+use Rattle.session.specs.Steps.{ackCount, Call, nextData, ack, answer, checks, soundFor, after, Outcome, step}
 use Rattle.session.specs.Counters.{SentOne, Released, CounterRule}
 use Rattle.session.specs.declared.state.Server as serverOf
 use Rattle.session.specs.declared.state.Delivery.{Delivery}
@@ -22,31 +23,31 @@ use Rattle.session.proofs.SoundFacts.{sound-facts}
 use Rattle.session.proofs.StepLaws.{settled-same, step-done, step-answer}
 
 -- an accepted call found the state sound, and where no phase changes, its choice stays
-module _ (w : ℕ) (table : List ℕ) (room : ℕ) (c : Call) (s : State) (store : List ℕ) (done₀ : step w table room c s store .answer ≡ done) where
-  judged : answer w table room c s store ≡ done
-  judged = sym (step-answer w table room c s store) ∙ done₀
+module _ (enc : Encoding) (room : ℕ) (c : Call) (s : State) (store : List ℕ) (done₀ : step enc room c s store .answer ≡ done) where
+  judged : answer enc room c s store ≡ done
+  judged = sym (step-answer enc room c s store) ∙ done₀
 
   accepted-sound : soundFor c s store ≡ true
   unfolding answer
   accepted-sound = go (soundFor c s store) judged
     where
-      go : (b : Bool) → cond (not b) unsoundState (judge (checks w table room c s store)) ≡ done → b ≡ true
+      go : (b : Bool) → cond (not b) unsoundState (judge (checks enc room c s store)) ≡ done → b ≡ true
       go true e = refl
       go false e = absurd (omega (arith, e))
 
   -- what the call leaves, where it changes neither servers nor choice
-  left-alone : sound s ≡ true → after w c s .delivery .active ≡ s .delivery .active
-      → chosen (after w c s .settings) (after w c s .delivery) ≡ chosen (s .settings) (s .delivery)
-      → step w table room c s store .state ≡ after w c s
+  left-alone : sound s ≡ true → after (enc .width) c s .delivery .active ≡ s .delivery .active
+      → chosen (after (enc .width) c s .settings) (after (enc .width) c s .delivery) ≡ chosen (s .settings) (s .delivery)
+      → step enc room c s store .state ≡ after (enc .width) c s
   left-alone h a b =
-      ap (λ (o : Outcome). o .state) (step-done w table room c s store judged)
-      ∙ settled-same (after w c s) (a ∙ sound-facts s h .choice ∙ sym b)
+      ap (λ (o : Outcome). o .state) (step-done enc room c s store judged)
+      ∙ settled-same (after (enc .width) c s) (a ∙ sound-facts s h .choice ∙ sym b)
 
-sent-one : (w : ℕ) (s : State) (store out : List ℕ) → nextDataStep w s store out .answer ≡ done → SentOne s (nextDataStep w s store out .state)
+sent-one : (enc : Encoding) (s : State) (room : ℕ) (store : List ℕ) → let o = step enc room nextData s store in o .answer ≡ done → SentOne s (o .state)
 unfolding after sentOne marked
-sent-one w s store out e =
-    let h : sound s ≡ true = and-left (sound s) (eqb (length store) (s .capacity)) (accepted-sound w [] (length out) nextData s store e) in
-    rw (left-alone w [] (length out) nextData s store e h refl refl)
+sent-one enc s room store e =
+    let h : sound s ≡ true = and-left (sound s) (eqb (length store) (s .capacity)) (accepted-sound enc room nextData s store e) in
+    rw (left-alone enc room nextData s store e h refl refl)
     (record { same = record { servers = refl; active = refl }; sent = refl; reached = refl; timer = refl; due = refl; count = refl })
 
 -- the delivery after a DATA ACK that names n records
@@ -87,14 +88,14 @@ counted n d = go (eqb n 0) refl
           timerStays = λ x. absurd (eqb-false n 0 e x);
         }
 
-released : (w : ℕ) (s : State) (table : List ℕ) (room v dsn config : ℕ) (store : List ℕ)
-    → let o = step w table room (ack v dsn config) s store in o .answer ≡ done → Released (ackCount w s dsn) s (o .state)
+released : (enc : Encoding) (s : State) (room v dsn config : ℕ) (store : List ℕ)
+    → let o = step enc room (ack v dsn config) s store in o .answer ≡ done → Released (ackCount (enc .width) s dsn) s (o .state)
 unfolding after dropFront
-released w s table room v dsn config store e =
+released enc s room v dsn config store e =
     let c = ack v dsn config in
-    let f = counted (ackCount w s dsn) (s .delivery) in
+    let f = counted (ackCount (enc .width) s dsn) (s .delivery) in
     let same = ap (λ (servers : List serverOf.Server). choose (s .settings .priorities) servers (s .settings .servers)) (f .servers) in
-    rw (left-alone w table room c s store e (accepted-sound w table room c s store e) (f .active) same)
+    rw (left-alone enc room c s store e (accepted-sound enc room c s store e) (f .active) same)
     (record {
       same = record { servers = f .servers; active = f .active };
       count = refl;
@@ -107,4 +108,4 @@ released w s table room v dsn config store e =
     })
 
 pub counter-rule : CounterRule
-counter-rule w s = record { nextData = sent-one w s; dataAck = released w s }
+counter-rule enc s = record { nextData = sent-one enc s; dataAck = released enc s }

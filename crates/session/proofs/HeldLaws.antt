@@ -39,16 +39,16 @@ held-kept s s′ store n f =
     (λ i g. f i ∙ sym (held-read s store i (omega (arith, n))))
 
 -- an accepted put leaves the held records and adds its own behind them
-pub held-put : (w : ℕ) (s : State) (store : List ℕ) (id : ℕ) (r : List ℕ) → Sized (s .queue) → sound s ≡ true
+pub held-put : (w : ℕ) (s : State) (store table : List ℕ) (id : ℕ) (r : List ℕ) → Sized (s .queue) → sound s ≡ true
     → length store ≡ s .capacity → s .queue .count < 64 → heldOctets (s .queue) + length r ≤ s .capacity
-    → held (after w (put id r) s) (storeAfter (put id r) s store) ≡ held s store ++ (record { template = id; octets = r } ∷ [])
+    → held (after w (put table id r) s) (storeAfter (put table id r) s store) ≡ held s store ++ (record { template = id; octets = r } ∷ [])
 unfolding after storeAfter pushed recordAt
-held-put w s store id r z e stored free fit =
+held-put w s store table id r z e stored free fit =
     let q = s .queue in
     let n : ℕ = q .count in
     let y : Entry = record { template = id; octets = r } in
-    let s′ : State = after w (put id r) s in
-    let store′ : List ℕ = storeAfter (put id r) s store in
+    let s′ : State = after w (put table id r) s in
+    let store′ : List ℕ = storeAfter (put table id r) s store in
     let at : ℕ = s .start + heldOctets q in
     let roomy : 0 < s .capacity = omega (arith, sound-facts s e .numbers .settings .someRoom) in
     let nl : n < length (q .lengths) = omega (arith, z .lengths) in

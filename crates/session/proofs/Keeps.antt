@@ -15,6 +15,7 @@ use borrow.Author.Tests.{ltb-false, leb-false, eqb-true, eq-eqb, ne-eqb}
 use Rattle.octets.specs.Answers.{judge, done}
 use Rattle.octets.proofs.Judging.{passed}
 use Rattle.octets.proofs.Each.{and-right}
+use Rattle.wire.specs.Replies.{Encoding}
 use Rattle.session.specs.Servers.{chosen, changed, settle, withServers, transition, sentOne, acknowledged, ticked}
 use Rattle.session.specs.Queue.{Entry, heldOctets, recordAt, has, with, pushed, dropFront, marked}
 use Rattle.session.specs.Sound.{sound}
@@ -123,7 +124,11 @@ calm-keeps {s} {store} d m c =
 
 -- ---- the calls
 
-module _ (w : ℕ) (l : Ledger) (s : State) (store : List ℕ) (wide : 64 < modulus w) (isSound : sound s ≡ true) (z : Sized (s .queue)) (c : Core w l s store) where
+module _ (enc : Encoding) (l : Ledger) (s : State) (store : List ℕ) (wide : 64 < modulus (enc .width)) (isSound : sound s ≡ true) (z : Sized (s .queue)) (c : Core (enc .width) l s store) where
+  -- how many bits a sequence number has
+  abbrev w : ℕ
+  w = enc .width
+
   -- what the sound state is known by
   f : SoundFacts s
   f = sound-facts s isSound
@@ -132,11 +137,11 @@ module _ (w : ℕ) (l : Ledger) (s : State) (store : List ℕ) (wide : 64 < modu
   below : (v : ℕ) → s .delivery .active ≡ Server v → v < s .settings .servers
   below v e = chosen-below (s .settings .priorities) (s .delivery .servers) (s .settings .servers) v (sym (f .choice) ∙ e)
 
-  put-keeps : (table : List ℕ) (room id : ℕ) (r : List ℕ) → judge (checks w table room (put id r) s store) ≡ done
-      → Core w (ledgerAfter w (s .settings) (put id r) (s .delivery) l) (after w (put id r) s) (storeAfter (put id r) s store)
+  put-keeps : (room : ℕ) (table : List ℕ) (id : ℕ) (r : List ℕ) → judge (checks enc room (put table id r) s store) ≡ done
+      → Core w (ledgerAfter w (s .settings) (put table id r) (s .delivery) l) (after w (put table id r) s) (storeAfter (put table id r) s store)
   unfolding checks ledgerAfter after storeAfter pushed
-  put-keeps table room id r e =
-      let a = passed (checks w table room (put id r) s store) tt e in
+  put-keeps room table id r e =
+      let a = passed (checks enc room (put table id r) s store) tt e in
       let k = c .stock in
       let q = s .queue in
       let n : ℕ = q .count in
@@ -150,7 +155,7 @@ module _ (w : ℕ) (l : Ledger) (s : State) (store : List ℕ) (wide : 64 < modu
         behind =
             drop-append-le (l .released) (l .records) (y ∷ []) (omega (arith, k .counted))
             ∙ ap (λ (hs : List Entry). hs ++ (y ∷ [])) (c .behind)
-            ∙ sym (held-put w s store id r z isSound (c .stored) free fit);
+            ∙ sym (held-put w s store table id r z isSound (c .stored) free fit);
         stock = record {
           counted = omega (arith, k .counted);
           following =
@@ -215,11 +220,11 @@ module _ (w : ℕ) (l : Ledger) (s : State) (store : List ℕ) (wide : 64 < modu
           or-right (eqb (l .released + (s .delivery .sent + 1)) j && eqb v u && eqb (l .activation) (l .activation)) (writtenIn (l .writings) j u (l .activation))
           (c .since u j (ea ∙ ap Server e) lo (omega (arith, f .numbers .sentReached)))
 
-  next-keeps : (table : List ℕ) (room : ℕ) → judge (checks w table room nextData s store) ≡ done
+  next-keeps : (room : ℕ) → judge (checks enc room nextData s store) ≡ done
       → Core w (ledgerAfter w (s .settings) nextData (s .delivery) l) (after w nextData s) store
   unfolding checks
-  next-keeps table room e =
-      let a = passed (checks w table room nextData s store) tt e in
+  next-keeps room e =
+      let a = passed (checks enc room nextData s store) tt e in
       let v = active-some (s .delivery .active) (a .0) in
       next-at (v .0) (v .1) (leb-false _ _ (a .1 .0))
 
@@ -236,9 +241,9 @@ module _ (w : ℕ) (l : Ledger) (s : State) (store : List ℕ) (wide : 64 < modu
       let e : l .released + 1 + i ≡ l .released + (i + 1) = omega arith in
       ap (λ (x : ℕ). (x + i) % modulus w) first-held ∙ dsn-add w (s .settings) wide (l .released + 1) i ∙ ap (dsnOf w (s .settings)) e
 
-  pub acked : (table : List ℕ) (room v d config : ℕ) → judge (checks w table room (ack v d config) s store) ≡ done → ackCount w s d ≤ s .delivery .reached
+  pub acked : (room v d config : ℕ) → judge (checks enc room (ack v d config) s store) ≡ done → ackCount w s d ≤ s .delivery .reached
   unfolding checks
-  acked table room v d config e = ltb-false _ _ (passed (checks w table room (ack v d config) s store) tt e .1 .1 .1 .0)
+  acked room v d config e = ltb-false _ _ (passed (checks enc room (ack v d config) s store) tt e .1 .1 .1 .0)
 
   -- the number of a DATA ACK is that of the place so many behind the released ones
   pub ack-dsn : (d : ℕ) → d < modulus w → dsnOf w (s .settings) (l .released + ackCount w s d) ≡ d
@@ -284,26 +289,26 @@ module _ (w : ℕ) (l : Ledger) (s : State) (store : List ℕ) (wide : 64 < modu
       })
 
   -- every accepted call
-  pub call-keeps : (table : List ℕ) (room : ℕ) (k : Call) → InRange w k → judge (checks w table room k s store) ≡ done
+  pub call-keeps : (room : ℕ) (k : Call) → InRange w k → judge (checks enc room k s store) ≡ done
       → Core w (ledgerAfter w (s .settings) k (s .delivery) l) (after w k s) (storeAfter k s store)
   unfolding ledgerAfter after storeAfter
-  call-keeps table room (put id r) h e = put-keeps table room id r e
-  call-keeps table room nextData h e = next-keeps table room e
-  call-keeps table room tick h e =
+  call-keeps room (put table id r) h e = put-keeps room table id r e
+  call-keeps room nextData h e = next-keeps room e
+  call-keeps room tick h e =
       calm-keeps (ticked (s .settings) (s .delivery)) (tick-calm (s .settings) (s .delivery) (f .numbers .settings .someDuration)) c
-  call-keeps table room (ack v d config) h e = ack-at v d config h (acked table room v d config e)
-  call-keeps table room (move v m) h e =
+  call-keeps room (ack v d config) h e = ack-at v d config h (acked room v d config e)
+  call-keeps room (move v m) h e =
       let servers = transition v m (s .delivery .servers) in
       calm-keeps (withServers (s .delivery) servers) (move-calm servers) c
 
   -- the history's delivery takes the same step
-  pub call-delivery : (table : List ℕ) (room : ℕ) (k : Call) → InRange w k → judge (checks w table room k s store) ≡ done
+  pub call-delivery : (room : ℕ) (k : Call) → InRange w k → judge (checks enc room k s store) ≡ done
       → after w k s .delivery ≡ deliveryAfter w (s .settings) k l (s .delivery)
   unfolding after deliveryAfter
-  call-delivery table room (put id r) h e = refl
-  call-delivery table room nextData h e = refl
-  call-delivery table room tick h e = refl
-  call-delivery table room (ack v d config) h e =
-      let z : ackCount w s d ≡ ackPlace w (s .settings) l d - l .released = omega (arith, ack-named d h (acked table room v d config e)) in
+  call-delivery room (put table id r) h e = refl
+  call-delivery room nextData h e = refl
+  call-delivery room tick h e = refl
+  call-delivery room (ack v d config) h e =
+      let z : ackCount w s d ≡ ackPlace w (s .settings) l d - l .released = omega (arith, ack-named d h (acked room v d config e)) in
       ap (λ (n : ℕ). acknowledged n (s .delivery)) z
-  call-delivery table room (move v m) h e = refl
+  call-delivery room (move v m) h e = refl

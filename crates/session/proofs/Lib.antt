@@ -1,4 +1,4 @@
--- The laws of the definitions, and the claim about every list of calls.
+-- The laws of the definitions, and the claim about every list of calls, by meaning and over octets.
 pub mod Arrays
 pub mod Rings
 pub mod SoundFacts
@@ -20,3 +20,4 @@ pub mod Order
 pub mod Timer
 pub mod Refusals
 pub mod Counters
+pub mod InOctets

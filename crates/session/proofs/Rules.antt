@@ -47,7 +47,7 @@ unfolding transition
 others-hold v u start servers n = set-other servers v u Started n
 others-hold v u stop servers n = set-other servers v u Closed n
 others-hold v u negotiate servers n = restarted-each servers u
-others-hold v u offer servers n = set-other servers v u Offered n
+others-hold v u (offer table) servers n = set-other servers v u Offered n
 others-hold v u down servers n = set-other servers v u Closed n
 others-hold v u (agree config) servers n = set-other servers v u Agreed n
 others-hold v u (malformed a) servers n = refl

@@ -18,6 +18,7 @@ use borrow.Author.Tests.{leb-false, ltb-false, eqb-true, eqb-false, eq-eqb}
 use Rattle.octets.specs.Answers.{_when_, judge, done, unsoundState, settingsOutsideLimits}
 use Rattle.octets.proofs.Judging.{passed}
 use Rattle.wire.specs.Messages.{maxRecordOctets}
+use Rattle.wire.specs.Replies.{Encoding}
 use Rattle.session.specs.Servers.{isNobody, chosen, changed, settle, withServers, withCounts, transition, sentOne, acknowledged, lateServers, anotherAgreed, expired, tickedFor, ticked}
 use Rattle.session.specs.Queue.{sumOf, octetsTo, heldOctets, has, with, markedSet, pushed, dropFront, marked}
 use Rattle.session.specs.Limits.{maxHeld}
@@ -277,10 +278,10 @@ module _ (s : State) (z : Sized (s .queue)) (f : SoundFacts s) where
       (omega (arith, rw whole at (sum-shifted (q .lengths) n (q .count - n) (omega (arith, z .lengths, k .few))), f .fits))
 
   -- a record of at most 1,024 octets put where there is room
-  put-fit : (w id : ℕ) (r : List ℕ) → length r ≤ maxRecordOctets → s .queue .count < maxHeld → heldOctets (s .queue) + length r ≤ s .capacity
-      → Fit (after w (put id r) s)
+  put-fit : (w : ℕ) (table : List ℕ) (id : ℕ) (r : List ℕ) → length r ≤ maxRecordOctets → s .queue .count < maxHeld → heldOctets (s .queue) + length r ≤ s .capacity
+      → Fit (after w (put table id r) s)
   unfolding after pushed
-  put-fit w id r brief free room =
+  put-fit w table id r brief free room =
       let k = f .numbers in
       let q = s .queue in
       let n : ℕ = q .count in
@@ -345,77 +346,77 @@ module _ (s : State) (z : Sized (s .queue)) (f : SoundFacts s) where
       })
 
   -- every accepted call
-  after-fit : (w : ℕ) (table : List ℕ) (room : ℕ) (c : Call) (store : List ℕ) → judge (checks w table room c s store) ≡ done → Fit (after w c s)
+  after-fit : (enc : Encoding) (room : ℕ) (c : Call) (store : List ℕ) → judge (checks enc room c s store) ≡ done → Fit (after (enc .width) c s)
   unfolding checks after
-  after-fit w table room (put id r) store e =
-      let p = passed (checks w table room (put id r) s store) tt e in
-      put-fit w id r (ltb-false _ _ (p .1 .1 .0)) (leb-false _ _ (p .1 .1 .1 .1 .0)) (ltb-false _ _ (p .1 .1 .1 .1 .1 .0))
-  after-fit w table room nextData store e =
-      let p = passed (checks w table room nextData s store) tt e in
+  after-fit enc room (put table id r) store e =
+      let p = passed (checks enc room (put table id r) s store) tt e in
+      put-fit (enc .width) table id r (ltb-false _ _ (p .1 .1 .0)) (leb-false _ _ (p .1 .1 .1 .1 .0)) (ltb-false _ _ (p .1 .1 .1 .1 .1 .0))
+  after-fit enc room nextData store e =
+      let p = passed (checks enc room nextData s store) tt e in
       let v = active-some (s .delivery .active) (p .0) in
-      next-fit w (v .0) (v .1) (leb-false _ _ (p .1 .0))
-  after-fit w table room tick store e =
+      next-fit (enc .width) (v .0) (v .1) (leb-false _ _ (p .1 .0))
+  after-fit enc room tick store e =
       calm-fit (ticked (s .settings) (s .delivery)) (tick-calm (s .settings) (s .delivery) (f .numbers .settings .someDuration))
-  after-fit w table room (ack v dsn config) store e =
-      ack-fit w v dsn config (ltb-false _ _ (passed (checks w table room (ack v dsn config) s store) tt e .1 .1 .1 .0))
-  after-fit w table room (move v m) store e =
+  after-fit enc room (ack v dsn config) store e =
+      ack-fit (enc .width) v dsn config (ltb-false _ _ (passed (checks enc room (ack v dsn config) s store) tt e .1 .1 .1 .0))
+  after-fit enc room (move v m) store e =
       let servers = transition v m (s .delivery .servers) in
       calm-fit (withServers (s .delivery) servers) (move-calm servers)
 
   -- it leaves the arrays their 64 entries
-  pub after-sized : (w : ℕ) (table : List ℕ) (room : ℕ) (c : Call) (store : List ℕ) → judge (checks w table room c s store) ≡ done
-      → Sized (after w c s .queue)
+  pub after-sized : (enc : Encoding) (room : ℕ) (c : Call) (store : List ℕ) → judge (checks enc room c s store) ≡ done
+      → Sized (after (enc .width) c s .queue)
   unfolding checks after pushed marked dropFront
-  after-sized w table room (put id r) store e =
+  after-sized enc room (put table id r) store e =
       let q = s .queue in
       record {
         lengths = length-set (q .lengths) (q .count) (length r) ∙ z .lengths;
         templates = length-set (q .templates) (q .count) id ∙ z .templates;
         receivers = length-set (q .receivers) (q .count) 0 ∙ z .receivers;
       }
-  after-sized w table room nextData store e =
+  after-sized enc room nextData store e =
       let at : ℕ = s .delivery .sent in
       record {
         lengths = z .lengths;
         templates = z .templates;
         receivers = length-set (s .queue .receivers) at (markedSet (s .delivery .active) (getD (s .queue .receivers) at 0)) ∙ z .receivers;
       }
-  after-sized w table room tick store e = z
-  after-sized w table room (ack v dsn config) store e =
+  after-sized enc room tick store e = z
+  after-sized enc room (ack v dsn config) store e =
       let q = s .queue in
-      let n : ℕ = ackCount w s dsn in
-      let b : n ≤ s .delivery .reached = ltb-false _ _ (passed (checks w table room (ack v dsn config) s store) tt e .1 .1 .1 .0) in
+      let n : ℕ = ackCount (enc .width) s dsn in
+      let b : n ≤ s .delivery .reached = ltb-false _ _ (passed (checks enc room (ack v dsn config) s store) tt e .1 .1 .1 .0) in
       let h : n ≤ 64 = omega (arith, f .numbers .reachedHeld, f .numbers .few) in
       record {
         lengths = shifted-length (q .lengths) n (omega (arith, z .lengths)) ∙ z .lengths;
         templates = shifted-length (q .templates) n (omega (arith, z .templates)) ∙ z .templates;
         receivers = shifted-length (q .receivers) n (omega (arith, z .receivers)) ∙ z .receivers;
       }
-  after-sized w table room (move v m) store e = z
+  after-sized enc room (move v m) store e = z
 
 -- an accepted call leaves a sound state
-pub accepted-sound : (w : ℕ) (table : List ℕ) (room : ℕ) (c : Call) (s : State) (store : List ℕ) → Sized (s .queue) → sound s ≡ true
-    → judge (checks w table room c s store) ≡ done → sound (settled (after w c s)) ≡ true
-accepted-sound w table room c s store z e a = settle-fit (after w c s) (after-fit s z (sound-facts s e) w table room c store a)
+pub accepted-sound : (enc : Encoding) (room : ℕ) (c : Call) (s : State) (store : List ℕ) → Sized (s .queue) → sound s ≡ true
+    → judge (checks enc room c s store) ≡ done → sound (settled (after (enc .width) c s)) ≡ true
+accepted-sound enc room c s store z e a = settle-fit (after (enc .width) c s) (after-fit s z (sound-facts s e) enc room c store a)
 
 -- ---- every call
 
 -- an accepted call has passed its own checks
-own-checks : (w : ℕ) (table : List ℕ) (room : ℕ) (c : Call) (s : State) (store : List ℕ) → answer w table room c s store ≡ 0
-    → judge (checks w table room c s store) ≡ done
+own-checks : (enc : Encoding) (room : ℕ) (c : Call) (s : State) (store : List ℕ) → answer enc room c s store ≡ 0
+    → judge (checks enc room c s store) ≡ done
 unfolding answer
-own-checks w table room c s store = go (not (soundFor c s store))
+own-checks enc room c s store = go (not (soundFor c s store))
   where
-    go : (b : Bool) → judge ((unsoundState when b) ∷ checks w table room c s store) ≡ done → judge (checks w table room c s store) ≡ done
+    go : (b : Bool) → judge ((unsoundState when b) ∷ checks enc room c s store) ≡ done → judge (checks enc room c s store) ≡ done
     go true e = let z : ⊥ = omega (arith, e) in absurd z
     go false e = e
 
 -- every call keeps a sound state sound
-pub kept-sound : (w : ℕ) (table : List ℕ) (room : ℕ) (c : Call) (s : State) (store : List ℕ) → Sized (s .queue) → sound s ≡ true
-    → sound (step w table room c s store .state) ≡ true
-kept-sound w table room c s store z e = go (ℕ-discrete (answer w table room c s store) 0)
+pub kept-sound : (enc : Encoding) (room : ℕ) (c : Call) (s : State) (store : List ℕ) → Sized (s .queue) → sound s ≡ true
+    → sound (step enc room c s store .state) ≡ true
+kept-sound enc room c s store z e = go (ℕ-discrete (answer enc room c s store) 0)
   where
-    go : Dec (answer w table room c s store ≡ 0) → sound (step w table room c s store .state) ≡ true
+    go : Dec (answer enc room c s store ≡ 0) → sound (step enc room c s store .state) ≡ true
     go (yes a) =
-        rw (step-done w table room c s store a) (accepted-sound w table room c s store z e (own-checks w table room c s store a))
-    go (no n) = rw (step-refused w table room c s store _ n refl) e
+        rw (step-done enc room c s store a) (accepted-sound enc room c s store z e (own-checks enc room c s store a))
+    go (no n) = rw (step-refused enc room c s store _ n refl) e

@@ -10,9 +10,10 @@ use native.Mathlib.Omega.{arith}
 use lib.Dec.{eqb}
 use borrow.Author.Tests.{eq-eqb, ne-eqb, lt-ltb, le-ltb}
 use Rattle.octets.specs.Answers.{done}
+use Rattle.wire.specs.Replies.{Encoding}
 use Rattle.session.specs.Servers.{phaseAt, isAgreed, isNobody, chosen, changed, settle, sameActive, otherAgreed, expired, lateServers, withCounts, withServers, tickedFor, ticked, IsChoice}
 use Rattle.session.specs.Sound.{sound}
-use Rattle.session.specs.Steps.{tick, answer, checks, after, settled, withDelivery, Outcome, tickStep}
+use Rattle.session.specs.Steps.{tick, answer, checks, after, settled, withDelivery, Outcome, step}
 use Rattle.session.specs.Timer.{withSentAndTimer, Runs, OtherAgreed, TurnedLate, TimerRule}
 use Rattle.session.specs.declared.state.Server as serverOf
 use Rattle.session.specs.declared.state.Active.{Active}
@@ -50,28 +51,28 @@ finds-none servers v (suc n) h = rw (finds-none servers v n (λ u l. h u (omega 
     go (no e) false x = rw (ne-eqb n v e)
     go (no e) true x = absurd (h n (omega arith) e x)
 
-module _ (w : ℕ) (s : State) (isSound : sound s ≡ true) where
-  tick-answer : answer w [] 0 tick s [] ≡ done
+module _ (enc : Encoding) (s : State) (isSound : sound s ≡ true) where
+  tick-answer : answer enc 0 tick s [] ≡ done
   unfolding answer checks
   tick-answer = rw isSound
 
-  after-tick : tickStep w s .state ≡ settled (withDelivery s (ticked (s .settings) (s .delivery)))
+  after-tick : step enc 0 tick s [] .state ≡ settled (withDelivery s (ticked (s .settings) (s .delivery)))
   unfolding after
-  after-tick = ap (λ (o : Outcome). o .state) (step-done w [] 0 tick s [] tick-answer)
+  after-tick = ap (λ (o : Outcome). o .state) (step-done enc 0 tick s [] tick-answer)
 
   -- where only counters change the choice stays
   same-choice : (sent timer : ℕ) → ticked (s .settings) (s .delivery) ≡ withCounts (s .delivery) sent (s .delivery .reached) timer
-      → tickStep w s .state ≡ withSentAndTimer s sent timer
+      → step enc 0 tick s [] .state ≡ withSentAndTimer s sent timer
   same-choice sent timer e =
       after-tick ∙ ap (λ (d : Delivery). settled (withDelivery s d)) e ∙ settled-same (withSentAndTimer s sent timer) (sound-facts s isSound .choice)
 
   -- ---- the counters alone
 
-  stopped-nobody : s .delivery .active ≡ Nobody → tickStep w s .state ≡ withSentAndTimer s (s .delivery .sent) 0
+  stopped-nobody : s .delivery .active ≡ Nobody → step enc 0 tick s [] .state ≡ withSentAndTimer s (s .delivery .sent) 0
   unfolding ticked
   stopped-nobody e = same-choice (s .delivery .sent) 0 (rw e refl)
 
-  stopped-below : s .delivery .reached < s .settings .threshold → tickStep w s .state ≡ withSentAndTimer s (s .delivery .sent) 0
+  stopped-below : s .delivery .reached < s .settings .threshold → step enc 0 tick s [] .state ≡ withSentAndTimer s (s .delivery .sent) 0
   unfolding ticked
   stopped-below l = same-choice (s .delivery .sent) 0 (go (s .delivery .active))
     where
@@ -90,7 +91,7 @@ module _ (w : ℕ) (s : State) (isSound : sound s ≡ true) where
       ap (tickedFor (s .settings) (s .delivery)) (r .active) ∙ rw (le-ltb (s .delivery .reached) (s .settings .threshold) (r .waiting))
 
   growing : (v : ℕ) → Runs s v → s .delivery .timer + 1 < s .settings .duration
-      → tickStep w s .state ≡ withSentAndTimer s (s .delivery .sent) (s .delivery .timer + 1)
+      → step enc 0 tick s [] .state ≡ withSentAndTimer s (s .delivery .sent) (s .delivery .timer + 1)
   growing v r l =
       same-choice (s .delivery .sent) (s .delivery .timer + 1)
       (running v r ∙ rw (ne-eqb (s .delivery .timer + 1) (s .settings .duration) (λ e. omega (arith, l, e))))
@@ -101,7 +102,7 @@ module _ (w : ℕ) (s : State) (isSound : sound s ≡ true) where
       → ticked (s .settings) (s .delivery) ≡ expired (s .settings) v (s .delivery)
   ran-out v r e = running v r ∙ rw (eq-eqb (s .delivery .timer + 1) (s .settings .duration) e)
 
-  sent-again : (v : ℕ) → Runs s v → s .delivery .timer + 1 ≡ s .settings .duration → (OtherAgreed s v → ⊥) → tickStep w s .state ≡ withSentAndTimer s 0 0
+  sent-again : (v : ℕ) → Runs s v → s .delivery .timer + 1 ≡ s .settings .duration → (OtherAgreed s v → ⊥) → step enc 0 tick s [] .state ≡ withSentAndTimer s 0 0
   unfolding expired
   sent-again v r e h =
       same-choice 0 0
@@ -112,7 +113,7 @@ module _ (w : ℕ) (s : State) (isSound : sound s ≡ true) where
   abbrev lateState : ℕ → State
   lateState v = withDelivery s (withCounts (withServers (s .delivery) (lateServers (s .delivery) v)) (s .delivery .sent) (s .delivery .reached) 0)
 
-  turned : (v : ℕ) → Runs s v → s .delivery .timer + 1 ≡ s .settings .duration → OtherAgreed s v → tickStep w s .state ≡ settled (lateState v)
+  turned : (v : ℕ) → Runs s v → s .delivery .timer + 1 ≡ s .settings .duration → OtherAgreed s v → step enc 0 tick s [] .state ≡ settled (lateState v)
   unfolding expired
   turned v r e o =
       after-tick
@@ -140,7 +141,7 @@ module _ (w : ℕ) (s : State) (isSound : sound s ≡ true) where
       go Nobody e = refl
       go (Server u) e = rw (ne-eqb u v (λ x. others-turn v o (Server u) e .1 (ap Server x)))
 
-  turned-late : (v : ℕ) → Runs s v → s .delivery .timer + 1 ≡ s .settings .duration → OtherAgreed s v → TurnedLate s v (tickStep w s .state)
+  turned-late : (v : ℕ) → Runs s v → s .delivery .timer + 1 ≡ s .settings .duration → OtherAgreed s v → TurnedLate s v (step enc 0 tick s [] .state)
   unfolding settled settle
   turned-late v r e o =
       let f = others-turn v o (chosen (s .settings) (lateState v .delivery)) refl in
@@ -148,12 +149,12 @@ module _ (w : ℕ) (s : State) (isSound : sound s ≡ true) where
       (record { servers = refl; somebody = f .0; another = f .1; sent = refl; reached = refl; timer = refl; due = refl; queue = refl; settings = refl; capacity = refl; start = refl; next = refl })
 
 pub timer-rule : TimerRule
-timer-rule w s isSound =
+timer-rule enc s isSound =
     record {
-      answered = ap (λ (o : Outcome). o .answer) (step-done w [] 0 tick s [] (tick-answer w s isSound));
-      nobody = stopped-nobody w s isSound;
-      below = stopped-below w s isSound;
-      grows = growing w s isSound;
-      late = turned-late w s isSound;
-      sentAgain = sent-again w s isSound;
+      answered = ap (λ (o : Outcome). o .answer) (step-done enc 0 tick s [] (tick-answer enc s isSound));
+      nobody = stopped-nobody enc s isSound;
+      below = stopped-below enc s isSound;
+      grows = growing enc s isSound;
+      late = turned-late enc s isSound;
+      sentAgain = sent-again enc s isSound;
     }

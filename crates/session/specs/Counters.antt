@@ -5,7 +5,9 @@ use mathlib.Core.Bool.{false}
 use mathlib.Core.List.{List}
 use Prim.Native.Nat.{ℕ, _+_, _-_, _<_, max}
 use Rattle.octets.specs.Answers.{done}
-use Rattle.session.specs.Steps.{ackCount, ack, step, nextDataStep}
+use Rattle.wire.specs.Replies.{Encoding}
+use Rattle.session.specs.Steps.{ackCount, ack, step}
+use Rattle.session.specs.Steps as calls
 use Rattle.session.specs.declared.state.State.{State}
 
 -- What a call leaves of the servers and of the choice: both stay.
@@ -35,11 +37,11 @@ pub record Released (n : ℕ) (s left : State) : Type 0 where
   pub due : left .due ≡ s .due
 
 -- Both rules.
-pub record CounterRules (w : ℕ) (s : State) : Type 0 where
-  pub nextData : (store out : List ℕ) → nextDataStep w s store out .answer ≡ done → SentOne s (nextDataStep w s store out .state)
-  pub dataAck : (table : List ℕ) (room v dsn config : ℕ) (store : List ℕ)
-      → let o = step w table room (ack v dsn config) s store in o .answer ≡ done → Released (ackCount w s dsn) s (o .state)
+pub record CounterRules (e : Encoding) (s : State) : Type 0 where
+  pub nextData : (room : ℕ) (store : List ℕ) → let o = step e room calls.nextData s store in o .answer ≡ done → SentOne s (o .state)
+  pub dataAck : (room v dsn config : ℕ) (store : List ℕ)
+      → let o = step e room (ack v dsn config) s store in o .answer ≡ done → Released (ackCount (e .width) s dsn) s (o .state)
 
--- They hold of every state.
+-- They hold of every state, whatever the encoding.
 abbrev pub CounterRule : Type 0
-CounterRule = (w : ℕ) (s : State) → CounterRules w s
+CounterRule = (e : Encoding) (s : State) → CounterRules e s

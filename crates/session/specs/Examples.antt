@@ -6,6 +6,7 @@ use Prim.Native.Nat.{ℕ}
 use lib.ListN.{set, replicate}
 use Rattle.octets.specs.Answers.{done, dsnNotAcknowledgeable, recordInvalid}
 use Rattle.wire.specs.Messages.{layoutOf, readOf, partOf}
+use Rattle.wire.specs.Replies.{crane}
 use Rattle.wire.specs.Table.{tableSound}
 use Rattle.wire.specs.Record.{recordAnswer}
 use Rattle.messages.specs.declared.message.Message.{Message}
@@ -87,7 +88,7 @@ Holds (message m part octets) = (layoutOf m part ≡ octets) × ((readOf octets 
 Holds (table octets) = tableSound octets ≡ true
 Holds (judged t id octets answer) = recordAnswer t id octets ≡ answer
 Holds (acknowledges count next dsn answer left sent) =
-    let o = step 32 [] 0 (ack 0 dsn 1) (holding count next) [] in
+    let o = step crane 0 (ack 0 dsn 1) (holding count next) [] in
     (o .answer ≡ answer) × ((o .state .queue .count ≡ left) × (o .state .delivery .sent ≡ sent))
 
 -- Every row holds.

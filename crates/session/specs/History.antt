@@ -64,7 +64,7 @@ ackPlace w p l d = placeOf w p maxHeld (l .released) d
 
 -- The delivery takes the exporter's steps; how many records a DATA ACK releases is counted by places.
 unfoldable pub deliveryAfter : ℕ → Settings → Call → Ledger → Delivery → Delivery
-deliveryAfter w p (put id r) l d = d
+deliveryAfter w p (put table id r) l d = d
 deliveryAfter w p nextData l d = sentOne d
 deliveryAfter w p tick l d = ticked p d
 deliveryAfter w p (ack v dsn config) l d = acknowledged (ackPlace w p l dsn - l .released) d
@@ -78,7 +78,7 @@ writtenBy (active.Server v) q l = withWriting l (record { place = q; server = v;
 -- A put's record takes the next place; a DATA writes the place that stands "sent" behind the released ones; a DATA ACK releases up to
 -- the place that it names.
 unfoldable pub ledgerAfter : ℕ → Settings → Call → Delivery → Ledger → Ledger
-ledgerAfter w p (put id r) d l = withRecords l (l .records ++ (record { template = id; octets = r } ∷ []))
+ledgerAfter w p (put table id r) d l = withRecords l (l .records ++ (record { template = id; octets = r } ∷ []))
 ledgerAfter w p nextData d l = writtenBy (d .active) (l .released + (d .sent + 1)) l
 ledgerAfter w p tick d l = l
 ledgerAfter w p (ack v dsn config) d l = withReleased l (ackPlace w p l dsn)

@@ -1,6 +1,6 @@
--- The definitions, in reading order: limits, servers, the queue, sound states, the calls and their steps, the history, the claim. Then what
--- is claimed of the steps besides: the examples, the rules about servers as a table, the order of refusals, the timer, the counters, and
--- that a refusal changes nothing.
+-- The definitions, in reading order: limits, servers, the queue, sound states, the calls and their steps, the history, the claim by meaning
+-- and the claim over octets. Then what is claimed of the steps besides: the examples, the rules about servers as a table, the order of
+-- refusals, the timer, the counters, and that a refusal changes nothing.
 pub mod Limits
 pub mod Servers
 pub mod Queue
@@ -8,6 +8,7 @@ pub mod Sound
 pub mod Steps
 pub mod History
 pub mod Claim
+pub mod InOctets
 pub mod Examples
 pub mod Rules
 pub mod Order

@@ -11,7 +11,7 @@ use Rattle.messages.specs.declared.message.Message.the-variants.{TmplData, Data
 use Rattle.session.specs.Limits.{maxServers, maxHeld, minStoreOctets}
 use Rattle.session.specs.Servers.{withCounts}
 use Rattle.session.specs.Steps.{withDelivery, setUp}
-use Rattle.session.specs.Claim.{Event, Put, NextData, Receive, OfferTemplates, LineDown, Tick, sessionOf32, outcome}
+use Rattle.session.specs.InOctets.{Event, Put, NextData, Receive, OfferTemplates, LineDown, Tick, eventStep}
 use Rattle.session.specs.Examples.{aTable, settingsWith, alone}
 use Rattle.session.specs.Rules.{pair}
 use Rattle.session.specs.declared.state.Phase.{Phase}
@@ -26,7 +26,7 @@ pub record Turn : Type 0 where
 
 -- The answer of a call.
 abbrev pub answerOf : Turn → ℕ
-answerOf t = outcome (sessionOf32 (t .state .settings)) (record { state = t .state; store = replicate (t .store) 0 }) (t .call) .answer
+answerOf t = eventStep (record { state = t .state; store = replicate (t .store) 0 }) (t .call) .answer
 
 -- The answers of calls.
 abbrev pub answersOf : List Turn → List ℕ

@@ -11,8 +11,8 @@ use Rattle.octets.specs.Answers.{done, outOfTurn}
 use Rattle.session.specs.Limits.{maxServers, maxHeld, minStoreOctets}
 use Rattle.session.specs.Servers.{server, phaseAt, isAgreed, sameActive, withCounts}
 use Rattle.session.specs.Servers.{Transition, start, stop, negotiate, offer, down, agree, malformed, transition}
-use Rattle.session.specs.Steps.{setUp}
-use Rattle.session.specs.Claim.{Event, Receive, OfferTemplates, LineDown, Tick, sessionOf32, outcome}
+use Rattle.session.specs.Steps.{octetsWritten, setUp}
+use Rattle.session.specs.InOctets.{Event, Receive, OfferTemplates, LineDown, Tick, eventStep}
 use Rattle.session.specs.Examples.{aTable, settingsOf, exporterOf}
 use Rattle.session.specs.declared.state.Phase.{Phase}
 use Rattle.session.specs.declared.state.Phase.the-variants.{Closed, Started, Offered, Agreed, Late}
@@ -124,8 +124,8 @@ pub record Result : Type 0 where
 -- What a call answers, leaves and writes.
 abbrev pub resultOf : Event → State → Result
 resultOf e s =
-    let o = outcome (sessionOf32 (s .settings)) (record { state = s; store = replicate minStoreOctets 0 }) e in
-    record { answer = o .answer; delivery = o .state .delivery; due = o .state .due; written = o .written }
+    let o = eventStep (record { state = s; store = replicate minStoreOctets 0 }) e in
+    record { answer = o .answer; delivery = o .state .delivery; due = o .state .due; written = octetsWritten o }
 
 -- With v and u in these phases, and counters as they are in a delivery: the active server is chosen anew, and a changed choice makes sent,
 -- reached and timer 0 and S due.
@@ -193,7 +193,7 @@ otherAfter negotiate Started = Started
 otherAfter negotiate Offered = Started
 otherAfter negotiate Agreed = Started
 otherAfter negotiate Late = Started
-otherAfter offer phase = phase
+otherAfter (offer table) phase = phase
 otherAfter down phase = phase
 otherAfter (agree config) phase = phase
 otherAfter (malformed a) phase = phase

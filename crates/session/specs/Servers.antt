@@ -142,9 +142,10 @@ abbrev pub withCounts : Delivery → ℕ → ℕ → ℕ → Delivery
 withCounts d sent reached timer = record { servers = d .servers; active = d .active; sent = sent; reached = reached; timer = timer }
 
 -- What can move a server: the messages START, STOP, START NEGOTIATE and, with a Configuration ID, FINAL TMPL DATA ACK; offering
--- templates; line down. A message that its form refuses, with the number of that refusal, moves nothing.
+-- templates, with the table that is lent; line down. A message that its form refuses, with the number of that refusal, moves nothing.
 pub data Transition : Type 0 where
-  start stop negotiate offer down : Transition
+  start stop negotiate down : Transition
+  offer : List ℕ → Transition
   agree malformed : ℕ → Transition
 
 -- START: started. STOP and line down: closed. Offering: offered. FINAL TMPL DATA ACK: agreed. START NEGOTIATE: every server that is
@@ -153,7 +154,7 @@ unfoldable pub transition : ℕ → Transition → List Server → List Server
 transition v start servers = set servers v (server Started)
 transition v stop servers = set servers v (server Closed)
 transition v negotiate servers = map restart servers
-transition v offer servers = set servers v (server Offered)
+transition v (offer table) servers = set servers v (server Offered)
 transition v down servers = set servers v (server Closed)
 transition v (agree config) servers = set servers v (server Agreed)
 transition v (malformed a) servers = servers

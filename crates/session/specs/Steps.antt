@@ -1,5 +1,5 @@
 -- The calls: what each is refused for and in which order, what it leaves, and what it writes (01, "Answer numbers" and "Exporter").
--- Sequence numbers have w bits; the code's have 32.
+-- Messages are taken by meaning; of their encoding a step knows how many bits sequence numbers have (w here), and how long messages are.
 use Prim.Native.Nat.{ℕ, _+_, _-_, _%_, _^_}
 use mathlib.Core.Bool.{Bool, true, false, not, _&&_, _||_, cond}
 use mathlib.Core.List.{List, [], _∷_, _++_}
@@ -11,8 +11,9 @@ use Rattle.octets.specs.Answers.{bodyLengthWrong, outOfTurn, otherConfiguration
 use Rattle.octets.specs.Answers.{templateNotFound, recordInvalid, recordTooLong, queueFull, storeFull, settingsOutsideLimits, unsoundTable}
 use Rattle.wire.specs.Table.{configurationId, tableSound, isMissing, templateOf}
 use Rattle.wire.specs.Record.{recordValid}
-use Rattle.wire.specs.Messages.{maxRecordOctets, headerChecks, sessionOf, messageNumber, headerOctets, bodyFits, meaningOf, layoutOf}
+use Rattle.wire.specs.Messages.{maxRecordOctets, headerChecks, sessionOf, messageNumber, headerOctets, bodyFits, meaningOf}
 use Rattle.wire.specs.Messages as wire
+use Rattle.wire.specs.Replies.{Reply, silent, message, Encoding, sizeOf, crane, layout}
 use Rattle.messages.specs.declared.message.Message.{Message}
 use Rattle.messages.specs.declared.message.Message.the-variants.{Start, StartAck, Stop, StopAck, TmplData, FinalTmplDataAck}
 use Rattle.messages.specs.declared.message.Message.the-variants.{StartNegotiate, StartNegotiateAck, Data, DataAck}
@@ -66,10 +67,10 @@ ackCount w s dsn = ackCountBy w (s .next) (s .queue .count) dsn
 
 -- ---- calls, by what they mean (01, "Messages")
 
--- Put of a record under a template ID; next data; tick; a DATA ACK from a server, of a DSN and a Configuration ID; a transition of a
--- server.
+-- Put of a record under a template ID, with the table that is lent; next data; tick; a DATA ACK from a server, of a DSN and a
+-- Configuration ID; a transition of a server.
 pub data Call : Type 0 where
-  put : ℕ → List ℕ → Call
+  put : List ℕ → ℕ → List ℕ → Call
   nextData tick : Call
   ack : ℕ → ℕ → ℕ → Call
   move : ℕ → Transition → Call
@@ -127,22 +128,22 @@ headOf w s =
     }
 
 -- START, STOP and START NEGOTIATE are acknowledged; an offer writes TMPL DATA with the table; no other transition writes.
-abbrev pub replyTo : Settings → List ℕ → Transition → List ℕ
-replyTo p table start = layoutOf (StartAck (p .session) (p .boot)) []
-replyTo p table stop = layoutOf (StopAck (p .session)) []
-replyTo p table negotiate = layoutOf (StartNegotiateAck (p .session)) []
-replyTo p table offer = layoutOf (TmplData (p .session)) table
-replyTo p table down = []
-replyTo p table (agree config) = []
-replyTo p table (malformed a) = []
+abbrev pub replyTo : Settings → Transition → Reply
+replyTo p start = message (StartAck (p .session) (p .boot)) []
+replyTo p stop = message (StopAck (p .session)) []
+replyTo p negotiate = message (StartNegotiateAck (p .session)) []
+replyTo p (offer table) = message (TmplData (p .session)) table
+replyTo p down = silent
+replyTo p (agree config) = silent
+replyTo p (malformed a) = silent
 
--- The octets of the message that an accepted call writes.
-unfoldable pub written : ℕ → List ℕ → Call → State → List ℕ → List ℕ
-written w table (put id r) s store = []
-written w table nextData s store = layoutOf (Data (headOf w s)) (recordAt s store (s .delivery .sent))
-written w table tick s store = []
-written w table (ack v dsn config) s store = []
-written w table (move v m) s store = replyTo (s .settings) table m
+-- What an accepted call writes.
+unfoldable pub written : ℕ → Call → State → List ℕ → Reply
+written w (put table id r) s store = silent
+written w nextData s store = message (Data (headOf w s)) (recordAt s store (s .delivery .sent))
+written w tick s store = silent
+written w (ack v dsn config) s store = silent
+written w (move v m) s store = replyTo (s .settings) m
 
 -- ---- refusals (01, "Answer numbers")
 
@@ -155,29 +156,29 @@ abbrev pub negotiateChecks : Phase → List Check
 negotiateChecks phase = (outOfTurn when isClosed phase) ∷ []
 
 -- The refusals of a transition of a server in this phase, after 1 and 2, that do not look at the output.
-abbrev pub turnChecks : Settings → List ℕ → Transition → Phase → List Check
-turnChecks p table start phase = []
-turnChecks p table stop phase = []
-turnChecks p table negotiate phase = negotiateChecks phase
-turnChecks p table offer phase = (unsoundTable when not (isSessions p table)) ∷ (outOfTurn when not (canOffer phase)) ∷ []
-turnChecks p table down phase = []
-turnChecks p table (agree config) phase =
+abbrev pub turnChecks : Settings → Transition → Phase → List Check
+turnChecks p start phase = []
+turnChecks p stop phase = []
+turnChecks p negotiate phase = negotiateChecks phase
+turnChecks p (offer table) phase = (unsoundTable when not (isSessions p table)) ∷ (outOfTurn when not (canOffer phase)) ∷ []
+turnChecks p down phase = []
+turnChecks p (agree config) phase =
     (outOfTurn when not (isOffered phase)) ∷ (otherConfiguration when not (eqb config (p .config))) ∷ []
-turnChecks p table (malformed a) phase = (a when true) ∷ []
+turnChecks p (malformed a) phase = (a when true) ∷ []
 
 -- 12, of a transition that writes a message.
-abbrev pub replyChecks : Settings → List ℕ → ℕ → Transition → List Check
-replyChecks p table room start = (outputTooShort when ltb room (length (replyTo p table start))) ∷ []
-replyChecks p table room stop = (outputTooShort when ltb room (length (replyTo p table stop))) ∷ []
-replyChecks p table room negotiate = (outputTooShort when ltb room (length (replyTo p table negotiate))) ∷ []
-replyChecks p table room offer = (outputTooShort when ltb room (length (replyTo p table offer))) ∷ []
-replyChecks p table room down = []
-replyChecks p table room (agree config) = []
-replyChecks p table room (malformed a) = []
+abbrev pub replyChecks : Encoding → Settings → ℕ → Transition → List Check
+replyChecks e p room start = (outputTooShort when ltb room (sizeOf e (replyTo p start))) ∷ []
+replyChecks e p room stop = (outputTooShort when ltb room (sizeOf e (replyTo p stop))) ∷ []
+replyChecks e p room negotiate = (outputTooShort when ltb room (sizeOf e (replyTo p negotiate))) ∷ []
+replyChecks e p room (offer table) = (outputTooShort when ltb room (sizeOf e (replyTo p (offer table)))) ∷ []
+replyChecks e p room down = []
+replyChecks e p room (agree config) = []
+replyChecks e p room (malformed a) = []
 
 -- All refusals of a transition after 1 and 2.
-abbrev pub transitionChecks : Settings → List ℕ → ℕ → Transition → Phase → List Check
-transitionChecks p table room t phase = turnChecks p table t phase ++ replyChecks p table room t
+abbrev pub transitionChecks : Encoding → Settings → ℕ → Transition → Phase → List Check
+transitionChecks e p room t phase = turnChecks p t phase ++ replyChecks e p room t
 
 -- The refusals of a record under a lent table: 21, 15, 17, 16.
 abbrev pub recordChecks : Settings → List ℕ → ℕ → List ℕ → List Check
@@ -206,30 +207,30 @@ ackChecks p d v config n =
     ∷ (dsnNotAcknowledgeable when ltb (d .reached) n)
     ∷ []
 
--- The refusals of each call in their order, after 1. `table` is the table that is lent to put and offer, `room` the output's length.
-unfoldable pub checks : ℕ → List ℕ → ℕ → Call → State → List ℕ → List Check
-checks w table room (put id r) s store =
+-- The refusals of each call in their order, after 1. `room` is the output's length.
+unfoldable pub checks : Encoding → ℕ → Call → State → List ℕ → List Check
+checks e room (put table id r) s store =
     recordChecks (s .settings) table id r ++ roomChecks (s .capacity) (s .queue .count) (heldOctets (s .queue)) r
-checks w table room nextData s store =
+checks e room nextData s store =
     sendChecks (s .delivery) (s .queue .count)
-    ++ ((outputTooShort when ltb room (length (written w table nextData s store))) ∷ [])
-checks w table room tick s store = []
-checks w table room (ack v dsn config) s store = ackChecks (s .settings) (s .delivery) v config (ackCount w s dsn)
-checks w table room (move v m) s store =
+    ++ ((outputTooShort when ltb room (sizeOf e (written (e .width) nextData s store))) ∷ [])
+checks e room tick s store = []
+checks e room (ack v dsn config) s store = ackChecks (s .settings) (s .delivery) v config (ackCount (e .width) s dsn)
+checks e room (move v m) s store =
     (noSuchServer when leb (s .settings .servers) v)
-    ∷ transitionChecks (s .settings) table room m (phaseAt (s .delivery .servers) v)
+    ∷ transitionChecks e (s .settings) room m (phaseAt (s .delivery .servers) v)
 
 -- Put and next data are lent the store, which must have the length set.
 abbrev pub soundFor : Call → State → List ℕ → Bool
-soundFor (put id r) s store = sound s && eqb (length store) (s .capacity)
+soundFor (put table id r) s store = sound s && eqb (length store) (s .capacity)
 soundFor nextData s store = sound s && eqb (length store) (s .capacity)
 soundFor tick s store = sound s
 soundFor (ack v dsn config) s store = sound s
 soundFor (move v m) s store = sound s
 
 -- The first refusal that applies, 1 before all others; 0 where none does.
-unfoldable pub answer : ℕ → List ℕ → ℕ → Call → State → List ℕ → ℕ
-answer w table room c s store = judge ((unsoundState when not (soundFor c s store)) ∷ checks w table room c s store)
+unfoldable pub answer : Encoding → ℕ → Call → State → List ℕ → ℕ
+answer e room c s store = judge ((unsoundState when not (soundFor c s store)) ∷ checks e room c s store)
 
 -- ---- what an accepted call leaves (01, "Exporter")
 
@@ -248,7 +249,7 @@ markedFor a q i = marked q i (markedSet a (getD (q .receivers) i 0))
 
 -- The state before the choice is made anew.
 unfoldable pub after : ℕ → Call → State → State
-after w (put id r) s =
+after w (put table id r) s =
     record {
       settings = s .settings;
       capacity = s .capacity;
@@ -288,7 +289,7 @@ settled s = withDue s (settle (s .settings) (s .delivery)) (changed (s .settings
 
 -- Only a put changes the store: its octets follow the held ones.
 unfoldable pub storeAfter : Call → State → List ℕ → List ℕ
-storeAfter (put id r) s store = ringWrite (s .capacity) store (s .start + heldOctets (s .queue)) r
+storeAfter (put table id r) s store = ringWrite (s .capacity) store (s .start + heldOctets (s .queue)) r
 storeAfter nextData s store = store
 storeAfter tick s store = store
 storeAfter (ack v dsn config) s store = store
@@ -296,48 +297,55 @@ storeAfter (move v m) s store = store
 
 -- ---- the step (01, "Answer numbers")
 
--- What a call answers and leaves, and the octets that it writes. The store is [] where none was lent.
+-- What a call answers and leaves, and what it writes, by its meaning. The store is [] where none was lent.
 pub record Outcome : Type 0 where
   pub answer : ℕ
   pub state : State
   pub store : List ℕ
-  pub written : List ℕ
+  pub written : Reply
 
 -- An accepted call has its effect; any other leaves state and store as they were and writes nothing.
-unfoldable pub step : ℕ → List ℕ → ℕ → Call → State → List ℕ → Outcome
-step w table room c s store =
-    let a = answer w table room c s store in
+unfoldable pub step : Encoding → ℕ → Call → State → List ℕ → Outcome
+step e room c s store =
+    let a = answer e room c s store in
+    let w = e .width in
     cond (eqb a done)
-    (record { answer = done; state = settled (after w c s); store = storeAfter c s store; written = written w table c s store })
-    (record { answer = a; state = s; store = store; written = [] })
+    (record { answer = done; state = settled (after w c s); store = storeAfter c s store; written = written w c s store })
+    (record { answer = a; state = s; store = store; written = silent })
+
+-- ---- the calls of the code, in CRANE (01, "Messages" and "Exporter")
 
 -- Put of a record under a template ID, lent the store and a table.
-abbrev pub putStep : ℕ → State → List ℕ → List ℕ → ℕ → List ℕ → Outcome
-putStep w s store table id r = step w table 0 (put id r) s store
+abbrev pub putStep : State → List ℕ → List ℕ → ℕ → List ℕ → Outcome
+putStep s store table id r = step crane 0 (put table id r) s store
 
 -- Next data, lent the store and an output.
-abbrev pub nextDataStep : ℕ → State → List ℕ → List ℕ → Outcome
-nextDataStep w s store out = step w [] (length out) nextData s store
+abbrev pub nextDataStep : State → List ℕ → List ℕ → Outcome
+nextDataStep s store out = step crane (length out) nextData s store
 
 -- A message from server v, lent an output; it sees no table and no store.
-abbrev pub receiveStep : ℕ → State → ℕ → List ℕ → List ℕ → Outcome
-receiveStep w s v m out = step w [] (length out) (received (s .settings) v m) s []
+abbrev pub receiveStep : State → ℕ → List ℕ → List ℕ → Outcome
+receiveStep s v m out = step crane (length out) (received (s .settings) v m) s []
 
 -- An offer of the lent table to server v, lent an output.
-abbrev pub offerStep : ℕ → State → ℕ → List ℕ → List ℕ → Outcome
-offerStep w s v table out = step w table (length out) (move v offer) s []
+abbrev pub offerStep : State → ℕ → List ℕ → List ℕ → Outcome
+offerStep s v table out = step crane (length out) (move v (offer table)) s []
 
 -- The line to server v is down: nothing is lent.
-abbrev pub lineDownStep : ℕ → State → ℕ → Outcome
-lineDownStep w s v = step w [] 0 (move v down) s []
+abbrev pub lineDownStep : State → ℕ → Outcome
+lineDownStep s v = step crane 0 (move v down) s []
 
 -- One tick: nothing is lent.
-abbrev pub tickStep : ℕ → State → Outcome
-tickStep w s = step w [] 0 tick s []
+abbrev pub tickStep : State → Outcome
+tickStep s = step crane 0 tick s []
+
+-- The octets that a call writes in CRANE.
+abbrev pub octetsWritten : Outcome → List ℕ
+octetsWritten o = layout (o .written)
 
 -- The output after a call: what it wrote stands from the first octet on, and every other octet is as it was.
 abbrev pub outputAfter : List ℕ → Outcome → List ℕ
-outputAfter out o = sets out 0 (o .written)
+outputAfter out o = sets out 0 (octetsWritten o)
 
 -- What a call hands back that writes no message.
 abbrev pub steppedOf : Outcome → Stepped
@@ -345,7 +353,7 @@ steppedOf o = record { answer = o .answer; state = o .state }
 
 -- What a call hands back that may write one: also how many octets it wrote.
 abbrev pub wroteOf : Outcome → Wrote
-wroteOf o = record { answer = o .answer; written = length (o .written); state = o .state }
+wroteOf o = record { answer = o .answer; written = length (octetsWritten o); state = o .state }
 
 -- ---- set-up (01, "Exporter")
 

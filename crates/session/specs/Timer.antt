@@ -2,12 +2,14 @@
 use mathlib.Core.Path.{_≡_}
 use mathlib.Core.Logic.{_≢_}
 use mathlib.Core.Bool.{true}
+use mathlib.Core.List.{[]}
 use Prim.Native.Nat.{ℕ, _+_, _≤_, _<_}
 use lib.ListN.{set}
 use Rattle.octets.specs.Answers.{done}
 use Rattle.session.specs.Servers.{server, phaseAt, isAgreed, withCounts}
 use Rattle.session.specs.Sound.{sound}
-use Rattle.session.specs.Steps.{withDelivery, tickStep}
+use Rattle.wire.specs.Replies.{Encoding}
+use Rattle.session.specs.Steps.{withDelivery, tick, step}
 use Rattle.session.specs.declared.state.Phase.the-variants.{Late}
 use Rattle.session.specs.declared.state.Active.the-variants.{Nobody, Server}
 use Rattle.session.specs.declared.state.State.{State}
@@ -44,20 +46,21 @@ pub record TurnedLate (s : State) (v : ℕ) (left : State) : Type 0 where
   pub next : left .next ≡ s .next
 
 -- The rules.
-pub record TimerRules (w : ℕ) (s : State) : Type 0 where
+pub record TimerRules (e : Encoding) (s : State) : Type 0 where
   -- a tick is answered 0
-  pub answered : tickStep w s .answer ≡ done
+  pub answered : step e 0 tick s [] .answer ≡ done
   -- if no server is active, or reached is below the threshold, the timer is 0
-  pub nobody : s .delivery .active ≡ Nobody → tickStep w s .state ≡ withSentAndTimer s (s .delivery .sent) 0
-  pub below : s .delivery .reached < s .settings .threshold → tickStep w s .state ≡ withSentAndTimer s (s .delivery .sent) 0
+  pub nobody : s .delivery .active ≡ Nobody → step e 0 tick s [] .state ≡ withSentAndTimer s (s .delivery .sent) 0
+  pub below : s .delivery .reached < s .settings .threshold → step e 0 tick s [] .state ≡ withSentAndTimer s (s .delivery .sent) 0
   -- else it grows by 1
   pub grows : (v : ℕ) → Runs s v → s .delivery .timer + 1 < s .settings .duration
-      → tickStep w s .state ≡ withSentAndTimer s (s .delivery .sent) (s .delivery .timer + 1)
+      → step e 0 tick s [] .state ≡ withSentAndTimer s (s .delivery .sent) (s .delivery .timer + 1)
   -- when it equals the duration it becomes 0, and the active server turns late if another is agreed, else sent is 0
-  pub late : (v : ℕ) → Runs s v → s .delivery .timer + 1 ≡ s .settings .duration → OtherAgreed s v → TurnedLate s v (tickStep w s .state)
+  pub late : (v : ℕ) → Runs s v → s .delivery .timer + 1 ≡ s .settings .duration → OtherAgreed s v
+      → TurnedLate s v (step e 0 tick s [] .state)
   pub sentAgain : (v : ℕ) → Runs s v → s .delivery .timer + 1 ≡ s .settings .duration → (OtherAgreed s v → ⊥)
-      → tickStep w s .state ≡ withSentAndTimer s 0 0
+      → step e 0 tick s [] .state ≡ withSentAndTimer s 0 0
 
--- They hold of every sound state.
+-- They hold of every sound state, whatever the encoding.
 abbrev pub TimerRule : Type 0
-TimerRule = (w : ℕ) (s : State) → sound s ≡ true → TimerRules w s
+TimerRule = (e : Encoding) (s : State) → sound s ≡ true → TimerRules e s

@@ -1,18 +1,19 @@
 -- Laws of a session: what one event is, what a call's answer leaves of a session, and one event more. Each call's law takes what the exporter
 -- ensures of it to what the definition has after that event.
 use mathlib.Core.Path.{_≡_, refl, sym, ap, _∙_}
-use mathlib.Core.List.{List, []}
+use mathlib.Core.List.{List}
 use Prim.Native.Nat.{ℕ, _+_, _*_}
 use native.Mathlib.Numerals.{add-one}
 use borrow.Author.Tests.{ne-eqb}
 use lib.ListN.{getD}
+use Rattle.exporter.specs.Replies.{silent, crane}
 use Rattle.session.proofs.Written.{writes-nothing}
 use Rattle.session.specs.Steps.{put, tick, written, step, steppedOf, wroteOf, outputAfter}
-use Rattle.session.specs.Claim.{Event, Put, NextData, Receive, OfferTemplates, Tick, outcome, storeLeft}
+use Rattle.session.specs.InOctets.{Event, Put, NextData, Receive, OfferTemplates, Tick, eventStep, storeLeft}
 use Rattle.session.specs.declared.state.State.{State}
 use Rattle.session.specs.declared.state.Stepped.{Stepped}
 use Rattle.session.specs.declared.state.Wrote.{Wrote}
-use Rattle.sessions.specs.Sessions.{Lent, messageAt, eventAt, eventOctets, Progress, progress, anySession, exporterOf, added, after, played, PlayedTo}
+use Rattle.sessions.specs.Sessions.{Lent, messageAt, eventAt, eventOctets, Progress, progress, exporterOf, added, after, played, PlayedTo}
 
 -- ---- the event at a place, by the number of its call
 
@@ -41,25 +42,25 @@ module _ (l : Lent) (at : ℕ) (out : List ℕ) where
 -- ---- what a call's answer leaves
 
 -- a put and a tick write nothing, accepted or not
-pub put-writes-nothing : (table : List ℕ) (room id : ℕ) (r : List ℕ) (s : State) (store : List ℕ) → step 32 table room (put id r) s store .written ≡ []
+pub put-writes-nothing : (table : List ℕ) (room id : ℕ) (r : List ℕ) (s : State) (store : List ℕ) → step crane room (put table id r) s store .written ≡ silent
 unfolding written
-put-writes-nothing table room id r s store = writes-nothing 32 table room (put id r) s store refl
+put-writes-nothing table room id r s store = writes-nothing crane room (put table id r) s store refl
 
-pub tick-writes-nothing : (table : List ℕ) (room : ℕ) (s : State) (store : List ℕ) → step 32 table room tick s store .written ≡ []
+pub tick-writes-nothing : (room : ℕ) (s : State) (store : List ℕ) → step crane room tick s store .written ≡ silent
 unfolding written
-tick-writes-nothing table room s store = writes-nothing 32 table room tick s store refl
+tick-writes-nothing room s store = writes-nothing crane room tick s store refl
 
 module _ (l : Lent) (q : Progress) (e : Event) where
   -- a call that writes nothing
-  pub stepped-after : (x : Stepped) (store : List ℕ) → outcome anySession (exporterOf q) e .written ≡ []
-      → x ≡ steppedOf (outcome anySession (exporterOf q) e) → store ≡ storeLeft (exporterOf q) e (outcome anySession (exporterOf q) e)
+  pub stepped-after : (x : Stepped) (store : List ℕ) → eventStep (exporterOf q) e .written ≡ silent
+      → x ≡ steppedOf (eventStep (exporterOf q) e) → store ≡ storeLeft (exporterOf q) e (eventStep (exporterOf q) e)
       → progress (x .state) store (q .out) (added (q .total) (x .answer) 0) ≡ after l e q
   unfolding after
   stepped-after x store none is left = rw (is, left, none)
 
   -- a call that may write a message, and leaves the store
-  pub wrote-after : (x : Wrote) (out : List ℕ) → storeLeft (exporterOf q) e (outcome anySession (exporterOf q) e) ≡ q .store
-      → x ≡ wroteOf (outcome anySession (exporterOf q) e) → out ≡ outputAfter (q .out) (outcome anySession (exporterOf q) e)
+  pub wrote-after : (x : Wrote) (out : List ℕ) → storeLeft (exporterOf q) e (eventStep (exporterOf q) e) ≡ q .store
+      → x ≡ wroteOf (eventStep (exporterOf q) e) → out ≡ outputAfter (q .out) (eventStep (exporterOf q) e)
       → progress (x .state) (q .store) out (added (q .total) (x .answer) (x .written)) ≡ after l e q
   unfolding after
   wrote-after x out kept is left = rw (is, left, kept)

@@ -5,8 +5,9 @@ use mathlib.Core.Bool.{cond}
 use mathlib.Core.List.{List}
 use lib.Dec.{eqb}
 use lib.ListN.{length, getD, take, drop, replicate}
-use Rattle.exporter.specs.Steps.{setUp, noSettings, outputAfter}
-use Rattle.exporter.specs.Claim.{Event, Put, NextData, Receive, OfferTemplates, Tick, Session, Exporter, outcome, storeLeft, sessionOf32}
+use Rattle.exporter.specs.Steps.{setUp, octetsWritten, outputAfter}
+use Rattle.exporter.specs.Claim.{Exporter}
+use Rattle.exporter.specs.InOctets.{Event, Put, NextData, Receive, OfferTemplates, Tick, eventStep, storeLeft}
 use Rattle.session.specs.declared.state.Settings.{Settings}
 use Rattle.session.specs.declared.state.State.{State}
 
@@ -74,10 +75,6 @@ pub record Progress : Type 0 where
 abbrev pub progress : State → List ℕ → List ℕ → ℕ → Progress
 progress state store out total = record { state = state; store = store; out = out; total = total }
 
--- Any session of 32 bits: the settings that count are the state's.
-abbrev pub anySession : Session
-anySession = sessionOf32 noSettings
-
 -- State and store.
 abbrev pub exporterOf : Progress → Exporter
 exporterOf p = record { state = p .state; store = p .store }
@@ -89,8 +86,8 @@ added total answer written = ((total + answer) % 2 ^ 64 + written) % 2 ^ 64
 -- After one more event.
 unfoldable pub after : Lent → Event → Progress → Progress
 after l e p =
-    let o = outcome anySession (exporterOf p) e in
-    progress (o .state) (storeLeft (exporterOf p) e o) (outputAfter (p .out) o) (added (p .total) (o .answer) (length (o .written)))
+    let o = eventStep (exporterOf p) e in
+    progress (o .state) (storeLeft (exporterOf p) e o) (outputAfter (p .out) o) (added (p .total) (o .answer) (length (octetsWritten o)))
 
 -- After the first n events.
 unfoldable pub played : Lent → ℕ → Progress → Progress

@@ -15,28 +15,19 @@ use Rattle.octets.specs.Answers.{done}
 use Rattle.octets.specs.Numbers.{Octets}
 use Rattle.octets.proofs.Numbers.{uint-below}
 use Rattle.octets.specs.Each.{every}
-use Rattle.session.specs.Steps.{setUp}
-use Rattle.session.specs.Claim.{Event, Put, NextData, Receive, OfferTemplates, LineDown, Tick, sessionOf32, Exporter, outcome, storeLeft, advance, begin, AllOctets}
-use Rattle.session.proofs.Demand.{demand3of32}
-use Rattle.session.specs.declared.state.Settings.{Settings}
+use Rattle.session.specs.Steps.{octetsWritten, setUp}
+use Rattle.session.specs.Claim.{Exporter, begin}
+use Rattle.session.specs.InOctets.{Event, eventStep, storeLeft, afterEvent, freshOver, AllOctets}
+use Rattle.session.proofs.InOctets.{demand3-in-octets}
 use Rattle.session.specs.declared.state.State.{State}
 use Rattle.contents.specs.Tape.{eventCount, kindAt, serverAt, bodyLength, bodyAt, octetsAt, bodyOf, eventSound, maxTapeOctets, minEvents, maxEvents, tapeSound}
 use Rattle.lines.specs.Lines.{lineOf}
-use Rattle.tape.specs.Replay.{outputBuffer, callsFrom, linesOf, ifDone, tapeSettings, tapeSession, tapeStore, tapeCalls, replay}
+use Rattle.tape.specs.Replay.{outputBuffer, callsFrom, linesOf, ifDone, tapeSettings, tapeStore, tapeCalls, replay}
 use Rattle.events.specs.Events.{tableAnswer, eventCall, settingsOf}
 use Rattle.tape.specs.Turns.{Played, opened, played, turnsFrom, turns, TurnByTurn, CallsClaimed}
 use Rattle.tape.specs.declared.replay.Progress.{Progress}
 use Rattle.contents.proofs.Parts.{octets-part}
 use Rattle.events.proofs.Events.{by-kind}
-
--- the settings that count are the state's
-pub outcome-settings : (p q : Settings) (x : Exporter) (e : Event) → outcome (sessionOf32 p) x e ≡ outcome (sessionOf32 q) x e
-outcome-settings p q x (Put table id r) = refl
-outcome-settings p q x (NextData out) = refl
-outcome-settings p q x (Receive v m out) = refl
-outcome-settings p q x (OfferTemplates v table out) = refl
-outcome-settings p q x (LineDown v) = refl
-outcome-settings p q x Tick = refl
 
 -- ---- the bodies of a sound tape lie within it
 
@@ -83,11 +74,11 @@ body-whole t i f h =
 -- The turn of event i of a sound tape, with the state and the store of an exporter: its outcome is that of the call in the whole replay.
 pub played-at : (t : List ℕ) → Bounded t → (n i : ℕ) → i + suc n ≡ eventCount t → 2 ≤ i → (x : Exporter)
     → let e = eventCall (kindAt t i) (serverAt t i) (bodyOf t i) outputBuffer (bodyOf t 1) in
-    let o = outcome (tapeSession t) x e in
+    let o = eventStep x e in
     played t (record { state = x .state; left = suc n; at = bodyAt t i }) (x .store)
     ≡ record {
-      line = lineOf i (o .answer) (o .written);
-      written = o .written;
+      line = lineOf i (o .answer) (octetsWritten o);
+      written = octetsWritten o;
       progress = record { state = o .state; left = n; at = bodyAt t (i + 1) };
       store = storeLeft x e o;
     }
@@ -95,10 +86,9 @@ unfolding played
 played-at t f n i c h x =
     let z : eventCount t - suc n ≡ i = omega arith in
     let e = eventCall (kindAt t i) (serverAt t i) (bodyOf t i) outputBuffer (bodyOf t 1) in
-    let k = outcome-settings (x .state .settings) (tapeSettings t) x e in
     let w : bodyAt t i + length (bodyOf t i) ≡ bodyAt t (i + 1) = ap (λ (j : ℕ). bodyAt t i + j) (body-whole t i f (omega arith)) ∙ sym (body-sum t i) in
     let less : suc n - 1 ≡ n = omega arith in
-    rw (ne-eqb (suc n) 0 (λ y. absurd (omega (arith, y))), z, ne-eqb i 1 (λ y. absurd (omega (arith, y)))) (rw (k, w, less) refl)
+    rw (ne-eqb (suc n) 0 (λ y. absurd (omega (arith, y))), z, ne-eqb i 1 (λ y. absurd (omega (arith, y)))) (rw (w, less) refl)
 
 -- no turn is taken where no event is left
 none-left : (t : List ℕ) (n : ℕ) (p : Played) → p .progress .left ≡ 0 → turnsFrom t n p ≡ []
@@ -108,17 +98,17 @@ none-left t (suc n) p e = rw (eq-eqb (p .progress .left) 0 e) refl
 
 pub calls-turns : (t : List ℕ) → Bounded t → (n i fuel : ℕ) → i + n ≡ eventCount t → 2 ≤ i → n ≤ fuel
     → (x : Exporter) (p : Played) → p .progress ≡ record { state = x .state; left = n; at = bodyAt t i } → p .store ≡ x .store
-    → turnsFrom t fuel p ≡ linesOf (tapeSession t) x i (callsFrom t i n)
-unfolding turnsFrom linesOf callsFrom advance
+    → turnsFrom t fuel p ≡ linesOf x i (callsFrom t i n)
+unfolding turnsFrom linesOf callsFrom afterEvent
 calls-turns t f zero i fuel c h k x p r s = none-left t fuel p (ap (λ (q : Progress). q .left) r)
 calls-turns t f (suc n) i zero c h k x p r s = absurd (omega arith)
 calls-turns t f (suc n) i (suc fuel) c h k x p r s =
     let e = eventCall (kindAt t i) (serverAt t i) (bodyOf t i) outputBuffer (bodyOf t 1) in
-    let o = outcome (tapeSession t) x e in
+    let o = eventStep x e in
     rw (r, s, played-at t f n i c h x)
     (rw (ne-eqb (suc n) 0 (λ y. absurd (omega (arith, y))))
-    (ap (λ (ls : List (List ℕ)). lineOf i (o .answer) (o .written) ∷ ls)
-    (calls-turns t f n (i + 1) fuel (omega arith) (omega arith) (omega arith) (advance (tapeSession t) x e) _ refl refl)))
+    (ap (λ (ls : List (List ℕ)). lineOf i (o .answer) (octetsWritten o) ∷ ls)
+    (calls-turns t f n (i + 1) fuel (omega arith) (omega arith) (omega arith) (afterEvent x e) _ refl refl)))
 
 -- ---- the table
 
@@ -138,7 +128,7 @@ table-at t store f m c s =
 pub table-turns : (t : List ℕ) → Bounded t → (m fuel : ℕ) → m + 2 ≡ eventCount t → m ≤ fuel → (p : Played) (x : Exporter)
     → p .progress ≡ record { state = x .state; left = suc m; at = bodyAt t 1 } → p .store ≡ x .store
     → let a = tableAnswer (tapeSettings t) (bodyOf t 1) in
-    turnsFrom t (suc fuel) p ≡ lineOf 1 a [] ∷ ifDone a (linesOf (tapeSession t) x 2 (callsFrom t 2 m))
+    turnsFrom t (suc fuel) p ≡ lineOf 1 a [] ∷ ifDone a (linesOf x 2 (callsFrom t 2 m))
 unfolding turnsFrom
 table-turns t f m fuel c k p x r s =
     let a = tableAnswer (tapeSettings t) (bodyOf t 1) in
@@ -148,7 +138,7 @@ table-turns t f m fuel c k p x r s =
   where
     go : (b : Bool)
         → turnsFrom t fuel (record { line = lineOf 1 (tableAnswer (tapeSettings t) (bodyOf t 1)) []; written = []; progress = record { state = x .state; left = cond b m 0; at = bodyAt t 2 }; store = x .store })
-        ≡ cond b (linesOf (tapeSession t) x 2 (callsFrom t 2 m)) []
+        ≡ cond b (linesOf x 2 (callsFrom t 2 m)) []
     go true = calls-turns t f m 2 fuel (omega arith) (omega arith) k x _ refl refl
     go false = none-left t fuel _ refl
 
@@ -169,7 +159,7 @@ turn-by-turn t = sound? (tapeSound t) refl
         let all : suc (eventCount t - 1) ≡ eventCount t = omega (arith, f .some) in
         let more : eventCount t - 1 ≡ suc m = omega (arith, f .some) in
         let q =
-        table-turns t f m (eventCount t - 1) (omega (arith, f .some)) (omega arith) (opened t (tapeStore t)) (begin (tapeSession t) (tapeStore t))
+        table-turns t f m (eventCount t - 1) (omega (arith, f .some)) (omega arith) (opened t (tapeStore t)) (freshOver (tapeSettings t) (tapeStore t))
         (rw (e, g, more) refl) refl in
         rw (rw all at q, e, g) refl
 
@@ -194,5 +184,5 @@ calls-octets t h i (suc n) =
 pub calls-claimed : CallsClaimed
 unfolding settingsOf
 calls-claimed t h e =
-    demand3of32 (tapeSettings t) (tapeStore t) e (uint-below (bodyOf t 0) (octets-part t h (bodyAt t 0) (bodyLength t 0)) 8 4)
+    demand3-in-octets (tapeSettings t) (tapeStore t) e (uint-below (bodyOf t 0) (octets-part t h (bodyAt t 0) (bodyLength t 0)) 8 4)
     (tapeCalls t) (calls-octets t h 2 (eventCount t - 2))

@@ -11,9 +11,9 @@ use lib.Dec.{eqb}
 use lib.ListN.{length, take, length-take}
 use lib.Seq.{sets, sets-eq, take-append-seam}
 use Rattle.octets.specs.Answers.{done}
-use Rattle.session.specs.Steps.{Outcome, wroteOf, outputAfter, setUp}
-use Rattle.session.proofs.Written.{step-fits}
-use Rattle.session.specs.Claim.{Event, Put, NextData, Receive, OfferTemplates, LineDown, Tick, roomOf}
+use Rattle.session.specs.Steps.{Outcome, octetsWritten, wroteOf, outputAfter, setUp}
+use Rattle.session.proofs.Written.{octets-fit}
+use Rattle.session.specs.InOctets.{Event, Put, NextData, Receive, OfferTemplates, LineDown, Tick, roomOf}
 use Rattle.session.specs.declared.state.State.{State}
 use Rattle.session.specs.declared.state.Made.{Made}
 use Rattle.session.specs.declared.state.Wrote.{Wrote}
@@ -29,13 +29,13 @@ use Rattle.events.proofs.Events.{by-kind, same-call}
 
 -- ---- what a call writes fits
 
-pub effect-fits : (s : State) (store : List ℕ) (e : Event) → length (effect s store e .written) ≤ roomOf e
-effect-fits s store (Put table id r) = step-fits _ _ _ _ _ _
-effect-fits s store (NextData out) = step-fits _ _ _ _ _ _
-effect-fits s store (Receive v m out) = step-fits _ _ _ _ _ _
-effect-fits s store (OfferTemplates v table out) = step-fits _ _ _ _ _ _
-effect-fits s store (LineDown v) = step-fits _ _ _ _ _ _
-effect-fits s store Tick = step-fits _ _ _ _ _ _
+pub effect-fits : (s : State) (store : List ℕ) (e : Event) → length (octetsWritten (effect s store e)) ≤ roomOf e
+effect-fits s store (Put table id r) = octets-fit _ _ _ _
+effect-fits s store (NextData out) = octets-fit _ _ _ _
+effect-fits s store (Receive v m out) = octets-fit _ _ _ _
+effect-fits s store (OfferTemplates v table out) = octets-fit _ _ _ _
+effect-fits s store (LineDown v) = octets-fit _ _ _ _
+effect-fits s store Tick = octets-fit _ _ _ _
 
 -- the call of an event is lent no more than the output
 pub call-room : (kind server : ℕ) (b out table : List ℕ) → roomOf (eventCall kind server b out table) ≤ length out
@@ -57,9 +57,9 @@ pub take-sets : (out vs : List ℕ) → length vs ≤ length out → take (lengt
 take-sets out vs h = ap (take (length vs)) (sets-eq vs out 0 (omega arith)) ∙ take-append-seam vs _
 
 -- what a call wrote is what stands in the output
-pub call-wrote : (o : Outcome) (w : Wrote) (out outAfter : List ℕ) → length (o .written) ≤ length out → w ≡ wroteOf o → outAfter ≡ outputAfter out o
-    → take (w .written) outAfter ≡ o .written
-call-wrote o w out outAfter h e f = rw (e, f) (take-sets out (o .written) h)
+pub call-wrote : (o : Outcome) (w : Wrote) (out outAfter : List ℕ) → length (octetsWritten o) ≤ length out → w ≡ wroteOf o → outAfter ≡ outputAfter out o
+    → take (w .written) outAfter ≡ octetsWritten o
+call-wrote o w out outAfter h e f = rw (e, f) (take-sets out (octetsWritten o) h)
 
 -- ---- turns
 

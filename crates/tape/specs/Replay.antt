@@ -5,8 +5,9 @@ use mathlib.Core.List.{List, [], _∷_}
 use lib.Dec.{eqb}
 use lib.ListN.{length, replicate}
 use Rattle.octets.specs.Answers.{done}
-use Rattle.exporter.specs.Steps.{setUp}
-use Rattle.exporter.specs.Claim.{Event, Session, sessionOf32, Exporter, outcome, advance, begin}
+use Rattle.exporter.specs.Steps.{octetsWritten, setUp}
+use Rattle.exporter.specs.Claim.{Exporter}
+use Rattle.exporter.specs.InOctets.{Event, eventStep, afterEvent, freshOver}
 use Rattle.session.specs.declared.state.Settings.{Settings}
 use Rattle.contents.specs.Tape.{eventCount, kindAt, serverAt, bodyOf, tapeSound}
 use Rattle.events.specs.Events.{settingsOf, storeLength, tableAnswer, eventCall}
@@ -17,10 +18,6 @@ use Rattle.lines.specs.Lines.{lineOf, tapeRefused}
 -- The settings of a tape.
 abbrev pub tapeSettings : List ℕ → Settings
 tapeSettings t = settingsOf (bodyOf t 0)
-
--- The session that has them.
-abbrev pub tapeSession : List ℕ → Session
-tapeSession t = sessionOf32 (tapeSettings t)
 
 -- The store that a tape's settings name: all octets 0 at first.
 abbrev pub tapeStore : List ℕ → List ℕ
@@ -48,9 +45,9 @@ tapeCalls t = callsFrom t 2 (eventCount t - 2)
 -- ---- lines
 
 -- The lines of calls that an exporter takes, the first of them at place i.
-unfoldable pub linesOf : Session → Exporter → ℕ → List Event → List (List ℕ)
-linesOf z x i [] = []
-linesOf z x i (e ∷ es) = lineOf i (outcome z x e .answer) (outcome z x e .written) ∷ linesOf z (advance z x e) (i + 1) es
+unfoldable pub linesOf : Exporter → ℕ → List Event → List (List ℕ)
+linesOf x i [] = []
+linesOf x i (e ∷ es) = let o = eventStep x e in lineOf i (o .answer) (octetsWritten o) ∷ linesOf (afterEvent x e) (i + 1) es
 
 -- The run goes on only after an answer of 0.
 abbrev pub ifDone : ℕ → List (List ℕ) → List (List ℕ)
@@ -63,7 +60,7 @@ eventLines t =
     let second = tableAnswer (tapeSettings t) (bodyOf t 1) in
     lineOf 0 first [] ∷ ifDone first
     (lineOf 1 second [] ∷ ifDone second
-    (linesOf (tapeSession t) (begin (tapeSession t) (tapeStore t)) 2 (tapeCalls t)))
+    (linesOf (freshOver (tapeSettings t) (tapeStore t)) 2 (tapeCalls t)))
 
 -- The lines of any tape. One that is not sound is judged 22 (`tapeAnswer`), which the output says as `tape refused`.
 unfoldable pub replay : List ℕ → List (List ℕ)

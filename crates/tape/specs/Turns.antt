@@ -10,13 +10,13 @@ use lib.ListN.{length}
 use lib.Seq.{sets}
 use Rattle.octets.specs.Answers.{done}
 use Rattle.octets.specs.Numbers.{Octets}
-use Rattle.exporter.specs.Steps.{setUp}
-use Rattle.exporter.specs.Claim.{Event, Claim}
+use Rattle.exporter.specs.Steps.{octetsWritten, setUp}
+use Rattle.exporter.specs.InOctets.{Event, ClaimInOctets}
 use Rattle.session.specs.declared.state.State.{State}
 use Rattle.contents.specs.Tape.{eventCount, kindAt, serverAt, bodyLength, bodyAt, bodyOf, octetsAt, tapeSound}
 use Rattle.lines.specs.Lines.{lineOf, tapeRefused, lineOctets}
 use Rattle.events.specs.Events.{tableAnswer, eventCall, effect, effectStore}
-use Rattle.tape.specs.Replay.{outputBufferOctets, outputBuffer, tapeSettings, tapeSession, tapeStore, tapeCalls, replay}
+use Rattle.tape.specs.Replay.{outputBufferOctets, outputBuffer, tapeSettings, tapeStore, tapeCalls, replay}
 use Rattle.tape.specs.declared.replay.Progress.{Progress}
 use Rattle.tape.specs.declared.replay.Turn.{Turn}
 
@@ -81,8 +81,8 @@ callTurn t r store =
     let e = nextCall t r in
     let o = effect (r .state) store e in
     record {
-      line = lineOf (indexOf t r) (o .answer) (o .written);
-      written = o .written;
+      line = lineOf (indexOf t r) (o .answer) (octetsWritten o);
+      written = octetsWritten o;
       progress = progressed t r (o .state) (r .left - 1);
       store = effectStore (r .state) store e;
     }
@@ -155,4 +155,4 @@ TurnByTurn = (t : List ℕ) → turns t (tapeStore t) ≡ replay t
 abbrev pub CallsClaimed : Type 0
 CallsClaimed =
     (t : List ℕ) → Octets t → setUp (tapeSettings t) (length (tapeStore t)) .answer ≡ done
-    → Claim (tapeSession t) (tapeStore t) (tapeCalls t)
+    → ClaimInOctets (tapeSettings t) (tapeStore t) (tapeCalls t)

@@ -11,6 +11,7 @@ use Rattle.octets.specs.Answers.{done, unsoundState}
 use Rattle.octets.proofs.Each.{and-left}
 use Rattle.session.specs.Servers.{choose, IsChoice, sameActive, isNobody, chosen, changed, activated, settle, withServers, withCounts, lateServers, expired, tickedFor, ticked}
 use Rattle.session.specs.Sound.{sound}
+use Rattle.wire.specs.Replies.{crane}
 use Rattle.session.specs.Steps.{tick, answer, checks, after, settled, tickStep, steppedOf}
 use Rattle.servers.specs.Changes.{settledChange, refusedChange, appliedTo, numberOf}
 use Rattle.ticking.specs.Clocks.{runningClock, clockFor, clockOf, tickChangeTo, tickChangeBy}
@@ -96,24 +97,24 @@ turned-refused : (p : Settings) (d : Delivery) (due : Bool)
 unfolding choose
 turned-refused p d due = refl
 
-tick-done : (w : ℕ) (s : State) → sound s ≡ true → answer w [] 0 tick s [] ≡ done
+tick-done : (s : State) → sound s ≡ true → answer crane 0 tick s [] ≡ done
 unfolding answer checks
-tick-done w s e = rw e
+tick-done s e = rw e
 
-tick-unsound : (w : ℕ) (s : State) → sound s ≡ false → answer w [] 0 tick s [] ≡ unsoundState
+tick-unsound : (s : State) → sound s ≡ false → answer crane 0 tick s [] ≡ unsoundState
 unfolding answer checks
-tick-unsound w s e = rw e
+tick-unsound s e = rw e
 
 -- what a tick hands back, with its change
 abbrev tickedWith : State → Change → Stepped
 tickedWith s c = record { answer = c .answer; state = appliedTo s c }
 
-pub tick-turned : (w : ℕ) (s : State) (b : Bool) → b ≡ sound s
-    → tickedWith s (tickChangeBy b (s .settings) (s .delivery) (s .due) (clockOf b (s .settings) (s .delivery))) ≡ steppedOf (tickStep w s)
+pub tick-turned : (s : State) (b : Bool) → b ≡ sound s
+    → tickedWith s (tickChangeBy b (s .settings) (s .delivery) (s .due) (clockOf b (s .settings) (s .delivery))) ≡ steppedOf (tickStep s)
 unfolding after settled
-tick-turned w s true e =
-    rw (step-done w [] 0 tick s [] (tick-done w s (sym e)))
+tick-turned s true e =
+    rw (step-done crane 0 tick s [] (tick-done s (sym e)))
     (ap (tickedWith s) (turned-settled (s .settings) (s .delivery) (s .due) (sound-facts s (sym e) .choice)))
-tick-turned w s false e =
-    rw (step-refused w [] 0 tick s [] unsoundState (λ z. omega arith) (tick-unsound w s (sym e)))
+tick-turned s false e =
+    rw (step-refused crane 0 tick s [] unsoundState (λ z. omega arith) (tick-unsound s (sym e)))
     (ap (tickedWith s) (turned-refused (s .settings) (s .delivery) (s .due)))

@@ -140,7 +140,7 @@ fn tick_change(sound: bool, p: Settings, d: Delivery, due: bool, clock: Clock) -
 
 // One tick passes. Refused with 1.
 pub fn tick(s: State) -> Stepped
-    ensures { λ r. ⌜ r ≡ steppedOf (tickStep 32 s) ⌝ }
+    ensures { λ r. ⌜ r ≡ steppedOf (tickStep s) ⌝ }
 {
     let p = s.settings;
     let d = s.delivery;

@@ -11,6 +11,7 @@ use lib.Seq.{sets}
 use Rattle.octets.specs.Answers.{judge, done, unsoundState, noSuchServer}
 use Rattle.session.specs.Servers.{chosen, settle, changed, phaseAt, withServers, Transition, transition}
 use Rattle.session.specs.Sound.{sound}
+use Rattle.wire.specs.Replies.{silent, Encoding, layout}
 use Rattle.session.specs.Steps.{Outcome, Call, step, answer, checks, after, settled, storeAfter, written, move, replyTo, transitionChecks, outputAfter, wroteOf}
 use Rattle.servers.specs.Changes.{changeOf, appliedTo, settledChange, refusedChange}
 use Rattle.soundness.specs.Parts.{stateOf, partsIn}
@@ -22,22 +23,22 @@ use Rattle.session.proofs.StepLaws.{settled-same, step-refused, step-done}
 
 -- ---- transitions
 
-module _ (w : ℕ) (table : List ℕ) (room v : ℕ) (t : Transition) (s : State) where
+module _ (enc : Encoding) (room v : ℕ) (t : Transition) (s : State) where
   -- what a transition is judged by
-  pub move-unsound : sound s ≡ false → answer w table room (move v t) s [] ≡ unsoundState
+  pub move-unsound : sound s ≡ false → answer enc room (move v t) s [] ≡ unsoundState
   unfolding answer
   move-unsound e = rw e
 
-  pub move-unknown : sound s ≡ true → leb (s .settings .servers) v ≡ true → answer w table room (move v t) s [] ≡ noSuchServer
+  pub move-unknown : sound s ≡ true → leb (s .settings .servers) v ≡ true → answer enc room (move v t) s [] ≡ noSuchServer
   unfolding answer checks
   move-unknown e f = rw (e, f)
 
   pub move-judged : sound s ≡ true → leb (s .settings .servers) v ≡ false
-      → answer w table room (move v t) s [] ≡ judge (transitionChecks (s .settings) table room t (phaseAt (s .delivery .servers) v))
+      → answer enc room (move v t) s [] ≡ judge (transitionChecks enc (s .settings) room t (phaseAt (s .delivery .servers) v))
   unfolding answer checks
   move-judged e f = rw (e, f)
 
-  move-same : answer w table room (move v t) (partsIn s) [] ≡ answer w table room (move v t) s []
+  move-same : answer enc room (move v t) (partsIn s) [] ≡ answer enc room (move v t) s []
   unfolding answer checks
   move-same = rw (parts-of s)
 
@@ -45,18 +46,18 @@ module _ (w : ℕ) (table : List ℕ) (room v : ℕ) (t : Transition) (s : State
   outcome : State → ℕ → Bool → Outcome
   outcome s a b =
       cond b
-      (record { answer = done; state = settled (after w (move v t) s); store = []; written = replyTo (s .settings) table t })
-      (record { answer = a; state = s; store = []; written = [] })
+      (record { answer = done; state = settled (after (enc .width) (move v t) s); store = []; written = replyTo (s .settings) t })
+      (record { answer = a; state = s; store = []; written = silent })
 
   move-parts : _≡_ {A = Wrote}
       (record {
-        answer = changeOf (step w table room (move v t) (partsIn s) []) .answer;
-        written = changeOf (step w table room (move v t) (partsIn s) []) .written;
-        state = appliedTo s (changeOf (step w table room (move v t) (partsIn s) []));
+        answer = changeOf (step enc room (move v t) (partsIn s) []) .answer;
+        written = changeOf (step enc room (move v t) (partsIn s) []) .written;
+        state = appliedTo s (changeOf (step enc room (move v t) (partsIn s) []));
       })
-      (wroteOf (step w table room (move v t) s []))
+      (wroteOf (step enc room (move v t) s []))
   unfolding step after settled written storeAfter outcome
-  move-parts = rw move-same (go (answer w table room (move v t) s []) (eqb (answer w table room (move v t) s []) done))
+  move-parts = rw move-same (go (answer enc room (move v t) s []) (eqb (answer enc room (move v t) s []) done))
     where
       go : (a : ℕ) (b : Bool) → _≡_ {A = Wrote}
           (record {
@@ -68,9 +69,9 @@ module _ (w : ℕ) (table : List ℕ) (room v : ℕ) (t : Transition) (s : State
       go a true = refl
       go a false = refl
 
-  move-output : (out : List ℕ) → outputAfter out (step w table room (move v t) (partsIn s) []) ≡ outputAfter out (step w table room (move v t) s [])
+  move-output : (out : List ℕ) → outputAfter out (step enc room (move v t) (partsIn s) []) ≡ outputAfter out (step enc room (move v t) s [])
   unfolding step written storeAfter outcome
-  move-output out = rw move-same (go (answer w table room (move v t) s []) (eqb (answer w table room (move v t) s []) done))
+  move-output out = rw move-same (go (answer enc room (move v t) s []) (eqb (answer enc room (move v t) s []) done))
     where
       go : (a : ℕ) (b : Bool) → outputAfter out (outcome (partsIn s) a b) ≡ outputAfter out (outcome s a b)
       go a true = refl
@@ -78,28 +79,28 @@ module _ (w : ℕ) (table : List ℕ) (room v : ℕ) (t : Transition) (s : State
 
   -- what a transition changes by parts, applied to the state
   pub moved-applied : (out left : List ℕ) (x : Change) (s′ : State)
-      → (x ≡ changeOf (step w table room (move v t) (partsIn s) [])) × (left ≡ outputAfter out (step w table room (move v t) (partsIn s) []))
+      → (x ≡ changeOf (step enc room (move v t) (partsIn s) [])) × (left ≡ outputAfter out (step enc room (move v t) (partsIn s) []))
       → s′ ≡ appliedTo s x
-      → _≡_ {A = Wrote} (record { answer = x .answer; written = x .written; state = s′ }) (wroteOf (step w table room (move v t) s []))
-      × (left ≡ outputAfter out (step w table room (move v t) s []))
+      → _≡_ {A = Wrote} (record { answer = x .answer; written = x .written; state = s′ }) (wroteOf (step enc room (move v t) s []))
+      × (left ≡ outputAfter out (step enc room (move v t) s []))
   moved-applied out left x s′ e k = (rw (k, e .0) move-parts, e .1 ∙ move-output out)
 
 -- ---- changes, and what they leave of an output
 
 -- a refused call's
-pub refused-change : (w : ℕ) (table : List ℕ) (room : ℕ) (c : Call) (s : State) (out : List ℕ) (a : ℕ) (r : Change)
-    → (a ≡ done → ⊥) → answer w table room c s [] ≡ a → r ≡ refusedChange a (s .delivery) (s .due)
-    → (r ≡ changeOf (step w table room c s [])) × (out ≡ outputAfter out (step w table room c s []))
-refused-change w table room c s out a r h e q = rw (step-refused w table room c s [] a h e) (q, refl)
+pub refused-change : (enc : Encoding) (room : ℕ) (c : Call) (s : State) (out : List ℕ) (a : ℕ) (r : Change)
+    → (a ≡ done → ⊥) → answer enc room c s [] ≡ a → r ≡ refusedChange a (s .delivery) (s .due)
+    → (r ≡ changeOf (step enc room c s [])) × (out ≡ outputAfter out (step enc room c s []))
+refused-change enc room c s out a r h e q = rw (step-refused enc room c s [] a h e) (q, refl)
 
 -- an accepted transition's
-pub moved-change : (w : ℕ) (table : List ℕ) (room v : ℕ) (t : Transition) (s : State) (out left : List ℕ) (n : ℕ) (r : Change)
-    → answer w table room (move v t) s [] ≡ done
-    → n ≡ length (replyTo (s .settings) table t)
-    → left ≡ sets out 0 (replyTo (s .settings) table t)
+pub moved-change : (enc : Encoding) (room v : ℕ) (t : Transition) (s : State) (out left : List ℕ) (n : ℕ) (r : Change)
+    → answer enc room (move v t) s [] ≡ done
+    → n ≡ length (layout (replyTo (s .settings) t))
+    → left ≡ sets out 0 (layout (replyTo (s .settings) t))
     → r ≡ settledChange (s .settings) (withServers (s .delivery) (transition v t (s .delivery .servers))) (s .due) n
-    → (r ≡ changeOf (step w table room (move v t) s [])) × (left ≡ outputAfter out (step w table room (move v t) s []))
+    → (r ≡ changeOf (step enc room (move v t) s [])) × (left ≡ outputAfter out (step enc room (move v t) s []))
 unfolding after settled written
-moved-change w table room v t s out left n r e k l q =
-    rw (step-done w table room (move v t) s [] e)
+moved-change enc room v t s out left n r e k l q =
+    rw (step-done enc room (move v t) s [] e)
     (q ∙ ap (settledChange (s .settings) (withServers (s .delivery) (transition v t (s .delivery .servers))) (s .due)) k, l)

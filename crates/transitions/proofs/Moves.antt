@@ -14,6 +14,7 @@ use Rattle.octets.specs.Numbers.{putAt}
 use Rattle.octets.proofs.Judging.{passed, judged-first, judged-next}
 use Rattle.octets.proofs.Stores.{put-fits, put-short}
 use Rattle.wire.specs.Table.{tableSound, configurationId}
+use Rattle.wire.specs.Replies.{crane, layout}
 use Rattle.wire.specs.Messages.{Placed, isTmplData, isData, layoutOf, writeOf, writeOut}
 use Rattle.messages.specs.declared.message.Message.{Message}
 use Rattle.messages.specs.declared.message.Message.the-variants.{StartAck, StopAck, StartNegotiateAck, TmplData}
@@ -21,14 +22,17 @@ use Rattle.messages.specs.declared.message.Written.{Written}
 use Rattle.messages.specs.declared.message.Written.the-variants as written
 use Rattle.wire.proofs.Messages.{allowed, placed}
 use Rattle.octets.proofs.Each.{and-left}
-use Rattle.session.specs.Servers.{phaseAt, Transition, start, stop, negotiate, offer, down, agree, malformed}
+use Rattle.session.specs.Servers.{phaseAt, transition, Transition, start, stop, negotiate, offer, down, agree, malformed}
 use Rattle.session.specs.Steps.{move, answer, replyTo, transitionChecks, isSessions, turnChecks}
 use Rattle.session.specs.Sound.{sound}
 use Rattle.session.specs.declared.state.State.{State}
 use Rattle.transitions.proofs.Changes.{move-judged}
-use Rattle.transitions.specs.Moves.{tableFits, replyOf}
+use Rattle.transitions.specs.Moves.{transitionOf, tableFits, replyOf}
+use Rattle.transitions.specs.declared.transition.Move.{Move}
+use Rattle.transitions.specs.declared.transition.Move.the-variants as code
 use Rattle.transitions.specs.declared.transition.Reply.{Reply}
 use Rattle.transitions.specs.declared.transition.Reply.the-variants as reply
+use Rattle.session.specs.declared.state.Server as serverOf
 use Rattle.session.specs.declared.state.Phase.{Phase}
 use Rattle.session.specs.declared.state.Settings.{Settings}
 
@@ -38,48 +42,48 @@ use Rattle.session.specs.declared.state.Settings.{Settings}
 none-short : (room : ℕ) → ltb room 0 ≡ false
 none-short room = le-ltb room 0 (omega arith)
 
-module _ (p : Settings) (table : List ℕ) (room : ℕ) (phase : Phase) where
+module _ (p : Settings) (room : ℕ) (phase : Phase) where
   -- the output's length is judged last
   room-last : (t : Transition)
-      → judge (transitionChecks p table room t phase) ≡ judge (turnChecks p table t phase ++ ((outputTooShort when ltb room (length (replyTo p table t))) ∷ []))
+      → judge (transitionChecks crane p room t phase) ≡ judge (turnChecks p t phase ++ ((outputTooShort when ltb room (length (layout (replyTo p t)))) ∷ []))
   room-last start = refl
   room-last stop = refl
   room-last negotiate = refl
-  room-last offer = refl
+  room-last (offer table) = refl
   room-last down = rw none-short
   room-last (agree config) = rw none-short
   room-last (malformed a) = refl
 
   -- a refusal but for the output's length stays
-  pub turn-refused : (t : Transition) → (judge (turnChecks p table t phase) ≡ done → ⊥)
-      → judge (transitionChecks p table room t phase) ≡ judge (turnChecks p table t phase)
-  turn-refused t h = room-last t ∙ judged-first (turnChecks p table t phase) ((outputTooShort when ltb room (length (replyTo p table t))) ∷ []) h
+  pub turn-refused : (t : Transition) → (judge (turnChecks p t phase) ≡ done → ⊥)
+      → judge (transitionChecks crane p room t phase) ≡ judge (turnChecks p t phase)
+  turn-refused t h = room-last t ∙ judged-first (turnChecks p t phase) ((outputTooShort when ltb room (length (layout (replyTo p t)))) ∷ []) h
 
   -- where there is none, the output's length decides
-  pub turn-passed : (t : Transition) → judge (turnChecks p table t phase) ≡ done
-      → judge (transitionChecks p table room t phase) ≡ cond (ltb room (length (replyTo p table t))) outputTooShort done
+  pub turn-passed : (t : Transition) → judge (turnChecks p t phase) ≡ done
+      → judge (transitionChecks crane p room t phase) ≡ cond (ltb room (length (layout (replyTo p t)))) outputTooShort done
   turn-passed start e = refl
   turn-passed stop e = refl
-  turn-passed negotiate e = judged-next (turnChecks p table negotiate phase) ((outputTooShort when ltb room (length (replyTo p table negotiate))) ∷ []) tt e
-  turn-passed offer e = judged-next (turnChecks p table offer phase) ((outputTooShort when ltb room (length (replyTo p table offer))) ∷ []) tt e
+  turn-passed negotiate e = judged-next (turnChecks p negotiate phase) ((outputTooShort when ltb room (length (layout (replyTo p negotiate)))) ∷ []) tt e
+  turn-passed (offer table) e = judged-next (turnChecks p (offer table) phase) ((outputTooShort when ltb room (length (layout (replyTo p (offer table))))) ∷ []) tt e
   turn-passed down e = rw none-short
   turn-passed (agree config) e = rw none-short e
   turn-passed (malformed a) e = rw none-short e
 
 -- a transition that is not refused writes a sound table, if it writes one
-table-passed : (p : Settings) (table : List ℕ) (phase : Phase) (t : Transition) → judge (turnChecks p table t phase) ≡ done → tableFits t table ≡ true
-table-passed p table phase start e = refl
-table-passed p table phase stop e = refl
-table-passed p table phase negotiate e = refl
-table-passed p table phase offer e =
-    and-left (tableSound table) (eqb (configurationId table) (p .config)) (not-false (isSessions p table) (passed (turnChecks p table offer phase) tt e .0))
-table-passed p table phase down e = refl
-table-passed p table phase (agree config) e = refl
-table-passed p table phase (malformed a) e = refl
+table-passed : (p : Settings) (phase : Phase) (t : Transition) → judge (turnChecks p t phase) ≡ done → tableFits t ≡ true
+table-passed p phase start e = refl
+table-passed p phase stop e = refl
+table-passed p phase negotiate e = refl
+table-passed p phase (offer table) e =
+    and-left (tableSound table) (eqb (configurationId table) (p .config)) (not-false (isSessions p table) (passed (turnChecks p (offer table) phase) tt e .0))
+table-passed p phase down e = refl
+table-passed p phase (agree config) e = refl
+table-passed p phase (malformed a) e = refl
 
 -- the same, by what it was judged
-pub table-fits : (p : Settings) (table : List ℕ) (phase : Phase) (t : Transition) (a : ℕ) → a ≡ judge (turnChecks p table t phase) → a ≡ done → tableFits t table ≡ true
-table-fits p table phase t a j e = table-passed p table phase t (sym j ∙ e)
+pub table-fits : (p : Settings) (phase : Phase) (t : Transition) (a : ℕ) → a ≡ judge (turnChecks p t phase) → a ≡ done → tableFits t ≡ true
+table-fits p phase t a j e = table-passed p phase t (sym j ∙ e)
 
 -- ---- what is written
 
@@ -99,34 +103,34 @@ none-placed : (out : List ℕ) → Placed [] out (written.Octets 0) out
 none-placed out = placed [] out out 0 refl (omega arith) refl
 
 -- the message that a transition writes is placed; its table is sound where it is one
-pub reply-placed : (p : Settings) (table out : List ℕ) (t : Transition) (r : Reply) (m : Message) (answer : Written) (after : List ℕ)
-    → r ≡ replyOf p t → r ≡ reply.Message m → tableFits t table ≡ true
+pub reply-placed : (p : Settings) (table out : List ℕ) (move : Move) (r : Reply) (m : Message) (answer : Written) (after : List ℕ)
+    → r ≡ replyOf p move → r ≡ reply.Message m → tableFits (transitionOf table move) ≡ true
     → (answer ≡ writeOf m table out) × (after ≡ writeOut m table out)
-    → Placed (replyTo p table t) out answer after
+    → Placed (layout (replyTo p (transitionOf table move))) out answer after
 unfolding layoutOf
-reply-placed p table out start r m answer after e k f w =
+reply-placed p table out code.Start r m answer after e k f w =
     let q : m ≡ StartAck (p .session) (p .boot) = cc in written-placed (StartAck (p .session) (p .boot)) table out answer after refl refl (rw q at w)
-reply-placed p table out stop r m answer after e k f w =
+reply-placed p table out code.Stop r m answer after e k f w =
     let q : m ≡ StopAck (p .session) = cc in written-placed (StopAck (p .session)) table out answer after refl refl (rw q at w)
-reply-placed p table out negotiate r m answer after e k f w =
+reply-placed p table out code.Negotiate r m answer after e k f w =
     let q : m ≡ StartNegotiateAck (p .session) = cc in
     written-placed (StartNegotiateAck (p .session)) table out answer after refl refl (rw q at w)
-reply-placed p table out offer r m answer after e k f w =
+reply-placed p table out code.Offer r m answer after e k f w =
     let q : m ≡ TmplData (p .session) = cc in written-placed (TmplData (p .session)) table out answer after (ap not f) refl (rw q at w)
-reply-placed p table out down r m answer after e k f w = let z : _≡_ {A = ℕ} 0 1 = cc in absurd (omega arith)
-reply-placed p table out (agree config) r m answer after e k f w = let z : _≡_ {A = ℕ} 0 1 = cc in absurd (omega arith)
-reply-placed p table out (malformed a) r m answer after e k f w = let z : _≡_ {A = ℕ} 0 1 = cc in absurd (omega arith)
+reply-placed p table out code.Down r m answer after e k f w = let z : _≡_ {A = ℕ} 0 1 = cc in absurd (omega arith)
+reply-placed p table out (code.Agree config) r m answer after e k f w = let z : _≡_ {A = ℕ} 0 1 = cc in absurd (omega arith)
+reply-placed p table out (code.Malformed a) r m answer after e k f w = let z : _≡_ {A = ℕ} 0 1 = cc in absurd (omega arith)
 
 -- one that writes no message places no octets
-pub reply-none : (p : Settings) (table out : List ℕ) (t : Transition) (r : Reply) → r ≡ replyOf p t → r ≡ reply.Nothing
-    → Placed (replyTo p table t) out (written.Octets 0) out
-reply-none p table out start r e k = let z : _≡_ {A = ℕ} 0 1 = cc in absurd (omega arith)
-reply-none p table out stop r e k = let z : _≡_ {A = ℕ} 0 1 = cc in absurd (omega arith)
-reply-none p table out negotiate r e k = let z : _≡_ {A = ℕ} 0 1 = cc in absurd (omega arith)
-reply-none p table out offer r e k = let z : _≡_ {A = ℕ} 0 1 = cc in absurd (omega arith)
-reply-none p table out down r e k = none-placed out
-reply-none p table out (agree config) r e k = none-placed out
-reply-none p table out (malformed a) r e k = none-placed out
+pub reply-none : (p : Settings) (table out : List ℕ) (move : Move) (r : Reply) → r ≡ replyOf p move → r ≡ reply.Nothing
+    → Placed (layout (replyTo p (transitionOf table move))) out (written.Octets 0) out
+reply-none p table out code.Start r e k = let z : _≡_ {A = ℕ} 0 1 = cc in absurd (omega arith)
+reply-none p table out code.Stop r e k = let z : _≡_ {A = ℕ} 0 1 = cc in absurd (omega arith)
+reply-none p table out code.Negotiate r e k = let z : _≡_ {A = ℕ} 0 1 = cc in absurd (omega arith)
+reply-none p table out code.Offer r e k = let z : _≡_ {A = ℕ} 0 1 = cc in absurd (omega arith)
+reply-none p table out code.Down r e k = none-placed out
+reply-none p table out (code.Agree config) r e k = none-placed out
+reply-none p table out (code.Malformed a) r e k = none-placed out
 
 -- octets that were written, and those that were not
 pub record Fitted (octets out : List ℕ) (n : ℕ) (after : List ℕ) : Type 0 where
@@ -161,17 +165,31 @@ unfitted octets out a after p =
 
 -- ---- the answer to a transition of a server that there is
 
-module _ (w : ℕ) (table : List ℕ) (room v : ℕ) (t : Transition) (s : State) (a : ℕ)
+module _ (room v : ℕ) (t : Transition) (s : State) (a : ℕ)
     (e : sound s ≡ true) (k : leb (s .settings .servers) v ≡ false)
-    (q : a ≡ judge (turnChecks (s .settings) table t (phaseAt (s .delivery .servers) v))) where
+    (q : a ≡ judge (turnChecks (s .settings) t (phaseAt (s .delivery .servers) v))) where
   -- refused, but not for the output's length
-  pub move-refused : (a ≡ done → ⊥) → answer w table room (move v t) s [] ≡ a
-  move-refused h = move-judged w table room v t s e k ∙ turn-refused (s .settings) table room (phaseAt (s .delivery .servers) v) t (λ z. h (q ∙ z)) ∙ sym q
+  pub move-refused : (a ≡ done → ⊥) → answer crane room (move v t) s [] ≡ a
+  move-refused h = move-judged crane room v t s e k ∙ turn-refused (s .settings) room (phaseAt (s .delivery .servers) v) t (λ z. h (q ∙ z)) ∙ sym q
 
   -- not refused so far: the output's length decides
-  pub move-roomed : a ≡ done → (short : Bool) → ltb room (length (replyTo (s .settings) table t)) ≡ short
-      → answer w table room (move v t) s [] ≡ cond short outputTooShort done
+  pub move-roomed : a ≡ done → (short : Bool) → ltb room (length (layout (replyTo (s .settings) t))) ≡ short
+      → answer crane room (move v t) s [] ≡ cond short outputTooShort done
   move-roomed z short h =
-      move-judged w table room v t s e k
-      ∙ turn-passed (s .settings) table room (phaseAt (s .delivery .servers) v) t (sym q ∙ z)
+      move-judged crane room v t s e k
+      ∙ turn-passed (s .settings) room (phaseAt (s .delivery .servers) v) t (sym q ∙ z)
       ∙ ap (λ (b : Bool). cond b outputTooShort done) h
+
+-- ---- the servers after a transition
+
+-- which table is offered does not matter to them
+pub any-table : (v : ℕ) (m : Move) (table : List ℕ) (servers : List serverOf.Server)
+    → transition v (transitionOf [] m) servers ≡ transition v (transitionOf table m) servers
+unfolding transition
+any-table v code.Start table servers = refl
+any-table v code.Stop table servers = refl
+any-table v code.Negotiate table servers = refl
+any-table v code.Offer table servers = refl
+any-table v code.Down table servers = refl
+any-table v (code.Agree config) table servers = refl
+any-table v (code.Malformed a) table servers = refl

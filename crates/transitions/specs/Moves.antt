@@ -14,32 +14,33 @@ use Rattle.transitions.specs.declared.transition.Reply.the-variants as r
 
 -- ---- transitions
 
--- The transition that the code's value stands for.
-abbrev pub transitionOf : Move → Transition
-transitionOf code.Start = start
-transitionOf code.Stop = stop
-transitionOf code.Negotiate = negotiate
-transitionOf code.Offer = offer
-transitionOf code.Down = down
-transitionOf (code.Agree config) = agree config
-transitionOf (code.Malformed a) = malformed a
+-- The transition that the code's value stands for, with the table that is lent.
+abbrev pub transitionOf : List ℕ → Move → Transition
+transitionOf table code.Start = start
+transitionOf table code.Stop = stop
+transitionOf table code.Negotiate = negotiate
+transitionOf table code.Offer = offer table
+transitionOf table code.Down = down
+transitionOf table (code.Agree config) = agree config
+transitionOf table (code.Malformed a) = malformed a
 
 -- The table that an offer writes is sound; no other transition writes one.
-abbrev pub tableFits : Transition → List ℕ → Bool
-tableFits start table = true
-tableFits stop table = true
-tableFits negotiate table = true
-tableFits offer table = tableSound table
-tableFits down table = true
-tableFits (agree config) table = true
-tableFits (malformed a) table = true
+abbrev pub tableFits : Transition → Bool
+tableFits start = true
+tableFits stop = true
+tableFits negotiate = true
+tableFits (offer table) = tableSound table
+tableFits down = true
+tableFits (agree config) = true
+tableFits (malformed a) = true
 
--- The message that a transition writes: START, STOP and START NEGOTIATE are acknowledged, an offer is TMPL DATA. `replyTo` is its octets.
-abbrev pub replyOf : Settings → Transition → Reply
-replyOf p start = reply.Message (StartAck (p .session) (p .boot))
-replyOf p stop = reply.Message (StopAck (p .session))
-replyOf p negotiate = reply.Message (StartNegotiateAck (p .session))
-replyOf p offer = reply.Message (TmplData (p .session))
-replyOf p down = reply.Nothing
-replyOf p (agree config) = reply.Nothing
-replyOf p (malformed a) = reply.Nothing
+-- The message that the code's value writes: START, STOP and START NEGOTIATE are acknowledged, an offer is TMPL DATA. `replyTo` has it with
+-- its part.
+abbrev pub replyOf : Settings → Move → Reply
+replyOf p code.Start = reply.Message (StartAck (p .session) (p .boot))
+replyOf p code.Stop = reply.Message (StopAck (p .session))
+replyOf p code.Negotiate = reply.Message (StartNegotiateAck (p .session))
+replyOf p code.Offer = reply.Message (TmplData (p .session))
+replyOf p code.Down = reply.Nothing
+replyOf p (code.Agree config) = reply.Nothing
+replyOf p (code.Malformed a) = reply.Nothing

@@ -7,7 +7,7 @@ use session::state::Stepped;
 
 // The line to server v is down, which closes it. Refused with 1 or 2.
 pub fn line_down(s: State, v: u8) -> Stepped
-    ensures { λ r. ⌜ r ≡ steppedOf (lineDownStep 32 s v) ⌝ }
+    ensures { λ r. ⌜ r ≡ steppedOf (lineDownStep s v) ⌝ }
 {
     let left = crate::transition::move_server(s, v, Move::Down, &[], &mut []);
     let state = left.state;

@@ -5,6 +5,7 @@ ghost use mathlib.Core.List.{[]};
 ghost use lib.ListN.{length};
 ghost use Rattle.octets.specs.Answers.{judge};
 ghost use Rattle.wire.specs.Messages.{Placed};
+ghost use Rattle.wire.specs.Replies.{crane, layout};
 ghost use Rattle.session.specs.Servers.{offer, agree, transition, withServers};
 ghost use Rattle.session.specs.Steps.{move, step, replyTo, outputAfter, wroteOf, negotiateChecks, turnChecks};
 ghost use Rattle.servers.specs.Changes.{changeOf};
@@ -53,7 +54,7 @@ fn negotiate_answer(phase: Phase) -> u8
 
 // An offer is judged 21, 9.
 fn offer_answer(p: Settings, table: &[u8], phase: Phase) -> u8
-    ensures { λ r. ⌜ r ≡ judge (turnChecks p (now (table .entry)) offer phase) ⌝ }
+    ensures { λ r. ⌜ r ≡ judge (turnChecks p (offer (now (table .entry))) phase) ⌝ }
 {
     if !soundness::session_table::is_sessions(p, table) {
         return Answer::UNSOUND_TABLE;
@@ -66,7 +67,7 @@ fn offer_answer(p: Settings, table: &[u8], phase: Phase) -> u8
 
 // FINAL TMPL DATA ACK is judged 9, 10.
 fn agree_answer(p: Settings, config: u8, phase: Phase) -> u8
-    ensures { λ r. ⌜ r ≡ judge (turnChecks p [] (agree config) phase) ⌝ }
+    ensures { λ r. ⌜ r ≡ judge (turnChecks p (agree config) phase) ⌝ }
 {
     if !servers::is_offered(phase) {
         return Answer::OUT_OF_TURN;
@@ -79,7 +80,7 @@ fn agree_answer(p: Settings, config: u8, phase: Phase) -> u8
 
 // A transition of a server in this phase is judged by its own refusals, but for the output's length.
 fn turn_answer(p: Settings, m: Move, table: &[u8], phase: Phase) -> u8
-    ensures { λ r. ⌜ r ≡ judge (turnChecks p (now (table .entry)) (transitionOf m) phase) ⌝ }
+    ensures { λ r. ⌜ r ≡ judge (turnChecks p (transitionOf (now (table .entry)) m) phase) ⌝ }
 {
     match m {
         Move::Start => Answer::DONE,
@@ -94,7 +95,7 @@ fn turn_answer(p: Settings, m: Move, table: &[u8], phase: Phase) -> u8
 
 // The message that a transition writes, if it writes one.
 fn reply_of(p: Settings, m: Move) -> Reply
-    ensures { λ r. ⌜ r ≡ replyOf p (transitionOf m) ⌝ }
+    ensures { λ r. ⌜ r ≡ replyOf p m ⌝ }
 {
     let session = p.session;
     let boot_time = p.boot;
@@ -111,8 +112,8 @@ fn reply_of(p: Settings, m: Move) -> Reply
 
 // Writes the message that answers a transition, or offers the templates; some have none.
 fn write_reply(p: Settings, m: Move, table: &[u8], out: &mut [u8]) -> Written
-    requires { ⌜ tableFits (transitionOf m) (now table) ≡ true ⌝ }
-    ensures { λ r. ⌜ Placed (replyTo p (now (table .entry)) (transitionOf m)) (now (out .entry)) r (now (out .exit)) ⌝ }
+    requires { ⌜ tableFits (transitionOf (now table) m) ≡ true ⌝ }
+    ensures { λ r. ⌜ Placed (layout (replyTo p (transitionOf (now (table .entry)) m))) (now (out .entry)) r (now (out .exit)) ⌝ }
 {
     let reply = reply_of(p, m);
     match reply {
@@ -123,7 +124,7 @@ fn write_reply(p: Settings, m: Move, table: &[u8], out: &mut [u8]) -> Written
 
 // The servers after a transition of one.
 fn move_servers(servers: [Server; SERVER_ENTRIES], v: u8, m: Move) -> [Server; SERVER_ENTRIES]
-    ensures { λ r. ⌜ r ≡ transition v (transitionOf m) servers ⌝ }
+    ensures { λ r. ⌜ r ≡ transition v (transitionOf [] m) servers ⌝ }
 {
     match m {
         Move::Start => servers::with_phase(servers, v, Phase::Started),
@@ -138,7 +139,7 @@ fn move_servers(servers: [Server; SERVER_ENTRIES], v: u8, m: Move) -> [Server; S
 
 // The delivery after a transition of one server.
 fn move_delivery(d: Delivery, v: u8, m: Move) -> Delivery
-    ensures { λ r. ⌜ r ≡ withServers d (transition v (transitionOf m) (d .servers)) ⌝ }
+    ensures { λ r. ⌜ r ≡ withServers d (transition v (transitionOf [] m) (d .servers)) ⌝ }
 {
     let servers = d.servers;
     let moved = move_servers(servers, v, m);
@@ -164,7 +165,7 @@ fn move_change<'a>(
 ) -> Change
     ensures { λ r. ⌜
         (let s = stateOf p capacity d due count (now (lengths .entry)) [] (now (receivers .entry)) start 0 in
-        let o = step 32 (now (table .entry)) (length (now (out .entry))) (move v (transitionOf m)) s [] in
+        let o = step crane (length (now (out .entry))) (move v (transitionOf (now (table .entry)) m)) s [] in
         (r ≡ changeOf o) × (now (out .exit) ≡ outputAfter (now (out .entry)) o)) ⌝ }
 {
     if !soundness::sound::parts_sound(p, capacity, d, due, count, lengths, receivers, start) {
@@ -188,7 +189,7 @@ fn move_change<'a>(
 // A transition of server v. Refused with 1, 2, then by its own refusals, then with 12 where its message does not fit the output.
 pub fn move_server(s: State, v: u8, m: Move, table: &[u8], out: &mut [u8]) -> Wrote
     ensures { λ r. ⌜
-        (let o = step 32 (now (table .entry)) (length (now (out .entry))) (move v (transitionOf m)) s [] in
+        (let o = step crane (length (now (out .entry))) (move v (transitionOf (now (table .entry)) m)) s [] in
         (r ≡ wroteOf o) × (now (out .exit) ≡ outputAfter (now (out .entry)) o)) ⌝ }
 {
     let p = s.settings;

@@ -5,7 +5,7 @@ use mathlib.Core.Logic.{⊎-elim}
 use Prim.Native.Nat.{_+_, _-_, _*_, _≤_}
 use native.Mathlib.Omega.{arith}
 use lib.ListN.{length, getD}
-use Rattle.session.specs.Claim.{Event, Put, NextData, Receive, OfferTemplates, Tick}
+use Rattle.session.specs.InOctets.{Event, Put, NextData, Receive, OfferTemplates, Tick}
 use borrow.Author.Needs.{needs}
 use Rattle.sessions.specs.Sessions.{Lent, messageAt, Progress, progress, played}
 use Rattle.sessions.proofs.Turns.{event-put, event-next, event-tick, event-offer, event-receive, put-writes-nothing, tick-writes-nothing, stepped-after, wrote-after, same-progress, played-more, played-to}
@@ -127,7 +127,7 @@ loop-again c =
           ap length (w .5) ∙ h .inv .1 .1 .0,
           played-more l _ q _ (h .i) Tick (h .inv .1 .1 .1) (event-tick l at (h .out) (w .0 .keys3))
               (same-progress (w .6) (w .4) (w .5) (w .7 ∙ w .3 .ensures)
-              ∙ stepped-after l q Tick (w .1 .result) _ (tick-writes-nothing _ _ _ _) (w .1 .ensures) refl),
+              ∙ stepped-after l q Tick (w .1 .result) _ (tick-writes-nothing _ _ _) (w .1 .ensures) refl),
         ),
       ),
     ))

@@ -6,6 +6,7 @@ use native.Mathlib.Omega.{arith}
 use Rattle.soundness.specs.Parts.{stateOf}
 use Rattle.session.proofs.SoundFacts.{sound-facts, passed-sound, failed-sound}
 use Rattle.receiving.proofs.Acks.{ack-sound-parts, ack-unsound, answered-ack, refused-ack, accepted-ack, ack-reached}
+use Rattle.wire.specs.Replies.{crane}
 use borrow.Author.Needs.{needs}
 use Rattle.receiving.proofs.acknowledge.ack_change.Statement.{statement}
 use Rattle.receiving.proofs.acknowledge.ack_change.Tie as tie
@@ -22,7 +23,7 @@ returns c =
     let parts = stateOf (a .p) (a .capacity) (a .d) (a .due) (a .count) (a .lengths .now) [] (a .receivers .now) (a .start) 0 in
     let s = stateOf (a .p) (a .capacity) (a .d) (a .due) (a .count) (a .lengths .now) [] (a .receivers .now) (a .start) (a .next) in
     let e = failed-sound parts (c .before .before .parts-sound .result) (c .before .before .parts-sound .ensures) (c .before .if1 .taken) in
-    refused-ack 32 (a .v) (a .dsn) (a .config) s 1 (c .refuse-ack .result) (λ z. omega arith) (ack-unsound 32 (a .v) (a .dsn) (a .config) s (sym (ack-sound-parts s) ∙ e)) (c .refuse-ack .ensures)
+    refused-ack crane (a .v) (a .dsn) (a .config) s 1 (c .refuse-ack .result) (λ z. omega arith) (ack-unsound crane (a .v) (a .dsn) (a .config) s (sym (ack-sound-parts s) ∙ e)) (c .refuse-ack .ensures)
 
 ack-count-requires : tie.Need-ack-count-requires
 ack-count-requires c κs =
@@ -47,8 +48,8 @@ returns-2 c =
     let s = stateOf (a .p) (a .capacity) (a .d) (a .due) (a .count) (a .lengths .now) [] (a .receivers .now) (a .start) (a .next) in
     let e = passed-sound parts (c .before .before .before .before .before .parts-sound .result) (c .before .before .before .before .before .parts-sound .ensures) (c .before .before .before .before .if1 .left) in
     let q = rw (c .before .before .before .ack-count .ensures) at (c .before .before .ack-answer .ensures) in
-    refused-ack 32 (a .v) (a .dsn) (a .config) s (c .before .before .ack-answer .result) (c .refuse-ack2 .result) (c .before .if2 .taken)
-    (answered-ack 32 (a .v) (a .dsn) (a .config) s (c .before .before .ack-answer .result) (sym (ack-sound-parts s) ∙ e) q) (c .refuse-ack2 .ensures)
+    refused-ack crane (a .v) (a .dsn) (a .config) s (c .before .before .ack-answer .result) (c .refuse-ack2 .result) (c .before .if2 .taken)
+    (answered-ack crane (a .v) (a .dsn) (a .config) s (c .before .before .ack-answer .result) (sym (ack-sound-parts s) ∙ e) q) (c .refuse-ack2 .ensures)
 
 accept-ack-requires : tie.Need-accept-ack-requires
 accept-ack-requires c κs =
@@ -66,7 +67,7 @@ returns-3 c =
     let s = stateOf (a .p) (a .capacity) (a .d) (a .due) (a .count) (a .lengths .now) [] (a .receivers .now) (a .start) (a .next) in
     let e = sym (ack-sound-parts s) ∙ passed-sound parts (c .before .before .before .before .before .parts-sound .result) (c .before .before .before .before .before .parts-sound .ensures) (c .before .before .before .before .if1 .left) in
     let q = rw (c .before .before .before .ack-count .ensures) at (c .before .before .ack-answer .ensures) in
-    accepted-ack 32 (a .v) (a .dsn) (a .config) s (c .accept-ack .result) e (answered-ack 32 (a .v) (a .dsn) (a .config) s (c .before .before .ack-answer .result) e q ∙ c .before .if2 .left)
+    accepted-ack crane (a .v) (a .dsn) (a .config) s (c .accept-ack .result) e (answered-ack crane (a .v) (a .dsn) (a .config) s (c .before .before .ack-answer .result) e q ∙ c .before .if2 .left)
     (rw (c .before .before .before .ack-count .ensures) at (c .accept-ack .ensures))
 
 pub ack-change-spec : {M : Type 1} → statement M

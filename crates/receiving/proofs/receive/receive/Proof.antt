@@ -3,6 +3,7 @@
 use mathlib.Core.Path.{sym, ap, _∙_}
 use Rattle.receiving.specs.Requests.{callOfRequest}
 use Rattle.receiving.proofs.Acks.{ack-wrote}
+use Rattle.wire.specs.Replies.{crane}
 use borrow.Author.Needs.{needs}
 use Rattle.receiving.proofs.receive.receive.Statement.{statement}
 use Rattle.receiving.proofs.receive.receive.Tie as tie
@@ -28,7 +29,7 @@ move-server-requires c κs = search needs
 returns : tie.Need-returns
 returns c =
     let v = c .before .before .before .before .before .before .before .before .args .v in
-    rw (sym (c .before .before .before .before .decode .ensures v) ∙ ap (callOfRequest v) (c .before .before .request .given .1)) (ack-wrote 32 _ _ _ _ _ _ _ (c .acknowledge .ensures))
+    rw (sym (c .before .before .before .before .decode .ensures v) ∙ ap (callOfRequest v) (c .before .before .request .given .1)) (ack-wrote crane _ _ _ _ _ _ _ (c .acknowledge .ensures))
 
 same-length : tie.Need-same-length
 same-length c = search needs

@@ -23,7 +23,7 @@ apply-requires c κs = search needs
 returns : tie.Need-returns
 returns c =
     rw (c .apply .ensures, c .before .tick-change .ensures, c .before .before .tick-clock .ensures)
-    (tick-turned 32 _ _ (c .before .before .before .parts-sound .ensures ∙ parts-of _))
+    (tick-turned _ _ (c .before .before .before .parts-sound .ensures ∙ parts-of _))
 
 pub tick-spec : {M : Type 1} → statement M
 tick-spec =
