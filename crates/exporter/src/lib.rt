@@ -25,7 +25,8 @@
 // What it does not do: it opens no line, waits for nothing, and reads and writes no octet of a message or table by itself; `wire` does.
 //
 // Three types matter: `state::State`; its `Delivery`, the servers and how far the active one was sent the queue; and its `Queue`, the
-// records held. What holds of every list of calls is the claim in `session`, specs/Claim.antt.
+// records held. What holds of every list of calls is the claim in `session`: by meaning in specs/Claim.antt, of these calls and their
+// octets in specs/InOctets.antt.
 //
 // Nothing is declared here: the types stand in `session`, the calls in the crates named below. A crate that makes a `Settings` or holds a
 // `State` lists `session` beside this crate: the checker asks for it.

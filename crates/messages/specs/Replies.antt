@@ -1,5 +1,5 @@
--- What a call writes, by its meaning, and what an answer and a state can depend on of how messages are put into octets: how wide sequence
--- numbers are and how long messages are (01, "Messages").
+-- What a call writes, by its meaning, and all that its answer and its state depend on of how messages are put into octets: how wide
+-- sequence numbers are, and how long messages are (01, "Messages").
 use Prim.Native.Nat.{ℕ}
 use mathlib.Core.List.{List, []}
 use lib.ListN.{length}

@@ -106,7 +106,7 @@ eventTranscript p x (e ∷ es) =
 
 -- ---- the claim
 
--- What is claimed of one call over octets, made of an exporter x when the history was h.
+-- What is claimed of one call over octets, made when the exporter was x and the history was h.
 pub record EventClaim (p : Settings) (x : Exporter) (h : History) (e : Event) : Type 0 where
   -- it answers, leaves and writes what its meaning does
   pub means : eventOutcome x e ≡ outcome (craneSession p) x (invocationOf p e)
@@ -133,7 +133,7 @@ pub record ClaimInOctets (p : Settings) (store : List ℕ) (es : List Event) : T
   -- and they are answered as their meanings are
   pub sameAnswers : eventTranscript p (freshOver p store) es
       ≡ transcript (craneSession p) (freshOver p store) (map (invocationOf p) es)
-  -- demand 3 of what the calls leave and of their answers
+  -- every sentence of demand 3, of what the calls leave, of their own answers and of their octets
   pub claim : Claim (craneSession p) (afterEvents (freshOver p store) es) (eventTranscript p (freshOver p store) es)
       (EventClaims p (freshOver p store) freshHistory es)
 
