@@ -1,4 +1,4 @@
-//! Messages: reading one alone and writing one alone.
+//! CRANE's messages: reading one alone and writing one alone.
 
 use super::answer;
 use super::octets::Reader;
@@ -62,11 +62,16 @@ impl Message {
     }
 }
 
-/// Header: version 1, message number, session, flags (ignored), 32-bit length of the whole
-/// message. Under 8 octets is 3, another version 4, a length other than the octets given 5.
+/// The header of a CRANE message, which has version 1.
 pub fn read_header(m: &[u8]) -> Result<Header, u8> {
-    let (version, header, length) = split_header(m).ok_or(answer::SHORT_MESSAGE)?;
-    if version != VERSION {
+    read_header_of(VERSION, m)
+}
+
+/// Header: the edition's version, message number, session, flags (ignored), 32-bit length of the whole
+/// message. Under 8 octets is 3, another version 4, a length other than the octets given 5.
+pub fn read_header_of(version: u8, m: &[u8]) -> Result<Header, u8> {
+    let (said, header, length) = split_header(m).ok_or(answer::SHORT_MESSAGE)?;
+    if said != version {
         return Err(answer::OTHER_VERSION);
     }
     if u64::from(length) != m.len() as u64 {

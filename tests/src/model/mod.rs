@@ -1,10 +1,12 @@
-//! An independent model of the exporter: tables, records, messages, the exporter's calls and the
-//! replay of a tape. It is plain rather than fast. It rests on 01 and on docs/DECISIONS.md, and
-//! shares no code with the crates; values and cursors have the library's form.
+//! An independent model of the exporter: tables, records, messages of both editions, the exporter's
+//! calls and the replay of a tape. It is plain rather than fast. It rests on 01, 02, source document
+//! 002 and docs/DECISIONS.md, and shares no code with the crates; values and cursors have the
+//! library's form.
 
 pub mod answer;
 pub mod append;
 pub mod exporter;
+pub mod ipdr;
 pub mod message;
 pub mod octets;
 pub mod record;
@@ -16,6 +18,8 @@ pub mod walk;
 mod tests_exporter;
 #[cfg(test)]
 mod tests_history;
+#[cfg(test)]
+mod tests_ipdr;
 #[cfg(test)]
 mod tests_replay;
 #[cfg(test)]
