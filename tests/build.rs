@@ -1,10 +1,12 @@
-//! Links the static library `exports` if it has been built. Without it everything builds too, but the runner then
-//! refuses to compare the library's functions.
+//! Links the static libraries `exports` and `edition_exports` if they have been built. Without them everything builds
+//! too, but the runner then refuses to compare the libraries' functions.
 //!
-//! The library is looked for in `target/staticlib` of the repository, or in the directory that `EXPORTS_DIR` names.
+//! They are looked for in `target/staticlib` of the repository, or in the directory that `EXPORTS_DIR` names.
 
 use std::env;
 use std::path::PathBuf;
+
+const LIBRARIES: [&str; 2] = ["exports", "edition_exports"];
 
 fn main() {
     let package = PathBuf::from(env::var("CARGO_MANIFEST_DIR").expect("cargo sets CARGO_MANIFEST_DIR"));
@@ -12,13 +14,17 @@ fn main() {
         Ok(directory) => PathBuf::from(directory),
         Err(_) => package.join("../target/staticlib"),
     };
-    let library = directory.join("libexports.a");
     println!("cargo:rerun-if-env-changed=EXPORTS_DIR");
-    println!("cargo:rerun-if-changed={}", library.display());
-    println!("cargo:rustc-check-cfg=cfg(library)");
-    if library.is_file() {
-        println!("cargo:rustc-cfg=library");
+    println!("cargo:rustc-check-cfg=cfg(libraries)");
+    let files = LIBRARIES.map(|library| directory.join(format!("lib{library}.a")));
+    for file in &files {
+        println!("cargo:rerun-if-changed={}", file.display());
+    }
+    if files.iter().all(|file| file.is_file()) {
+        println!("cargo:rustc-cfg=libraries");
         println!("cargo:rustc-link-search=native={}", directory.display());
-        println!("cargo:rustc-link-lib=static=exports");
+        for library in LIBRARIES {
+            println!("cargo:rustc-link-lib=static={library}");
+        }
     }
 }

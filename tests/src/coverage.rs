@@ -1,7 +1,7 @@
 //! Counts of what a comparison has seen, by the model's answers.
 
 use crate::generate::PROFILES;
-use crate::inputs::FUNCTIONS;
+use crate::inputs::{EDITION, FUNCTIONS};
 use crate::library::END;
 use crate::model::answer::*;
 use crate::model::replay;
@@ -78,8 +78,14 @@ impl Coverage {
         self.tapes.values().sum()
     }
 
+    /// The inputs without the messages of editions.
     pub fn inputs(&self) -> u64 {
-        self.inputs.values().sum()
+        self.inputs.iter().filter(|((function, _), _)| *function != EDITION).map(|(_, count)| count).sum()
+    }
+
+    /// The messages of editions.
+    pub fn editions(&self) -> u64 {
+        self.inputs.iter().filter(|((function, _), _)| *function == EDITION).map(|(_, count)| count).sum()
     }
 
     /// The counts as lines, then warnings that name the allowed answers that were not seen.
@@ -96,7 +102,8 @@ impl Coverage {
             report += &format!("  whole tapes refused (22): {}\n", self.refused_tapes);
         }
         if self.inputs() > 0 {
-            report += &format!("inputs: {}, by function (answer: times)\n", self.inputs());
+            let (inputs, editions) = (self.inputs(), self.editions());
+            report += &format!("inputs: {inputs}, messages of editions: {editions}, by function (answer: times)\n");
             for (number, function) in FUNCTIONS.iter().enumerate() {
                 report += &counts_line(function.name, number, &self.inputs);
             }

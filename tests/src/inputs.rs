@@ -1,9 +1,12 @@
-//! Seeded inputs for the library's functions, and for whole records, which take several of them together. An input is
+//! Seeded inputs for the libraries' functions, and for whole records, which take several of them together. An input is
 //! determined by its function and its seed.
 //!
 //! The model and the library get the same input; the answers and every octet of the output must be the same.
 
+mod edition;
 mod make;
+#[cfg(test)]
+mod mistakes;
 mod whole;
 
 use crate::library;
@@ -16,16 +19,19 @@ use crate::model::walk::{Cursor, Field, Step, Value};
 use crate::model::{append, message, record, table, walk};
 use crate::random::Random;
 use crate::text::words::hex;
+use edition::Edition;
 use whole::Whole;
 
-/// One function of the library, or what takes several, and the answers that its inputs can get.
+pub use make::edition::sound_parts as sound_ipdr_parts;
+
+/// One function of the libraries, or what takes several, and the answers that its inputs can get.
 pub struct Function {
     pub name: &'static str,
     pub answers: &'static [u8],
     make: fn(&mut Random) -> Input,
 }
 
-pub const FUNCTIONS: [Function; 8] = [
+pub const FUNCTIONS: [Function; 9] = [
     Function { name: "table", answers: &[DONE, UNSOUND_TABLE], make: make::table },
     Function { name: "find", answers: &[DONE, TEMPLATE_NOT_FOUND, UNSOUND_TABLE], make: make::find },
     Function {
@@ -33,21 +39,7 @@ pub const FUNCTIONS: [Function; 8] = [
         answers: &[DONE, TEMPLATE_NOT_FOUND, RECORD_INVALID, UNSOUND_TABLE],
         make: make::record,
     },
-    Function {
-        name: "message",
-        answers: &[
-            DONE,
-            SHORT_MESSAGE,
-            OTHER_VERSION,
-            LENGTH_DIFFERS,
-            MESSAGE_NOT_ACCEPTED,
-            BODY_LENGTH_WRONG,
-            OUTPUT_TOO_SHORT,
-            RECORD_TOO_LONG,
-            UNSOUND_TABLE,
-        ],
-        make: make::message,
-    },
+    Function { name: "message", answers: MESSAGE_ANSWERS, make: make::message },
     Function { name: "open", answers: &[DONE, TEMPLATE_NOT_FOUND, RECORD_INVALID, UNSOUND_TABLE], make: make::open },
     Function {
         name: "step",
@@ -56,7 +48,24 @@ pub const FUNCTIONS: [Function; 8] = [
     },
     Function { name: "append", answers: &[DONE, OUTPUT_TOO_SHORT, RECORD_INVALID], make: make::append },
     Function { name: "whole", answers: &[DONE, OUTPUT_TOO_SHORT, RECORD_INVALID], make: make::whole },
+    Function { name: "edition", answers: MESSAGE_ANSWERS, make: make::edition::edition },
 ];
+
+/// What reading a message and writing it again can answer.
+const MESSAGE_ANSWERS: &[u8] = &[
+    DONE,
+    SHORT_MESSAGE,
+    OTHER_VERSION,
+    LENGTH_DIFFERS,
+    MESSAGE_NOT_ACCEPTED,
+    BODY_LENGTH_WRONG,
+    OUTPUT_TOO_SHORT,
+    RECORD_TOO_LONG,
+    UNSOUND_TABLE,
+];
+
+/// The number of the function that reads messages of editions. A run has as many inputs of it as of all before it.
+pub const EDITION: usize = FUNCTIONS.len() - 1;
 
 /// The number of a function, by its name.
 pub fn function_number(name: &str) -> Option<usize> {
@@ -74,6 +83,7 @@ pub enum Input {
     Step { table: Vec<u8>, id: u16, record: Vec<u8>, cursor: Cursor },
     Append { kind: u16, sort: u8, number: u64, octets: Vec<u8>, out: Vec<u8>, at: usize },
     Whole(Whole),
+    Edition(Edition),
 }
 
 /// What a call gives back: one or more numbers, and the output's octets after it.
@@ -116,6 +126,7 @@ impl Input {
                 Outcome::of_output(out, |out| number_of(append::append(*kind, value, octets, out, *at)))
             }
             Input::Whole(whole) => whole.outcome(Input::of_model),
+            Input::Edition(edition) => edition.of_model(),
         }
     }
 
@@ -142,6 +153,7 @@ impl Input {
                 Outcome::of_output(out, |out| library::append(*kind, *sort, *number, octets, out, *at))
             }
             Input::Whole(whole) => whole.outcome(Input::of_library),
+            Input::Edition(edition) => edition.of_library(),
         }
     }
 
@@ -174,6 +186,7 @@ impl Input {
                 hex(out)
             ),
             Input::Whole(whole) => whole.describe(),
+            Input::Edition(edition) => edition.describe(),
         }
     }
 }

@@ -1,9 +1,9 @@
 //! Tests of the exporter from outside: an independent model of it, seeded tapes and inputs, and what compares the
 //! two.
 //!
-//! The model (`model`) rests on 01 and on docs/DECISIONS.md, and shares no code with the crates. `generate` makes tapes
-//! and `inputs` makes arguments for the library's functions; `program` and `library` run what is tested. `tape` and
-//! `text` are the two forms of a tape.
+//! The model (`model`) rests on 01, 02, source document 002 and docs/DECISIONS.md, and shares no code with the
+//! crates. `generate` makes tapes and `inputs` makes arguments for the libraries' functions; `program` and `library`
+//! run what is tested. `tape` and `text` are the two forms of a tape.
 
 pub mod coverage;
 pub mod difference;

@@ -1,7 +1,7 @@
-//! The static library `exports`, called through safe functions.
+//! The static libraries `exports` and `edition_exports`, called through safe functions.
 //!
-//! It is linked if it was there when this package was built (see `build.rs`); `is_linked` tells. Without it the
-//! functions here must not be called.
+//! They are linked if both were there when this package was built (see `build.rs`); `is_linked` tells. Without them
+//! the functions here must not be called.
 
 /// The answer of a step at the end of a record.
 pub const END: u8 = 255;
@@ -14,8 +14,8 @@ pub const OCTETS: u8 = 0;
 pub const NUMBER: u8 = 1;
 pub const NEGATIVE: u8 = 2;
 
-/// The functions as the library declares them.
-#[cfg(library)]
+/// The functions as the libraries declare them.
+#[cfg(libraries)]
 mod linked {
     extern "C" {
         pub fn crane_table_answer(table: *const u8, table_length: usize) -> u8;
@@ -68,13 +68,21 @@ mod linked {
             out_length: usize,
             at: usize,
         ) -> u64;
+        pub fn edition_read_again(
+            version: u8,
+            message: *const u8,
+            message_length: usize,
+            out: *mut u8,
+            out_length: usize,
+            part: u8,
+        ) -> u64;
     }
 }
 
-/// Stand-ins with the same names, so that everything builds without the library.
-#[cfg(not(library))]
+/// Stand-ins with the same names, so that everything builds without the libraries.
+#[cfg(not(libraries))]
 mod linked {
-    const ABSENT: &str = "the static library was not linked";
+    const ABSENT: &str = "the static libraries were not linked";
 
     pub unsafe fn crane_table_answer(_: *const u8, _: usize) -> u8 {
         panic!("{ABSENT}")
@@ -118,11 +126,15 @@ mod linked {
     pub unsafe fn crane_append(_: u16, _: u8, _: u64, _: *const u8, _: usize, _: *mut u8, _: usize, _: usize) -> u64 {
         panic!("{ABSENT}")
     }
+
+    pub unsafe fn edition_read_again(_: u8, _: *const u8, _: usize, _: *mut u8, _: usize, _: u8) -> u64 {
+        panic!("{ABSENT}")
+    }
 }
 
-/// The library was there when this package was built.
+/// The libraries were there when this package was built.
 pub fn is_linked() -> bool {
-    cfg!(library)
+    cfg!(libraries)
 }
 
 /// 0 for a sound table, else 21.
@@ -164,4 +176,10 @@ pub fn step_part(table: &[u8], id: u16, record: &[u8], index: usize, at: usize, 
 /// Appends a field; the place after it plus 256, or the refusal.
 pub fn append(kind: u16, sort: u8, number: u64, octets: &[u8], out: &mut [u8], at: usize) -> u64 {
     unsafe { linked::crane_append(kind, sort, number, octets.as_ptr(), octets.len(), out.as_mut_ptr(), out.len(), at) }
+}
+
+/// Reads a message of an edition alone (version 1: CRANE, any other: IPDR/SP) and writes what it says to the output;
+/// one part of what was read and written.
+pub fn edition_read_again(version: u8, message: &[u8], out: &mut [u8], part: u8) -> u64 {
+    unsafe { linked::edition_read_again(version, message.as_ptr(), message.len(), out.as_mut_ptr(), out.len(), part) }
 }

@@ -1,9 +1,9 @@
-//! Compares the replay program and the static library with the model, on seeded tapes and inputs.
+//! Compares the replay program and the static libraries with the model, on seeded tapes and inputs.
 
 use outside::coverage::Coverage;
 use outside::difference::first_difference;
 use outside::generate::{self, DEFAULT_TAPES, PROFILES, SEEDS_APART};
-use outside::inputs::{self, FUNCTIONS};
+use outside::inputs::{self, EDITION, FUNCTIONS};
 use outside::model::replay::replay;
 use outside::program::Program;
 use outside::{examples, library, tape, text};
@@ -17,8 +17,8 @@ use std::time::{Duration, Instant};
 const USAGE: &str = "usage: compare --program PATH [options]
   --program PATH        the replay program: a tape on standard input, lines on standard output
   --tapes N             how many tapes (2000)
-  --inputs N            how many inputs for the static library's functions (100000)
-  --many N              N times as many of both
+  --inputs N            how many inputs for the static library's functions, and how many messages of editions (100000)
+  --many N              N times as many of all
   --seed S              the first seed (1); each seed gives other tapes and inputs
   --profile NAME        tapes of this profile only
   --examples DIR        check the example sessions of a directory too
@@ -139,7 +139,7 @@ fn run(options: &Options) -> Result<bool, String> {
     }
     if options.inputs > 0 && !library::is_linked() {
         let advice = "build it and build this again, or say --inputs 0";
-        return Err(format!("the static library was not there when this was built: {advice}"));
+        return Err(format!("a static library was not there when this was built: {advice}"));
     }
     if let Some(directory) = &options.examples {
         comparison.examples(directory)?;
@@ -153,8 +153,11 @@ fn run(options: &Options) -> Result<bool, String> {
         comparison.tape(profile, first_seed.wrapping_add(round));
     });
     comparison.many("inputs", options.inputs * options.many, |index| {
-        let (function, round) = (index as usize % FUNCTIONS.len(), index / FUNCTIONS.len() as u64);
+        let (function, round) = (index as usize % EDITION, index / EDITION as u64);
         comparison.input(function, first_seed.wrapping_add(round));
+    });
+    comparison.many("messages of editions", options.inputs * options.many, |index| {
+        comparison.input(EDITION, first_seed.wrapping_add(index));
     });
     Ok(comparison.finish(options.is_whole()))
 }
@@ -322,8 +325,11 @@ impl Comparison {
         print!("{}", coverage.report());
         let unseen = whole && !coverage.warnings().is_empty();
         let ending = if unseen { ", not every answer seen" } else { "" };
-        let (tapes, inputs, mismatches) = (coverage.tapes(), coverage.inputs(), self.count());
-        println!("outside: {tapes} tapes, {inputs} inputs, {mismatches} mismatches{ending}");
+        let (tapes, inputs, editions) = (coverage.tapes(), coverage.inputs(), coverage.editions());
+        let mismatches = self.count();
+        println!(
+            "outside: {tapes} tapes, {inputs} inputs, {editions} messages of editions, {mismatches} mismatches{ending}"
+        );
         mismatches == 0 && !unseen
     }
 }
@@ -340,7 +346,7 @@ fn one_input(function: usize, seed: u64) -> Result<bool, String> {
     let expected = input.of_model();
     println!("the model:   {}", expected.describe());
     if !library::is_linked() {
-        return Err("the static library was not there when this was built".to_string());
+        return Err("a static library was not there when this was built".to_string());
     }
     let outcome = input.of_library();
     println!("the library: {}", outcome.describe());

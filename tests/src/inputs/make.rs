@@ -1,5 +1,7 @@
 //! The arguments of each function, made up: each starts from a valid one, and most have one thing damaged.
 
+pub mod edition;
+
 use super::whole::{Piece, Whole};
 use super::Input;
 use crate::generate::{records, tables};
@@ -120,6 +122,13 @@ fn sound_message(random: &mut Random) -> MessageParts {
 }
 
 pub fn message(random: &mut Random) -> Input {
+    let message = message_octets(random);
+    let out = output_near(random, message.len());
+    Input::Message { message, out }
+}
+
+/// A CRANE message, sound or damaged.
+fn message_octets(random: &mut Random) -> Vec<u8> {
     let mut parts = sound_message(random);
     let length = parts.octets().len() as u32;
     let mut cut = usize::MAX;
@@ -144,8 +153,7 @@ pub fn message(random: &mut Random) -> Input {
         let count = random.below(40);
         message = random.octets(count);
     }
-    let out = output_near(random, message.len());
-    Input::Message { message, out }
+    message
 }
 
 fn flipped_if_any(random: &mut Random, octets: Vec<u8>) -> Vec<u8> {
