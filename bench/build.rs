@@ -1,4 +1,5 @@
-// Links the static libraries that `rt staticlib` writes of the crates exports and sessions; LIBRARIES_DIR names another folder that has them.
+// Links the static libraries that `rt staticlib` writes of the crates exports, sessions and edition_exports; LIBRARIES_DIR names another
+// folder that has them.
 use std::path::PathBuf;
 
 fn main() {
@@ -10,7 +11,7 @@ fn main() {
         }
     };
     println!("cargo:rustc-link-search=native={}", folder.display());
-    for library in ["exports", "sessions"] {
+    for library in ["exports", "sessions", "edition_exports"] {
         println!(
             "cargo:rerun-if-changed={}",
             folder.join(format!("lib{library}.a")).display()

@@ -267,7 +267,7 @@ impl State {
         if v >= self.settings.servers {
             return Err(NO_SUCH_SERVER);
         }
-        let (session, number) = message::read_header(m)?;
+        let (session, number) = message::read_header(message::VERSION, m)?;
         if session != self.settings.session {
             return Err(OTHER_SESSION);
         }

@@ -1,8 +1,8 @@
 //! Tables, records, messages and events to measure with.
 
-use crate::message;
 use crate::session::{self, Given, CONFIG, SESSION};
 use crate::table::{BLOB, BOOLEAN, STRING, TERMINATED};
+use crate::{ipdr, message};
 
 /// A key: its ID, its type, and whether it is enabled.
 #[derive(Clone, Copy)]
@@ -214,6 +214,49 @@ pub fn data_ack(dsn: u32) -> Vec<u8> {
     m.extend(dsn.to_be_bytes());
     m.extend([CONFIG, 0, 0, 0]);
     m
+}
+
+// ---- IPDR/SP messages
+
+/// An IPDR/SP message with fields in which every octet is another.
+fn ipdr_message(number: u8, fields: usize) -> Vec<u8> {
+    let mut m = vec![ipdr::VERSION, number, SESSION, 0];
+    m.extend((8 + fields as u32).to_be_bytes());
+    m.extend((0..fields).map(|i| (i * 7 + 1) as u8));
+    m
+}
+
+/// The same with a text or a record of n octets behind its length.
+fn ipdr_counted(number: u8, fields: usize, n: usize) -> Vec<u8> {
+    let mut m = ipdr_message(number, fields);
+    m.extend((n as u32).to_be_bytes());
+    m.extend((0..n).map(|i| (i * 5 + 3) as u8));
+    let len = m.len() as u32;
+    m[4..8].copy_from_slice(&len.to_be_bytes());
+    m
+}
+
+/// An IPDR/SP DATA with a record of n octets.
+pub fn ipdr_data(n: usize) -> Vec<u8> {
+    ipdr_counted(ipdr::DATA, 13, n)
+}
+
+/// The other nine, by their names, with texts of n octets.
+pub fn ipdr_messages(n: usize) -> [(&'static str, Vec<u8>); 9] {
+    [
+        ("CONNECT", ipdr_counted(ipdr::CONNECT, 14, n)),
+        (
+            "CONNECT RESPONSE",
+            ipdr_counted(ipdr::CONNECT_RESPONSE, 8, n),
+        ),
+        ("DISCONNECT", ipdr_message(ipdr::DISCONNECT, 0)),
+        ("ERROR", ipdr_counted(ipdr::ERROR, 6, n)),
+        ("FLOW START", ipdr_message(ipdr::FLOW_START, 0)),
+        ("FLOW STOP", ipdr_counted(ipdr::FLOW_STOP, 2, n)),
+        ("SESSION START", ipdr_message(ipdr::SESSION_START, 45)),
+        ("SESSION STOP", ipdr_counted(ipdr::SESSION_STOP, 2, n)),
+        ("DATA ACKNOWLEDGE", ipdr_message(ipdr::DATA_ACKNOWLEDGE, 10)),
+    ]
 }
 
 // ---- events

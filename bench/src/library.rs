@@ -18,6 +18,14 @@ extern "C" {
         out_len: usize,
         part: u8,
     ) -> u64;
+    fn edition_read_again(
+        version: u8,
+        message: *const u8,
+        message_len: usize,
+        out: *mut u8,
+        out_len: usize,
+        part: u8,
+    ) -> u64;
     #[allow(clippy::too_many_arguments)]
     fn crane_session(
         servers: u8,
@@ -49,6 +57,12 @@ pub fn record_answer(t: &[u8], id: u16, record: &[u8]) -> u8 {
 /// Its length plus 256, or the refusal: part 0 of what is read and written.
 pub fn read_again(m: &[u8], out: &mut [u8]) -> u64 {
     unsafe { crane_read_again(m.as_ptr(), m.len(), out.as_mut_ptr(), out.len(), 0) }
+}
+
+/// The same of a message of the edition that a version names.
+pub fn read_again_in(version: u8, m: &[u8], out: &mut [u8]) -> u64 {
+    let (octets, room) = (out.as_mut_ptr(), out.len());
+    unsafe { edition_read_again(version, m.as_ptr(), m.len(), octets, room, 0) }
 }
 
 pub fn session(

@@ -1,4 +1,4 @@
-//! The speed of the proved code, called through two static libraries, against an exporter in Rust that makes the same checks.
+//! The speed of the proved code, called through three static libraries, against an exporter in Rust that makes the same checks.
 //!
 //! `bench` compares both sides and prints nanoseconds a call and their ratio; `bench WORD` measures only the groups whose title has the
 //! word; `bench count` makes each run once, to be counted by callgrind (see bench/count); `bench report FILE` prints the lines from the
@@ -6,8 +6,10 @@
 //! sampled by a profiler; `bench replay-program` is the Rust side's replay program.
 
 mod answer;
+mod edition;
 mod exporter;
 mod inputs;
+mod ipdr;
 mod library;
 mod measures;
 mod message;

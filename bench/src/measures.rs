@@ -2,7 +2,7 @@
 
 use crate::inputs::{self, Events, Valid, OUTPUT_OCTETS};
 use crate::session::session;
-use crate::{library, message, replay, table};
+use crate::{edition, ipdr, library, message, replay, table};
 use std::hint::black_box;
 use std::io::Write;
 use std::process::{Command, Stdio};
@@ -111,6 +111,23 @@ impl Group {
             },
             move || {
                 black_box(message::read_again(black_box(&m2), &mut out2));
+            },
+        );
+    }
+
+    /// An IPDR/SP message that is read and written again, into an output of `room` octets.
+    fn ipdr_message(&mut self, name: &str, m: &[u8], room: usize, calls: usize) {
+        let (m1, m2) = (m.to_vec(), m.to_vec());
+        let (mut out1, mut out2) = (vec![0u8; room], vec![0u8; room]);
+        let version = || black_box(ipdr::VERSION);
+        self.calls(
+            name,
+            calls,
+            move || {
+                black_box(library::read_again_in(version(), black_box(&m1), &mut out1));
+            },
+            move || {
+                black_box(edition::read_again(version(), black_box(&m2), &mut out2));
             },
         );
     }
@@ -254,6 +271,18 @@ fn messages() -> Group {
     g
 }
 
+fn ipdr_messages() -> Group {
+    let mut g = Group::new("IPDR/SP messages, texts of 16 octets", 150);
+    let data = [16, 128, 1024].map(|n| (format!("DATA, record of {n}"), inputs::ipdr_data(n)));
+    let others = inputs::ipdr_messages(16).map(|(name, m)| (name.to_string(), m));
+    for (name, m) in others.into_iter().chain(data) {
+        g.ipdr_message(&format!("{name}: read, no room to write"), &m, 0, 1000);
+        let written = format!("{name}: read and written again");
+        g.ipdr_message(&written, &m, OUTPUT_OCTETS, 1000);
+    }
+    g
+}
+
 /// Runs a program on the tape, from its start to its end, and gives what it wrote.
 fn run_program(program: &mut Command, tape: &[u8]) -> Vec<u8> {
     let mut child = program
@@ -297,6 +326,6 @@ pub fn groups() -> Vec<Group> {
         let title = format!("exporter, largest table, records of {n} octets");
         all.push(sessions(&title, &Valid::large(n), 60, false));
     }
-    all.extend([tables(), records(), messages()]);
+    all.extend([tables(), records(), messages(), ipdr_messages()]);
     all
 }

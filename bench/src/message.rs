@@ -1,4 +1,4 @@
-//! Messages, read and written alone.
+//! CRANE's messages, read and written alone.
 
 use crate::answer::*;
 use crate::table::{is_sound, u16_at, u32_at};
@@ -13,6 +13,11 @@ pub const START_NEGOTIATE: u8 = 0x18;
 pub const START_NEGOTIATE_ACK: u8 = 0x19;
 pub const DATA: u8 = 0x20;
 pub const DATA_ACK: u8 = 0x21;
+
+pub const VERSION: u8 = 1;
+
+/// The most octets of a record, or of a text, that is written.
+pub const RECORD_OCTETS: usize = 1024;
 
 #[derive(Clone, Copy)]
 pub struct DataHead {
@@ -38,12 +43,12 @@ pub enum Message<'a> {
     DataAck(u8, u32, u8),
 }
 
-/// The header's session and number, or 3, 4 or 5.
-pub fn read_header(m: &[u8]) -> Result<(u8, u8), u8> {
+/// The session and the number in the header of an edition's message, or 3, 4 or 5.
+pub fn read_header(version: u8, m: &[u8]) -> Result<(u8, u8), u8> {
     if m.len() < 8 {
         return Err(SHORT_MESSAGE);
     }
-    if m[0] != 1 {
+    if m[0] != version {
         return Err(OTHER_VERSION);
     }
     if u32_at(m, 4) as usize != m.len() {
@@ -104,7 +109,7 @@ fn read_data_ack(session: u8, body: &[u8]) -> Result<Message<'_>, u8> {
 
 /// Reads a message alone: 3, 4, 5, 7, 8, 21.
 pub fn read(m: &[u8]) -> Result<Message<'_>, u8> {
-    let (session, number) = read_header(m)?;
+    let (session, number) = read_header(VERSION, m)?;
     let body = &m[8..];
     match number {
         START => read_bare(body, Message::Start(session)),
@@ -123,7 +128,7 @@ pub fn read(m: &[u8]) -> Result<Message<'_>, u8> {
 
 fn header(number: u8, session: u8, len: usize) -> [u8; 8] {
     let n = (len as u32).to_be_bytes();
-    [1, number, session, 0, n[0], n[1], n[2], n[3]]
+    [VERSION, number, session, 0, n[0], n[1], n[2], n[3]]
 }
 
 /// Writes a message with up to 8 octets of body in front of a part.
@@ -181,7 +186,7 @@ pub fn write(m: &Message, out: &mut [u8]) -> Result<usize, u8> {
         Message::StartNegotiate(s) => place(START_NEGOTIATE, s, &[], &[], out),
         Message::StartNegotiateAck(s) => place(START_NEGOTIATE_ACK, s, &[], &[], out),
         Message::Data(ref h, record) => {
-            if record.len() > 1024 {
+            if record.len() > RECORD_OCTETS {
                 return Err(RECORD_TOO_LONG);
             }
             place(DATA, h.session, &data_front(h), record, out)

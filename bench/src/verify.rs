@@ -2,7 +2,7 @@
 
 use crate::inputs::{self, Events, Valid, OUTPUT_OCTETS};
 use crate::session::{session, Given, EVENT_OCTETS};
-use crate::{library, message, table};
+use crate::{edition, ipdr, library, message, table};
 
 /// A small random number generator with a fixed seed.
 struct Random(u64);
@@ -60,6 +60,17 @@ fn compare_message(m: &[u8], room: usize) {
     let a = library::read_again(m, &mut out[0]);
     let b = message::read_again(m, &mut out[1]);
     assert_eq!((a, &out[0]), (b, &out[1]), "message {m:x?}");
+}
+
+/// A message as either edition's.
+fn compare_editions(m: &[u8], room: usize) {
+    for version in [message::VERSION, ipdr::VERSION] {
+        let mut out = [vec![0xaa; room], vec![0xaa; room]];
+        let a = library::read_again_in(version, m, &mut out[0]);
+        let b = edition::read_again(version, m, &mut out[1]);
+        let same = (a, &out[0]) == (b, &out[1]);
+        assert!(same, "version {version} message {m:x?}: {a} {b}");
+    }
 }
 
 /// The lengths of a session's store and of its output.
@@ -132,6 +143,7 @@ pub fn all() -> usize {
     tables(&mut random)
         + records(&mut random)
         + messages(&mut random)
+        + editions(&mut random)
         + measured_sessions()
         + large_stores()
         + drawn_sessions(&mut random)
@@ -182,26 +194,41 @@ fn messages(random: &mut Random) -> usize {
         inputs::tmpl_data(&inputs::large_table(true)),
     ];
     for m in &messages {
-        compare_numbers(m);
-        compare_copies(m, random);
+        compare_numbers(m, compare_message);
+        compare_copies(m, random, compare_message);
+        compare_numbers(m, compare_editions);
+    }
+    messages.len() * COPIES
+}
+
+/// IPDR/SP's messages with texts and records of several lengths.
+fn editions(random: &mut Random) -> usize {
+    let mut messages = Vec::new();
+    for n in [0, 16, 1024, 1025] {
+        messages.push(inputs::ipdr_data(n));
+        messages.extend(inputs::ipdr_messages(n).map(|(_, m)| m));
+    }
+    for m in &messages {
+        compare_numbers(m, compare_editions);
+        compare_copies(m, random, compare_editions);
     }
     messages.len() * COPIES
 }
 
 /// A message with each message number.
-fn compare_numbers(m: &[u8]) {
+fn compare_numbers(m: &[u8], compare: fn(&[u8], usize)) {
     let mut other = m.to_vec();
     for number in 0..=255 {
         other[1] = number;
-        compare_message(&other, OUTPUT_OCTETS);
+        compare(&other, OUTPUT_OCTETS);
     }
 }
 
 /// Damaged copies of a message, each with an output of another length.
-fn compare_copies(m: &[u8], random: &mut Random) {
+fn compare_copies(m: &[u8], random: &mut Random, compare: fn(&[u8], usize)) {
     for _ in 0..COPIES {
         let room = random.below(2 * m.len());
-        compare_message(&damaged(m, random), room);
+        compare(&damaged(m, random), room);
     }
 }
 
