@@ -24,7 +24,6 @@ extern "C" {
         message_len: usize,
         out: *mut u8,
         out_len: usize,
-        part: u8,
     ) -> u64;
     #[allow(clippy::too_many_arguments)]
     fn crane_session(
@@ -61,8 +60,7 @@ pub fn read_again(m: &[u8], out: &mut [u8]) -> u64 {
 
 /// The same of a message of the edition that a version names.
 pub fn read_again_in(version: u8, m: &[u8], out: &mut [u8]) -> u64 {
-    let (octets, room) = (out.as_mut_ptr(), out.len());
-    unsafe { edition_read_again(version, m.as_ptr(), m.len(), octets, room, 0) }
+    unsafe { edition_read_again(version, m.as_ptr(), m.len(), out.as_mut_ptr(), out.len()) }
 }
 
 pub fn session(

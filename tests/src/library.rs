@@ -1,6 +1,6 @@
-//! The static libraries `exports` and `edition_exports`, called through safe functions.
+//! The static libraries `exports`, `edition_exports` and `ipdr_exports`, called through safe functions.
 //!
-//! They are linked if both were there when this package was built (see `build.rs`); `is_linked` tells. Without them
+//! They are linked if all were there when this package was built (see `build.rs`); `is_linked` tells. Without them
 //! the functions here must not be called.
 
 /// The answer of a step at the end of a record.
@@ -74,8 +74,8 @@ mod linked {
             message_length: usize,
             out: *mut u8,
             out_length: usize,
-            part: u8,
         ) -> u64;
+        pub fn ipdr_read_part(message: *const u8, message_length: usize, part: u8) -> u64;
     }
 }
 
@@ -127,7 +127,11 @@ mod linked {
         panic!("{ABSENT}")
     }
 
-    pub unsafe fn edition_read_again(_: u8, _: *const u8, _: usize, _: *mut u8, _: usize, _: u8) -> u64 {
+    pub unsafe fn edition_read_again(_: u8, _: *const u8, _: usize, _: *mut u8, _: usize) -> u64 {
+        panic!("{ABSENT}")
+    }
+
+    pub unsafe fn ipdr_read_part(_: *const u8, _: usize, _: u8) -> u64 {
         panic!("{ABSENT}")
     }
 }
@@ -179,7 +183,12 @@ pub fn append(kind: u16, sort: u8, number: u64, octets: &[u8], out: &mut [u8], a
 }
 
 /// Reads a message of an edition alone (version 1: CRANE, any other: IPDR/SP) and writes what it says to the output;
-/// one part of what was read and written.
-pub fn edition_read_again(version: u8, message: &[u8], out: &mut [u8], part: u8) -> u64 {
-    unsafe { linked::edition_read_again(version, message.as_ptr(), message.len(), out.as_mut_ptr(), out.len(), part) }
+/// how many octets were written plus 256, or the refusal.
+pub fn edition_read_again(version: u8, message: &[u8], out: &mut [u8]) -> u64 {
+    unsafe { linked::edition_read_again(version, message.as_ptr(), message.len(), out.as_mut_ptr(), out.len()) }
+}
+
+/// Reads an IPDR/SP message alone; one part of what was read.
+pub fn ipdr_read_part(message: &[u8], part: u8) -> u64 {
+    unsafe { linked::ipdr_read_part(message.as_ptr(), message.len(), part) }
 }

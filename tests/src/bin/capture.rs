@@ -74,7 +74,7 @@ fn message(random: &mut Random, layout: &Layout) -> (Vec<u8>, Vec<u8>) {
     loop {
         let octets = sound_ipdr_parts(random, layout).octets();
         let mut out = vec![0; OUTPUT_OCTETS];
-        let answer = library::edition_read_again(ipdr::VERSION, &octets, &mut out, 0);
+        let answer = library::edition_read_again(ipdr::VERSION, &octets, &mut out);
         if answer >= ACCEPTED {
             out.truncate((answer - ACCEPTED) as usize);
             let mut expected = vec![0; octets.len()];

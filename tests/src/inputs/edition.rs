@@ -1,7 +1,9 @@
-//! A message of an edition, CRANE or IPDR/SP: read alone and written again, by the version that names the edition.
+//! A message of an edition, CRANE or IPDR/SP: read alone and written again, by the version that names the edition. What
+//! is read as IPDR/SP's is also asked for part by part.
 
 use super::{again_parts, number_of, Outcome};
 use crate::library;
+use crate::model::answer::DONE;
 use crate::model::{ipdr, message};
 use crate::text::words::hex;
 
@@ -13,11 +15,8 @@ pub struct Edition {
     pub out: Vec<u8>,
 }
 
-/// The parts of an answer that are compared: no answer has more than thirteen, and those that it does not have are 0.
-const PARTS: [u8; 16] = [0, 1, 2, 3, 4, 5, 6, 7, 8, 9, 10, 11, 12, 13, 14, 255];
-
-/// The parts that a CRANE message has: what was written, place and length of its part, and its number.
-const CRANE_PARTS: usize = 4;
+/// The parts of an IPDR/SP message that are compared: none has more than twelve, and those that it does not have are 0.
+const PARTS: [u8; 15] = [0, 1, 2, 3, 4, 5, 6, 7, 8, 9, 10, 11, 12, 13, 255];
 
 impl Edition {
     /// The message is read as CRANE's.
@@ -28,27 +27,24 @@ impl Edition {
     /// What the model answers.
     pub fn of_model(&self) -> Outcome {
         let mut out = self.out.clone();
-        let mut parts;
         if self.is_crane() {
-            parts = again_parts(&self.message, &mut out);
-            parts.truncate(CRANE_PARTS);
-        } else {
-            parts = ipdr_parts(&self.message, &mut out);
+            let numbers = vec![again_parts(&self.message, &mut out)[0]];
+            return Outcome { numbers, out };
         }
-        let numbers = PARTS.iter().map(|part| parts.get(usize::from(*part)).copied().unwrap_or(0)).collect();
+        let parts = ipdr_parts(&self.message);
+        let part = |number: u8| parts.get(usize::from(number)).copied().unwrap_or(0);
+        let numbers = [ipdr_again(&self.message, &mut out)].into_iter().chain(PARTS.map(part)).collect();
         Outcome { numbers, out }
     }
 
-    /// What the library answers. Whichever part is asked for, the output must be the same; the first that is not the
-    /// first call's is given back.
+    /// What the libraries answer: one to reading and writing again, the other to the parts of what is IPDR/SP's.
     pub fn of_library(&self) -> Outcome {
-        let calls = PARTS.map(|part| {
-            let mut out = self.out.clone();
-            (library::edition_read_again(self.version, &self.message, &mut out, part), out)
-        });
-        let numbers = calls.iter().map(|(number, _)| *number).collect();
-        let (_, out) = calls.iter().find(|(_, out)| *out != calls[0].1).unwrap_or(&calls[0]);
-        Outcome { numbers, out: out.clone() }
+        let mut out = self.out.clone();
+        let mut numbers = vec![library::edition_read_again(self.version, &self.message, &mut out)];
+        if !self.is_crane() {
+            numbers.extend(PARTS.map(|part| library::ipdr_read_part(&self.message, part)));
+        }
+        Outcome { numbers, out }
     }
 
     /// The arguments in words and hex.
@@ -58,14 +54,18 @@ impl Edition {
     }
 }
 
-/// What reading an IPDR/SP message and writing it again answers: how many octets were written, place and length of its
-/// text or record, message number, session, and the fields in the layout's order.
-fn ipdr_parts(message: &[u8], out: &mut [u8]) -> Vec<u64> {
+/// What reading an IPDR/SP message and writing it again answers.
+fn ipdr_again(message: &[u8], out: &mut [u8]) -> u64 {
+    number_of(ipdr::read(message).and_then(|(said, part)| ipdr::write(&said, part, out)))
+}
+
+/// What reading an IPDR/SP message answers: the length of its text or record, session, message number, and the fields
+/// in the layout's order.
+fn ipdr_parts(message: &[u8]) -> Vec<u64> {
     match ipdr::read(message) {
         Ok((said, part)) => {
-            let at = part.as_ptr() as usize - message.as_ptr() as usize;
-            let mut parts = vec![number_of(ipdr::write(&said, part, out)), at as u64, part.len() as u64];
-            parts.extend([u64::from(said.layout.number), u64::from(said.session)]);
+            let mut parts = vec![u64::from(DONE), part.len() as u64];
+            parts.extend([u64::from(said.session), u64::from(said.layout.number)]);
             parts.extend(said.values);
             parts
         }
@@ -81,6 +81,14 @@ pub mod tests {
     use crate::model::answer::*;
     use crate::model::ipdr::{layout, Layout, DATA, LAYOUTS, SESSION_START};
     use std::collections::{BTreeMap, BTreeSet};
+
+    /// Where an outcome's numbers have the parts of an IPDR/SP message: the reading's answer, the length of the text or
+    /// record, the session, the message number, and the first field.
+    pub const READ: usize = 1;
+    pub const LENGTH: usize = 2;
+    pub const SESSION: usize = 3;
+    pub const NUMBER: usize = 4;
+    pub const FIELDS: usize = 5;
 
     /// The messages of editions of a default run.
     pub fn editions() -> impl Iterator<Item = Edition> {
@@ -131,7 +139,7 @@ pub mod tests {
     fn texts_of_all_lengths_are_met() {
         let mut seen: BTreeSet<(u8, u64, u8)> = BTreeSet::new();
         for (layout, edition, answer) in of_the_ten() {
-            seen.insert((layout.number, edition.of_model().numbers[2], answer));
+            seen.insert((layout.number, edition.of_model().numbers[LENGTH], answer));
         }
         for layout in LAYOUTS.iter().filter(|layout| layout.text.is_some()) {
             for length in [0, 1, 16, 1_023, 1_024] {

@@ -1,6 +1,7 @@
 //! A test that the messages of editions of a default run tell programs with one mistake from the right one.
 
-use super::edition::{tests::editions, Edition};
+use super::edition::tests::{editions, FIELDS, LENGTH, NUMBER, READ, SESSION};
+use super::edition::Edition;
 use super::Outcome;
 use crate::library::ACCEPTED;
 use crate::model::answer::{LENGTH_DIFFERS, MESSAGE_NOT_ACCEPTED, OTHER_VERSION, OUTPUT_TOO_SHORT, RECORD_TOO_LONG};
@@ -20,7 +21,7 @@ const fn mistake(name: &'static str, outcome: fn(&Edition) -> Outcome) -> Mistak
     Mistake { name, outcome }
 }
 
-const MISTAKES: [Mistake; 30] = [
+const MISTAKES: [Mistake; 32] = [
     mistake("configId and sequenceNum are exchanged in DATA ACKNOWLEDGE", exchanged_acknowledgement),
     mistake("the duplicate mark is bit 1", duplicate_in_bit_1),
     mistake("any flag is the duplicate mark", |edition| {
@@ -49,7 +50,9 @@ const MISTAKES: [Mistake; 30] = [
     mistake("the length field is judged before the version", length_before_version),
     mistake("the message number is judged before the length field", number_before_length),
     mistake("the text begins one octet early", text_early),
-    mistake("an empty text has place 0", empty_text_at_0),
+    mistake("an empty text is written without its length", empty_text_left_out),
+    mistake("a text that is too long is not read", long_text_not_read),
+    mistake("what is refused has its session read", session_of_refused),
     mistake("17 is judged after 12", long_after_short),
     mistake("a text of 1,024 octets is refused", |edition| refused_text(edition, 1_024)),
     mistake("a text of 1,025 octets is written", longer_text_written),
@@ -86,7 +89,13 @@ fn layout_of(edition: &Edition) -> Option<&'static Layout> {
 
 /// The input is a message of a number that is read as IPDR/SP's.
 fn is_read(edition: &Edition, number: u8) -> bool {
-    !edition.is_crane() && edition.of_model().numbers[3] == u64::from(number)
+    !edition.is_crane() && edition.of_model().numbers[NUMBER] == u64::from(number)
+}
+
+/// The reading refuses the message, so both answers are the refusal.
+fn refuse(outcome: &mut Outcome, refusal: u8) {
+    outcome.numbers[0] = u64::from(refusal);
+    outcome.numbers[READ] = u64::from(refusal);
 }
 
 /// Octets were written.
@@ -177,7 +186,7 @@ fn length_differs(message: &[u8]) -> bool {
 fn length_before_version(edition: &Edition) -> Outcome {
     let mut outcome = edition.of_model();
     if !edition.is_crane() && outcome.answer() == OTHER_VERSION && length_differs(&edition.message) {
-        outcome.numbers[0] = u64::from(LENGTH_DIFFERS);
+        refuse(&mut outcome, LENGTH_DIFFERS);
     }
     outcome
 }
@@ -185,7 +194,7 @@ fn length_before_version(edition: &Edition) -> Outcome {
 fn number_before_length(edition: &Edition) -> Outcome {
     let mut outcome = edition.of_model();
     if !edition.is_crane() && outcome.answer() == LENGTH_DIFFERS && layout(edition.message[1]).is_none() {
-        outcome.numbers[0] = u64::from(MESSAGE_NOT_ACCEPTED);
+        refuse(&mut outcome, MESSAGE_NOT_ACCEPTED);
     }
     outcome
 }
@@ -197,16 +206,38 @@ fn has_text(edition: &Edition) -> bool {
 
 fn text_early(edition: &Edition) -> Outcome {
     let mut outcome = edition.of_model();
-    if has_text(edition) {
-        outcome.numbers[1] -= 1;
+    if has_text(edition) && is_written(&outcome) {
+        let end = edition.message.len();
+        let begin = end - outcome.numbers[LENGTH] as usize;
+        outcome.out[begin..end].copy_from_slice(&edition.message[begin - 1..end - 1]);
     }
     outcome
 }
 
-fn empty_text_at_0(edition: &Edition) -> Outcome {
+fn empty_text_left_out(edition: &Edition) -> Outcome {
     let mut outcome = edition.of_model();
-    if outcome.numbers[2] == 0 {
-        outcome.numbers[1] = 0;
+    if has_text(edition) && is_written(&outcome) && outcome.numbers[LENGTH] == 0 {
+        let length = edition.message.len() - INNER_LENGTH_OCTETS;
+        outcome.numbers[0] = length as u64 + ACCEPTED;
+        outcome.out[4..8].copy_from_slice(&(length as u32).to_be_bytes());
+        outcome.out[length..].copy_from_slice(&edition.out[length..]);
+    }
+    outcome
+}
+
+fn long_text_not_read(edition: &Edition) -> Outcome {
+    let mut outcome = edition.of_model();
+    if has_text(edition) && outcome.answer() == RECORD_TOO_LONG {
+        outcome.numbers[READ..].fill(0);
+        refuse(&mut outcome, RECORD_TOO_LONG);
+    }
+    outcome
+}
+
+fn session_of_refused(edition: &Edition) -> Outcome {
+    let mut outcome = edition.of_model();
+    if !edition.is_crane() && outcome.numbers[READ] != 0 && edition.message.len() > 2 {
+        outcome.numbers[SESSION] = u64::from(edition.message[2]);
     }
     outcome
 }
@@ -222,7 +253,7 @@ fn long_after_short(edition: &Edition) -> Outcome {
 /// A text of that length is refused as too long.
 fn refused_text(edition: &Edition, length: u64) -> Outcome {
     let mut outcome = edition.of_model();
-    if has_text(edition) && outcome.numbers[2] == length {
+    if has_text(edition) && outcome.numbers[LENGTH] == length {
         outcome.numbers[0] = u64::from(RECORD_TOO_LONG);
         outcome.out.copy_from_slice(&edition.out);
     }
@@ -232,7 +263,7 @@ fn refused_text(edition: &Edition, length: u64) -> Outcome {
 fn longer_text_written(edition: &Edition) -> Outcome {
     let mut outcome = edition.of_model();
     let length = edition.message.len();
-    if has_text(edition) && outcome.numbers[2] == 1_025 && edition.out.len() >= length {
+    if has_text(edition) && outcome.numbers[LENGTH] == 1_025 && edition.out.len() >= length {
         outcome.numbers[0] = length as u64 + ACCEPTED;
         outcome.out[..length].copy_from_slice(&edition.message);
     }
@@ -250,7 +281,7 @@ fn signed_sequence_number(edition: &Edition) -> Outcome {
 fn exchanged_halves(edition: &Edition) -> Outcome {
     let mut outcome = edition.of_model();
     if is_read(edition, SESSION_START) {
-        outcome.numbers.swap(11, 12);
+        outcome.numbers.swap(FIELDS + 6, FIELDS + 7);
     }
     outcome
 }
