@@ -2,12 +2,15 @@
 """Compares the fields that Wireshark's reader finds in a capture with the list written beside it: tests/tshark_check.py DIRECTORY
 
 The directory is one that the program `capture` wrote to. Each field's offset, width and octets must be the same. Without tshark nothing is
-compared, and the exit status is 0."""
+compared, and the exit status is 77."""
 import os
 import shutil
 import subprocess
 import sys
 import xml.etree.ElementTree as xml
+
+# The exit status where there is no tshark.
+NOT_COMPARED = 77
 
 # The names that tshark has for the fields of 002.
 NAMES = {
@@ -78,7 +81,7 @@ def main():
         sys.exit(__doc__)
     if shutil.which("tshark") is None:
         print("tshark: not installed, nothing compared")
-        return
+        sys.exit(NOT_COMPARED)
     version = subprocess.run(["tshark", "--version"], stdout=subprocess.PIPE, stderr=subprocess.DEVNULL, text=True).stdout.split("\n")[0]
     expected = expected_fields(os.path.join(sys.argv[1], "ipdr.fields"))
     shown = shown_fields(os.path.join(sys.argv[1], "ipdr.pcap"))

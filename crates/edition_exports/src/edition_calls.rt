@@ -2,7 +2,7 @@
 // puts it in its caller's place.
 ghost use mathlib.Core.Path.{_≡_};
 ghost use Rattle.editions.specs.Editions.{readIn, partIn};
-ghost use Rattle.edition_exports.specs.Again.{editionFor, againNumber, againOut};
+ghost use Rattle.edition_exports.specs.Again.{editionFor, readAgainNumber, readAgainOut};
 use editions::edition::Edition;
 use editions::edition::Reading;
 use exports::message_calls::written_number;
@@ -22,9 +22,9 @@ fn edition_for(version: u8) -> Edition
 // output. Answers how many octets were written plus 256, or the reading's or else the writing's refusal.
 #[no_mangle]
 pub extern "C" fn edition_read_again(version: u8, message: &[u8], out: &mut [u8]) -> u64
-    ensures { λ n. ⌜ (n ≡ againNumber (partIn (editionFor version) (now (message .entry))) (now (out .entry))
+    ensures { λ n. ⌜ (n ≡ readAgainNumber (partIn (editionFor version) (now (message .entry))) (now (out .entry))
         (readIn (editionFor version) (now (message .entry))))
-        × (now (out .exit) ≡ againOut (partIn (editionFor version) (now (message .entry))) (now (out .entry))
+        × (now (out .exit) ≡ readAgainOut (partIn (editionFor version) (now (message .entry))) (now (out .entry))
         (readIn (editionFor version) (now (message .entry)))) ⌝ }
 {
     let edition = edition_for(version);

@@ -1,21 +1,22 @@
 -- Either edition: what can be written reads back in its own edition, in the other it is refused with 4, and what is claimed of both.
-use mathlib.Core.Path.{_≡_, refl, sym, ap, _∙_}
+use mathlib.Core.Path.{_≡_, refl, ap, _∙_}
 use mathlib.Core.Logic.{_≢_}
 use mathlib.Core.List.{List, _++_}
 use Prim.Native.Nat.{ℕ, _≤_}
-use native.Mathlib.Nat.{zero-add}
 use native.Mathlib.Omega.{arith}
 use borrow.Author.Tests.{le-ltb, ne-eqb}
 use lib.ListN.{length, take, drop}
-use lib.Seq.{sets, sets-eq}
 use Rattle.octets.specs.Answers.{done, otherVersion}
 use Rattle.octets.specs.Numbers.{Octets}
 use Rattle.octets.proofs.Judging.{kept}
-use Rattle.headers.specs.Headers.{headerOctets, versionOf, headerAnswerFor}
+use Rattle.octets.proofs.Stores.{sets-first}
+use Rattle.headers.specs.Headers.{headerOctets, versionOf, headerAnswerFor, headerReadingFor}
+use Rattle.headers.specs.declared.header.HeaderReading.the-variants as header
 use Rattle.messages.specs.Messages as crane
 use Rattle.messages.proofs.Messages as crane-laws
 use Rattle.messages.proofs.RoundTrip as crane-trip
 use Rattle.messages.specs.declared.message.Reading.the-variants as crane-read
+use Rattle.messages.specs.declared.message.Written.the-variants as written
 use Rattle.ipdr.specs.Messages as ipdr
 use Rattle.ipdr.specs.declared.message.Reading.the-variants as ipdr-read
 use Rattle.ipdr.proofs.Messages as ipdr-laws
@@ -26,8 +27,8 @@ use Rattle.editions.specs.declared.edition.Message.{Message}
 use Rattle.editions.specs.declared.edition.Message.the-variants as message
 use Rattle.editions.specs.declared.edition.Reading.the-variants as reading
 use Rattle.editions.specs.Editions.{versionFor, readAnswerIn, fromCrane, fromIpdr, readIn, readingAnswer, partIn, partAtIn, editionOf}
-use Rattle.editions.specs.Editions.{layoutIn, writeAnswerIn, writeOutIn}
-use Rattle.editions.specs.Demand2.{WritableIn, carriedIn, carriedAtIn, meaningIn, PlainIn, other, EditionsClaim}
+use Rattle.editions.specs.Editions.{layoutIn, writeAnswerIn, writeIn, writeOutIn}
+use Rattle.editions.specs.Demand2.{WritableIn, carriedIn, carriedAtIn, meaningIn, PlainIn, other, OtherVersion, EditionsClaim}
 
 -- ---- the answer number of an answer that is an enum
 
@@ -42,36 +43,48 @@ ipdr-number m = kept (λ r. readingAnswer (fromIpdr r)) _ ipdr-read.Refused refl
 -- ---- the other edition
 
 -- a header that names another version is refused with 4, whatever follows
-other-version : (version : ℕ) (m : List ℕ) → headerOctets ≤ length m → (versionOf m ≡ version → ⊥) → headerAnswerFor version m ≡ otherVersion
+other-version : (version : ℕ) (m : List ℕ) → headerOctets ≤ length m → (versionOf m ≡ version → ⊥)
+    → headerAnswerFor version m ≡ otherVersion
 unfolding headerAnswerFor
 other-version version m h v = rw (le-ltb (length m) 8 h, ne-eqb (versionOf m) version v)
 
-other-edition : (e : Edition) (m : List ℕ) → headerOctets ≤ length m → versionOf m ≡ versionFor (other e)
-    → readIn e m ≡ reading.Refused otherVersion
+header-other : (version : ℕ) (m : List ℕ) → headerAnswerFor version m ≡ otherVersion
+    → headerReadingFor version m ≡ header.Refused otherVersion
+unfolding headerReadingFor
+header-other version m a = rw a
+
+other-edition : (e : Edition) (m : List ℕ) → headerOctets ≤ length m → versionOf m ≡ versionFor (other e) → OtherVersion e m
 unfolding crane.readOf ipdr.readOf
 other-edition edition.Crane m h v =
-    let a = other-version 1 m h (λ z. omega arith) in
-    rw (crane-laws.header-refused m (λ z. omega arith), a)
+    let a = other-version (versionFor edition.Crane) m h (λ z. omega arith) in
+    let r = crane-laws.header-refused m (λ z. omega arith) in
+    let p = crane-laws.part-of-refused m (λ z. omega arith) in
+    record { message = rw (r, a); header = header-other _ m a; part = (p .1, p .0) }
 other-edition edition.Ipdr m h v =
-    let a = other-version 2 m h (λ z. omega arith) in
-    rw (ipdr-laws.header-refused m (λ z. omega arith), a)
+    let a = other-version (versionFor edition.Ipdr) m h (λ z. omega arith) in
+    let r = ipdr-laws.header-refused m (λ z. omega arith) in
+    let p = ipdr-laws.part-refused m (λ z. omega arith) in
+    record { message = rw (r, a); header = header-other _ m a; part = (p .1, p .0) }
 
 -- ---- what is written
 
-refused-out : (m : Message) (part out : List ℕ) → writeAnswerIn m part (length out) ≢ done → writeOutIn m part out ≡ out
-unfolding crane.writeOut ipdr.writeOutBy
-refused-out (message.Crane m) part out h = rw (ne-eqb (crane.writeAnswer m part (length out)) done h)
-refused-out (message.Ipdr m) part out h = rw (ne-eqb (ipdr.writeAnswer m part (length out)) done h)
-
-stored : (octets out : List ℕ) → length octets ≤ length out → sets out 0 octets ≡ octets ++ drop (length octets) out
-stored octets out h = sets-eq octets out 0 (omega arith) ∙ ap (λ (k : ℕ). octets ++ drop k out) (zero-add (length octets))
+refused-out : (m : Message) (part out : List ℕ) → writeAnswerIn m part (length out) ≢ done
+    → (writeIn m part out ≡ written.Refused (writeAnswerIn m part (length out))) × (writeOutIn m part out ≡ out)
+unfolding crane.writeOf crane.writeOut ipdr.writeBy ipdr.writeOutBy
+refused-out (message.Crane m) part out h = let e = ne-eqb (crane.writeAnswer m part (length out)) done h in (rw e, rw e)
+refused-out (message.Ipdr m) part out h = let e = ne-eqb (ipdr.writeAnswer m part (length out)) done h in (rw e, rw e)
 
 accepted-out : (m : Message) (part out : List ℕ) → writeAnswerIn m part (length out) ≡ done
-    → writeOutIn m part out ≡ layoutIn m part ++ drop (length (layoutIn m part)) out
+    → (length (layoutIn m part) ≤ length out)
+    × ((writeIn m part out ≡ written.Octets (length (layoutIn m part)))
+    × (writeOutIn m part out ≡ layoutIn m part ++ drop (length (layoutIn m part)) out))
+unfolding crane.writeOf ipdr.writeBy
 accepted-out (message.Crane m) part out h =
-    crane-trip.done-out m part out h ∙ stored (crane.layoutOf m part) out (crane-trip.done-fits m part out h)
+    let fits = crane-trip.done-fits m part out h in
+    (fits, (rw h, crane-trip.done-out m part out h ∙ sets-first out (crane.layoutOf m part) fits))
 accepted-out (message.Ipdr m) part out h =
-    ipdr-trip.done-out m part out h ∙ stored (ipdr.layoutOf m part) out (ipdr-trip.done-fits m part out h)
+    let fits = ipdr-trip.done-fits m part out h in
+    (fits, (rw h, ipdr-trip.done-out m part out h ∙ sets-first out (ipdr.layoutOf m part) fits))
 
 -- ---- both ways, in either edition
 

@@ -2,18 +2,17 @@
 -- taken apart again.
 use mathlib.Core.Path.{_≡_, refl, sym, ap, _∙_}
 use mathlib.Core.Bool.{not}
-use mathlib.Core.List.{List, _∷_, _++_}
-use Prim.Native.Nat.{ℕ, suc, _+_, _^_, _≤_, _<_}
-use native.Mathlib.Nat.{zero-add}
+use mathlib.Core.List.{List}
+use Prim.Native.Nat.{ℕ, _+_, _^_, _≤_, _<_}
 use native.Mathlib.Omega.{arith}
 use borrow.Author.Tests.{ltb-false, eqb-true, not-false, le-ltb, eq-eqb}
-use lib.ListN.{length, take, drop, length-drop, take-append-drop}
-use lib.Seq.{sets, sets-eq, drop-cons, drop-drop, take-at, drop-at}
+use lib.ListN.{length, drop, length-drop}
 use Rattle.octets.specs.Answers.{done}
 use Rattle.octets.specs.Numbers.{numberOf, uintAt, octetsOf, Octets}
-use Rattle.octets.proofs.Numbers.{uint-one, uint-append, read-back, write-back}
+use Rattle.octets.proofs.Numbers.{uint-one, uint-append, read-back, cut, cut-one}
 use Rattle.octets.proofs.Judging.{Passed, passed, kept}
-use Rattle.headers.specs.Headers.{headerOctets, versionOf, messageNumber, sessionOf, lengthField, headerFor, messageFor, headerChecksFor, headerAnswerFor, headerReadingFor, headerReadingAnswer}
+use Rattle.headers.specs.Headers.{headerOctets, versionOf, messageNumber, sessionOf, lengthField, headerFor, messageFor}
+use Rattle.headers.specs.Headers.{headerChecksFor, headerAnswerFor, headerReadingFor, headerReadingAnswer}
 use Rattle.headers.specs.declared.header.HeaderReading.the-variants as header
 
 -- ---- what a message says in front of its body
@@ -81,17 +80,6 @@ pub header-long : (version : ℕ) (m : List ℕ) → headerAnswerFor version m �
 unfolding headerAnswerFor
 header-long version m h = header-facts version m (passed (headerChecksFor version m) tt h) .long
 
--- one octet, then the rest
-pub cut-one : (m : List ℕ) (at : ℕ) → at < length m → drop at m ≡ uintAt m at 1 ∷ drop (suc at) m
-cut-one m at h = drop-cons m at 0 h ∙ ap (λ (x : ℕ). x ∷ drop (suc at) m) (sym (uint-one m at))
-
--- the octets of a number, then the rest
-pub cut : (m : List ℕ) → Octets m → (at w : ℕ) → at + w ≤ length m → drop at m ≡ octetsOf w (uintAt m at w) ++ drop (at + w) m
-cut m octet at w h =
-    sym (take-append-drop w (drop at m))
-    ∙ ap (λ (l : List ℕ). take w (drop at m) ++ l) (drop-drop w at m)
-    ∙ ap (λ (l : List ℕ). l ++ drop (at + w) m) (sym (write-back m octet at w h))
-
 -- the header, then the body
 pub taken-apart : (version : ℕ) (m : List ℕ) → Octets m → HeaderRight version m → uintAt m 3 1 ≡ 0
     → m ≡ messageFor version (messageNumber m) (sessionOf m) (drop headerOctets m)
@@ -105,15 +93,3 @@ taken-apart version m octet r z =
     let f = cut m octet 4 4 l in
     let v = r .right in
     cc
-
--- ---- what was written
-
--- octets that fit an output begin it, and behind them it is as it was
-pub output-begins : (octets out : List ℕ) → length octets ≤ length out
-    → (take (length octets) (sets out 0 octets) ≡ octets) × (drop (length octets) (sets out 0 octets) ≡ drop (length octets) out)
-output-begins octets out h =
-    let e : sets out 0 octets ≡ octets ++ drop (length octets) out =
-    sets-eq octets out 0 (omega arith) ∙ ap (λ (k : ℕ). octets ++ drop k out) (zero-add (length octets)) in (
-      ap (take (length octets)) e ∙ take-at octets (drop (length octets) out) (length octets) refl,
-      ap (drop (length octets)) e ∙ drop-at octets (drop (length octets) out) (length octets) refl,
-    )

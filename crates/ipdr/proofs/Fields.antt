@@ -12,9 +12,8 @@ use lib.ListN.{length, drop, length-append, length-drop}
 use lib.Seq.{sets, length-sets, drop-at}
 use Rattle.octets.specs.Numbers.{uintAt, octetsOf, putAt, Octets}
 use Rattle.octets.proofs.Stores.{put-fits, sets-append}
-use Rattle.octets.proofs.Numbers.{uint-append, uint-front, octets-length, read-back}
+use Rattle.octets.proofs.Numbers.{uint-append, uint-front, octets-length, read-back, cut}
 use Rattle.octets.proofs.Each.{and-left, and-right}
-use Rattle.headers.proofs.Headers.{cut}
 use Rattle.ipdr.specs.Fields.{widthsTotal, valuesAt, octetsByWidths, InWidths, lengthOctets, countedOctets, countedFits}
 
 -- ---- fields

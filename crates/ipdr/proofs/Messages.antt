@@ -1,10 +1,10 @@
 -- Laws of IPDR/SP's messages: what an answer of 0 says of a message, the part that it carries, and what writing answers.
 use mathlib.Core.Path.{_≡_, refl, sym, ap, _∙_}
-use mathlib.Core.Bool.{Bool, true, false, cond, not, _&&_}
-use mathlib.Core.List.{List, [], _∷_, _++_, append-nil, append-assoc}
+use mathlib.Core.Bool.{Bool, true, false, cond, not}
+use mathlib.Core.List.{List, [], _++_, append-nil, append-assoc}
 use Prim.Native.Nat.{ℕ, _+_, _≤_, _<_}
 use native.Mathlib.Omega.{arith}
-use borrow.Author.Tests.{ltb-false, not-false, le-ltb, lt-ltb, ne-eqb}
+use borrow.Author.Tests.{not-false, le-ltb, lt-ltb, ne-eqb}
 use lib.Dec.{eqb, ltb}
 use lib.ListN.{length, drop, length-append}
 use lib.Seq.{sets, length-sets}
@@ -23,8 +23,8 @@ use Rattle.ipdr.specs.Fields.{widthsTotal, lengthOctets, countedFits, oc
 use Rattle.ipdr.specs.Messages.{Form, forms, protocolVersion, isMessage, widthsOf, isCounted, fixedOctets, behindLength, contentBy}
 use Rattle.ipdr.specs.Messages.{flowStart, flowStop, connect, connectResponse, disconnect, sessionStart, sessionStop, dataNumber}
 use Rattle.ipdr.specs.Messages.{dataAcknowledge, errorNumber}
-use Rattle.ipdr.specs.Messages.{Numbers, bodyOf, layoutBy, bodyFits, bodyChecks, bodyAnswer, readAnswer, readBody, meaningOf, readOf, partAt, partOf}
-use Rattle.ipdr.specs.Messages.{maxPartOctets, writeAnswerBy, writeBy, writeOutBy, Wrote}
+use Rattle.ipdr.specs.Messages.{MessageNumbers, bodyOf, layoutBy, bodyFits, bodyChecks, bodyAnswer, readAnswer, readBody, meaningOf, readOf, partAt, partOf}
+use Rattle.ipdr.specs.Messages.{maxPartOctets, writeAnswerBy, writeBy, writeOutBy, WrittenBy}
 use Rattle.ipdr.proofs.Fields.{counted-fitting, counted-length, fields-length, putFields, fields-put, put-behind}
 
 -- ---- rows
@@ -201,7 +201,7 @@ tail-length : (b : Bool) (part : List ℕ) → length (cond b (countedOctets par
 tail-length true part = counted-length part
 tail-length false part = refl
 
-module _ (x : Numbers) (part : List ℕ) where
+module _ (x : MessageNumbers) (part : List ℕ) where
   abbrev n : ℕ
   n = x .number
 
@@ -239,13 +239,13 @@ module _ (x : Numbers) (part : List ℕ) where
   module _ (out : List ℕ) where
     -- a refusal is answered and changes nothing
     refused : (a : ℕ) → (a ≡ done → ⊥) → writeAnswerBy x part (length out) ≡ a
-        → Wrote x part out (written.Refused a) out
+        → WrittenBy x part out (written.Refused a) out
     unfolding writeBy writeOutBy
     refused a h e = record { answered = rw (e, ne-eqb a done h); left = rw (e, ne-eqb a done h) }
 
     -- where nothing is refused, the octets of the message are written
     wrote : (after : List ℕ) (k : ℕ) → writeAnswerBy x part (length out) ≡ done → length (layoutBy x part) ≡ k
-        → after ≡ sets out 0 (layoutBy x part) → Wrote x part out (written.Octets k) after
+        → after ≡ sets out 0 (layoutBy x part) → WrittenBy x part out (written.Octets k) after
     unfolding writeBy writeOutBy
     wrote after k h l e = record { answered = rw (h, l); left = rw h e }
 
@@ -298,12 +298,12 @@ module _ (x : Numbers) (part : List ℕ) where
         bare-size : size ≡ fixed
         bare-size = rw c (omega (arith, fixed-of))
 
-        pub bare-short : length out < fixed → Wrote x part out (written.Refused outputTooShort) out
+        pub bare-short : length out < fixed → WrittenBy x part out (written.Refused outputTooShort) out
         unfolding writeAnswerBy
         bare-short h = refused outputTooShort (λ z. omega arith) (rw (c, layout-length, lt-ltb (length out) size (omega (arith, bare-size))))
 
         pub bare-done : (l k : List ℕ) → fixed ≤ length out → l ≡ putAt out 0 (headerFor protocolVersion n (x .session) fixed)
-            → k ≡ putFields l headerOctets ws (x .values) → Wrote x part out (written.Octets fixed) k
+            → k ≡ putFields l headerOctets ws (x .values) → WrittenBy x part out (written.Octets fixed) k
         unfolding writeAnswerBy
         bare-done l k fits header put =
             let s = bare-size in
@@ -324,11 +324,11 @@ module _ (x : Numbers) (part : List ℕ) where
         unfolding writeAnswerBy
         counted-answer = rw (layout-length ∙ counted-size, c)
 
-        pub counted-long : maxPartOctets < length part → Wrote x part out (written.Refused recordTooLong) out
+        pub counted-long : maxPartOctets < length part → WrittenBy x part out (written.Refused recordTooLong) out
         counted-long h = refused recordTooLong (λ z. omega arith) (counted-answer ∙ rw (lt-ltb maxPartOctets (length part) h))
 
         module _ (short : length part ≤ maxPartOctets) where
-          pub counted-short : length out < whole → Wrote x part out (written.Refused outputTooShort) out
+          pub counted-short : length out < whole → WrittenBy x part out (written.Refused outputTooShort) out
           counted-short h =
               refused outputTooShort (λ z. omega arith)
               (counted-answer ∙ rw (le-ltb maxPartOctets (length part) short, lt-ltb (length out) whole h))
@@ -337,7 +337,7 @@ module _ (x : Numbers) (part : List ℕ) where
               → l ≡ putAt out 0 (headerFor protocolVersion n (x .session) whole)
               → k ≡ putFields l headerOctets ws (x .values)
               → after ≡ putAt (putAt k fixed (octetsOf lengthOctets (length part))) (fixed + lengthOctets) part
-              → Wrote x part out (written.Octets whole) after
+              → WrittenBy x part out (written.Octets whole) after
           counted-done l k after fits header put q =
               let s = counted-size in
               let d : writeAnswerBy x part (length out) ≡ done =

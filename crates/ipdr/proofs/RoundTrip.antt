@@ -1,6 +1,6 @@
 -- IPDR/SP: what is written reads back as what was meant, and what reads without refusal is the layout of what it says (02, ask 1).
 use mathlib.Core.Path.{_≡_, refl, sym, ap, _∙_}
-use mathlib.Core.Bool.{Bool, true, false, cond, not}
+use mathlib.Core.Bool.{Bool, true, false, cond}
 use mathlib.Core.List.{List, [], _++_, append-nil, append-assoc}
 use Prim.Native.Nat.{ℕ, zero, suc, _+_, _^_, _≤_, _<_}
 use native.Mathlib.Omega.{arith}
@@ -10,6 +10,7 @@ use lib.Seq.{sets}
 use lib.ListN.{length, take, drop, length-append, drop-of-length-le}
 use Rattle.octets.specs.Answers.{done}
 use Rattle.octets.specs.Numbers.{uintAt, octetsOf, Octets}
+use Rattle.octets.proofs.Stores.{output-begins}
 use Rattle.headers.specs.Headers.{headerOctets, messageNumber, sessionOf, headerFor, messageFor}
 use Rattle.headers.proofs.Headers as header
 use Rattle.octets.proofs.Rows.{EachRow, none, _and_, each-row}
@@ -20,7 +21,7 @@ use Rattle.ipdr.specs.declared.message.Reading.the-variants as reading
 use Rattle.ipdr.specs.Fields.{valuesAt, octetsByWidths, InWidths, countedOctets, countedFits}
 use Rattle.ipdr.specs.Messages.{Form, forms, protocolVersion, isMessage, widthsOf, isCounted, fixedOctets, behindLength, octetOf, isTrue}
 use Rattle.ipdr.specs.Messages.{isDuplicate, flowStart, flowStop, connect, connectResponse, disconnect, sessionStart, sessionStop, dataNumber}
-use Rattle.ipdr.specs.Messages.{dataAcknowledge, errorNumber, Numbers, numbersOf, numberFor, valuesFor, contentBy, bodyOf, layoutBy, layoutOf}
+use Rattle.ipdr.specs.Messages.{dataAcknowledge, errorNumber, numbersOf, numberFor, valuesFor, contentBy, bodyOf, layoutBy, layoutOf}
 use Rattle.ipdr.specs.Messages.{bodyFits, readAnswer, meaningOf, readOf, partAt, partOf, takesPart, maxPartOctets, carried, carriedAt}
 use Rattle.ipdr.specs.Messages.{Writable, Plain, readingAnswer, writeChecks, writeAnswerBy, writeBy, writeOutBy, writeAnswer, writeOf, writeOut}
 use Rattle.messages.specs.Messages.{writtenAnswer}
@@ -250,7 +251,7 @@ done-fits m part out h = ltb-false (length out) (length (layoutOf m part)) (pass
 pub written-out : (m : Message) (part out : List ℕ) → writeAnswer m part (length out) ≡ done
     → (take (length (layoutOf m part)) (writeOut m part out) ≡ layoutOf m part)
     × (drop (length (layoutOf m part)) (writeOut m part out) ≡ drop (length (layoutOf m part)) out)
-written-out m part out h = rw (done-out m part out h) (header.output-begins (layoutOf m part) out (done-fits m part out h))
+written-out m part out h = rw (done-out m part out h) (output-begins (layoutOf m part) out (done-fits m part out h))
 
 -- So what was written to an output with room reads back from there, and its part is handed back at its place.
 pub wrote-reads : (m : Message) (part out : List ℕ) → Writable m part → length (layoutOf m part) ≤ length out

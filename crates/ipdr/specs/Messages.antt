@@ -173,13 +173,13 @@ contentBy n vs = ofForm (λ f. f .says vs) content.FlowStart n
 -- ---- layouts (sections 3, 4 and 8)
 
 -- A message in numbers: its message number, its session and the values of its fields.
-pub record Numbers : Type 0 where
+pub record MessageNumbers : Type 0 where
   pub number : ℕ
   pub session : ℕ
   pub values : List ℕ
 
 -- A message in numbers, by its parts.
-abbrev pub numbers : ℕ → ℕ → List ℕ → Numbers
+abbrev pub numbers : ℕ → ℕ → List ℕ → MessageNumbers
 numbers number session values = record { number = number; session = session; values = values }
 
 -- The number of the message that says c.
@@ -223,7 +223,7 @@ valuesFor (content.DataAcknowledge config sequence) = config ∷ sequence ∷ []
 valuesFor (content.Error time code) = time ∷ code ∷ []
 
 -- The message that says m, in numbers.
-abbrev pub numbersOf : Message → Numbers
+abbrev pub numbersOf : Message → MessageNumbers
 numbersOf m = numbers (numberFor (m .content)) (m .session) (valuesFor (m .content))
 
 -- The fields, then the text or the record behind its length; `part` is not looked at where the message has none.
@@ -231,7 +231,7 @@ unfoldable pub bodyOf : ℕ → List ℕ → List ℕ → List ℕ
 bodyOf n vs part = octetsByWidths (widthsOf n) vs ++ cond (isCounted n) (countedOctets part) []
 
 -- The octets of a message with its text or record.
-unfoldable pub layoutBy : Numbers → List ℕ → List ℕ
+unfoldable pub layoutBy : MessageNumbers → List ℕ → List ℕ
 layoutBy x part = messageFor protocolVersion (x .number) (x .session) (bodyOf (x .number) (x .values) part)
 
 -- The octets of the message that says m, with its text or record.
@@ -298,39 +298,41 @@ abbrev pub maxPartOctets : ℕ
 maxPartOctets = 1024
 
 -- Writing a message, in numbers, into an output of `room` octets is judged 17, 12.
-abbrev pub writeChecks : Numbers → List ℕ → ℕ → List Check
+abbrev pub writeChecks : MessageNumbers → List ℕ → ℕ → List Check
 writeChecks x part room =
     (recordTooLong when (isCounted (x .number) && ltb maxPartOctets (length part)))
     ∷ (outputTooShort when ltb room (length (layoutBy x part)))
     ∷ []
 
 -- The answer number of writing it.
-unfoldable pub writeAnswerBy : Numbers → List ℕ → ℕ → ℕ
+unfoldable pub writeAnswerBy : MessageNumbers → List ℕ → ℕ → ℕ
 writeAnswerBy x part room = judge (writeChecks x part room)
 
 -- It answers the number of octets written, or the refusal.
-unfoldable pub writeBy : Numbers → List ℕ → List ℕ → Written
+unfoldable pub writeBy : MessageNumbers → List ℕ → List ℕ → Written
 writeBy x part out =
     cond (eqb (writeAnswerBy x part (length out)) done)
     (written.Octets (length (layoutBy x part)))
     (written.Refused (writeAnswerBy x part (length out)))
 
 -- The output afterwards: the message from its first octet on and no octet after it changed, or as it was.
-unfoldable pub writeOutBy : Numbers → List ℕ → List ℕ → List ℕ
+unfoldable pub writeOutBy : MessageNumbers → List ℕ → List ℕ → List ℕ
 writeOutBy x part out = cond (eqb (writeAnswerBy x part (length out)) done) (sets out 0 (layoutBy x part)) out
 
 -- What writing a message in numbers answers, and the output afterwards.
-pub record Wrote (x : Numbers) (part out : List ℕ) (answer : Written) (after : List ℕ) : Type 0 where
+pub record WrittenBy (x : MessageNumbers) (part out : List ℕ) (answer : Written) (after : List ℕ) : Type 0 where
   pub answered : answer ≡ writeBy x part out
   pub left : after ≡ writeOutBy x part out
 
--- The same three of the message that says m.
+-- The answer number of writing the message that says m.
 abbrev pub writeAnswer : Message → List ℕ → ℕ → ℕ
 writeAnswer m part room = writeAnswerBy (numbersOf m) part room
 
+-- What writing it answers.
 abbrev pub writeOf : Message → List ℕ → List ℕ → Written
 writeOf m part out = writeBy (numbersOf m) part out
 
+-- The output afterwards.
 abbrev pub writeOut : Message → List ℕ → List ℕ → List ℕ
 writeOut m part out = writeOutBy (numbersOf m) part out
 
@@ -357,6 +359,7 @@ pub record Writable (m : Message) (part : List ℕ) : Type 0 where
 -- The message's flags are 0, SESSION START's `primary` is 0 or 1, and of DATA's flags all but the duplicate mark are 0: so, where the
 -- message can be read, its octets are the layout of what it says.
 pub record Plain (m : List ℕ) : Type 0 where
+  -- octet 3: the message flags; octet 28 of a SESSION START: `primary`; octet 12 of a DATA: its flags
   pub flags : uintAt m 3 1 ≡ 0
   pub primary : messageNumber m ≡ sessionStart → uintAt m 28 1 < 2
   pub marks : messageNumber m ≡ dataNumber → uintAt m 12 1 < 2

@@ -31,9 +31,6 @@ pub const ERROR_FIXED: usize = 14;
 // The most octets that a text or a record has in a message that is written.
 pub const MAX_PART_OCTETS: usize = 1024;
 
-// The duplicate mark, the lowest of DATA's flags.
-pub const DUPLICATE_FLAG: u8 = 1;
-
 // What a CONNECT says in front of its text (4.1.1).
 pub struct Connect {
     pub initiator_id: u32,

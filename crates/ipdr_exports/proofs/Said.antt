@@ -5,7 +5,7 @@ use Prim.Native.Nat.{ℕ, zero, suc, _-_, _≤_}
 use native.Mathlib.Omega.{arith}
 use lib.ListN.{getD, replicate}
 use Rattle.ipdr.specs.declared.message.Content.{Content}
-use Rattle.ipdr_exports.specs.Said.{saidBy}
+use Rattle.ipdr_exports.specs.Said.{contentNumbers}
 
 zeros : (n i : ℕ) → getD (replicate {A = ℕ} n 0) i 0 ≡ 0
 zeros zero i = refl
@@ -19,10 +19,10 @@ padded (v ∷ vs) n zero = refl
 padded (v ∷ vs) n (suc i) = padded vs n i
 
 -- numbers that a message says, and zeros behind them
-pub said-padded : (c x : Content) (r : List ℕ) (n : ℕ) → c ≡ x → r ≡ saidBy x ++ replicate {A = ℕ} n 0
-    → (i : ℕ) → getD r i 0 ≡ getD (saidBy c) i 0
+pub said-padded : (c x : Content) (r : List ℕ) (n : ℕ) → c ≡ x → r ≡ contentNumbers x ++ replicate {A = ℕ} n 0
+    → (i : ℕ) → getD r i 0 ≡ getD (contentNumbers c) i 0
 said-padded c x r n e h i =
-    ap (λ (l : List ℕ). getD l i 0) h ∙ padded (saidBy x) n i ∙ ap (λ (k : Content). getD (saidBy k) i 0) (sym e)
+    ap (λ (l : List ℕ). getD l i 0) h ∙ padded (contentNumbers x) n i ∙ ap (λ (k : Content). getD (contentNumbers k) i 0) (sym e)
 
 -- behind three numbers
 pub behind-three : (a b c : ℕ) (vs : List ℕ) (i : ℕ) → 3 ≤ i → getD (a ∷ b ∷ c ∷ vs) i 0 ≡ getD vs (i - 3) 0

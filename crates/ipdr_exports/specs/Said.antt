@@ -9,12 +9,12 @@ use Rattle.ipdr.specs.declared.message.Reading.{Reading}
 use Rattle.ipdr.specs.declared.message.Reading.the-variants as reading
 
 -- A message's number and the values of its fields.
-abbrev pub saidBy : Content → List ℕ
-saidBy c = numberFor c ∷ valuesFor c
+abbrev pub contentNumbers : Content → List ℕ
+contentNumbers c = numberFor c ∷ valuesFor c
 
 -- The answer 0; the length of the part that the message carries, its session, its number and its fields. A refused reading is alone.
 abbrev pub readParts : List ℕ → Reading → List ℕ
-readParts part (reading.Message m) = done ∷ length part ∷ m .session ∷ saidBy (m .content)
+readParts part (reading.Message m) = done ∷ length part ∷ m .session ∷ contentNumbers (m .content)
 readParts part (reading.Refused a) = a ∷ []
 
 -- One of them by its number, 0 where there is none.

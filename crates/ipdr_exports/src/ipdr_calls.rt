@@ -1,12 +1,15 @@
 // What an IPDR/SP message says, one number at a time.
 ghost use mathlib.Core.Path.{_≡_};
 ghost use mathlib.Core.Bool.{cond};
-ghost use mathlib.Core.List.{[], _∷_};
+ghost use mathlib.Core.List.{[], _∷_, _++_};
 ghost use Prim.Native.Nat.{ℕ};
 ghost use lib.ListN.{getD};
 ghost use Rattle.ipdr.specs.Messages.{sessionStart, sessionStartValues, readOf, partOf};
-ghost use Rattle.ipdr_exports.specs.Said.{saidBy, readPart};
+ghost use Rattle.ipdr.specs.declared.message.Content.the-variants as content;
+ghost use Rattle.ipdr_exports.specs.Said.{contentNumbers, readPart};
+use ipdr::message::Connect;
 use ipdr::message::Content;
+use ipdr::message::DataHead;
 use ipdr::message::Message;
 use ipdr::message::Reading;
 use ipdr::message::SessionStart;
@@ -23,6 +26,39 @@ fn fields(number: u8, a: u64, b: u64, c: u64, d: u64) -> [u64; 9]
     ensures { λ r. ⌜ r ≡ number ∷ a ∷ b ∷ c ∷ d ∷ 0 ∷ 0 ∷ 0 ∷ 0 ∷ [] ⌝ }
 {
     [number as u64, a, b, c, d, 0, 0, 0, 0]
+}
+
+// A message's number and up to two fields.
+fn two_fields(number: u8, a: u64, b: u64) -> [u64; 9]
+    ensures { λ r. ⌜ r ≡ number ∷ a ∷ b ∷ 0 ∷ 0 ∷ 0 ∷ 0 ∷ 0 ∷ 0 ∷ [] ⌝ }
+{
+    fields(number, a, b, 0, 0)
+}
+
+// CONNECT's number and fields.
+fn connect_fields(connect: Connect) -> [u64; 9]
+    ensures { λ r. ⌜ r ≡ contentNumbers (content.Connect connect) ++ (0 ∷ 0 ∷ 0 ∷ 0 ∷ []) ⌝ }
+{
+    let id = connect.initiator_id as u64;
+    let port = connect.initiator_port as u64;
+    let capabilities = connect.capabilities as u64;
+    let interval = connect.keep_alive_interval as u64;
+    fields(Message::CONNECT, id, port, capabilities, interval)
+}
+
+// DATA's number and fields.
+fn data_fields(head: DataHead) -> [u64; 9]
+    ensures { λ r. ⌜ r ≡ contentNumbers (content.Data head) ++ (0 ∷ 0 ∷ 0 ∷ 0 ∷ []) ⌝ }
+{
+    let template = head.template_id as u64;
+    let config = head.config_id as u64;
+    fields(
+        Message::DATA,
+        template,
+        config,
+        bit(head.duplicate),
+        head.sequence_num,
+    )
 }
 
 // SESSION START's number and fields.
@@ -44,70 +80,34 @@ fn session_start_fields(fields: SessionStart) -> [u64; 9]
 
 // A message's number and fields, in the layout's order.
 fn said(content: Content) -> [u64; 9]
-    ensures { λ r. ⌜ ((i : ℕ) → getD r i 0 ≡ getD (saidBy content) i 0) ⌝ }
+    ensures { λ r. ⌜ ((i : ℕ) → getD r i 0 ≡ getD (contentNumbers content) i 0) ⌝ }
 {
     match content {
-        Content::FlowStart => fields(Message::FLOW_START, 0, 0, 0, 0),
-        Content::FlowStop { reason_code } => fields(
-            Message::FLOW_STOP,
-            reason_code as u64,
-            0,
-            0,
-            0,
-        ),
-        Content::Connect(c) => fields(
-            Message::CONNECT,
-            c.initiator_id as u64,
-            c.initiator_port as u64,
-            c.capabilities as u64,
-            c.keep_alive_interval as u64,
-        ),
+        Content::FlowStart => two_fields(Message::FLOW_START, 0, 0),
+        Content::FlowStop { reason_code } => two_fields(Message::FLOW_STOP, reason_code as u64, 0),
+        Content::Connect(connect) => connect_fields(connect),
         Content::ConnectResponse {
             capabilities,
-            keep_alive_interval,
-        } => fields(
-            Message::CONNECT_RESPONSE,
-            capabilities as u64,
-            keep_alive_interval as u64,
-            0,
-            0,
-        ),
-        Content::Disconnect => fields(Message::DISCONNECT, 0, 0, 0, 0),
-        Content::SessionStart(s) => session_start_fields(s),
-        Content::SessionStop { reason_code } => fields(
-            Message::SESSION_STOP,
-            reason_code as u64,
-            0,
-            0,
-            0,
-        ),
-        Content::Data(h) => fields(
-            Message::DATA,
-            h.template_id as u64,
-            h.config_id as u64,
-            bit(h.duplicate),
-            h.sequence_num,
-        ),
+            keep_alive_interval: k,
+        } => two_fields(Message::CONNECT_RESPONSE, capabilities as u64, k as u64),
+        Content::Disconnect => two_fields(Message::DISCONNECT, 0, 0),
+        Content::SessionStart(start) => session_start_fields(start),
+        Content::SessionStop { reason_code: r } => two_fields(Message::SESSION_STOP, r as u64, 0),
+        Content::Data(head) => data_fields(head),
         Content::DataAcknowledge {
             config_id,
             sequence_num,
-        } => fields(
-            Message::DATA_ACKNOWLEDGE,
-            config_id as u64,
-            sequence_num,
-            0,
-            0,
-        ),
+        } => two_fields(Message::DATA_ACKNOWLEDGE, config_id as u64, sequence_num),
         Content::Error {
-            time_stamp,
-            error_code,
-        } => fields(Message::ERROR, time_stamp as u64, error_code as u64, 0, 0),
+            time_stamp: t,
+            error_code: e,
+        } => two_fields(Message::ERROR, t as u64, e as u64),
     }
 }
 
 // One of a message's number and fields, by its place, 0 where there is none.
 fn said_at(content: Content, i: u8) -> u64
-    ensures { λ n. ⌜ n ≡ getD (saidBy content) i 0 ⌝ }
+    ensures { λ n. ⌜ n ≡ getD (contentNumbers content) i 0 ⌝ }
 {
     let all = said(content);
     let at = i as usize;

@@ -17,7 +17,6 @@ use ipdr::message::Connect;
 use ipdr::message::Content;
 use ipdr::message::DATA_ACKNOWLEDGE_OCTETS;
 use ipdr::message::DATA_FIXED;
-use ipdr::message::DUPLICATE_FLAG;
 use ipdr::message::DataHead;
 use ipdr::message::ERROR_FIXED;
 use ipdr::message::LENGTH_OCTETS;
@@ -64,7 +63,7 @@ fn data_of(message: &[u8]) -> Content
     Content::Data(DataHead {
         template_id: octets::get_u16(message, 8),
         config_id: octets::get_u16(message, 10),
-        duplicate: octets::get_u8(message, 12) % 2 == DUPLICATE_FLAG,
+        duplicate: octets::get_u8(message, 12) % 2 == 1,
         sequence_num: octets::get_u64(message, 13),
     })
 }

@@ -10,7 +10,7 @@ ghost use Rattle.messages.specs.Messages.{writtenAnswer};
 ghost use Rattle.ipdr.specs.Fields.{lengthOctets};
 ghost use Rattle.ipdr.specs.Messages.{connect, connectResponse, sessionStart, dataNumber, dataAcknowledge, errorNumber, widthsOf, isCounted};
 ghost use Rattle.ipdr.specs.Messages.{octetOf, connectValues, sessionStartValues, dataValues, numbers, maxPartOctets};
-ghost use Rattle.ipdr.specs.Messages.{writeAnswer, writeOf, writeOut, Wrote};
+ghost use Rattle.ipdr.specs.Messages.{writeAnswer, writeOf, writeOut, WrittenBy};
 use headers::header::HEADER_OCTETS;
 use headers::header::put_header;
 use ipdr::message::CONNECT_FIXED;
@@ -33,9 +33,9 @@ use octets::Answer;
 
 // A text or a record behind its length, from a place on.
 fn put_counted(out: &mut [u8], at: usize, part: &[u8])
-    requires { ⌜ (at ≤ 53) × (length (now part) ≤ maxPartOctets) ⌝ }
-    ensures { λ _. ⌜ now (out .exit)
-        ≡ putAt (putAt (now (out .entry)) at (octetsOf lengthOctets (length (now (part .entry))))) (at + lengthOctets) (now (part .entry)) ⌝ }
+    requires { ⌜ (at ≤ maxPartOctets) × (length (now part) ≤ maxPartOctets) ⌝ }
+    ensures { λ _. ⌜ now (out .exit) ≡ putAt
+        (putAt (now (out .entry)) at (octetsOf lengthOctets (length (now (part .entry))))) (at + lengthOctets) (now (part .entry)) ⌝ }
 {
     octets::put_u32(out, at, part.len() as u32);
     octets::copy_blocks(out, at + LENGTH_OCTETS, part);
@@ -44,7 +44,7 @@ fn put_counted(out: &mut [u8], at: usize, part: &[u8])
 // Writes the message with a number that has no fields.
 fn write_bare(number: u8, session: u8, out: &mut [u8]) -> Written
     requires { ⌜ (widthsOf number ≡ []) × (isCounted number ≡ false) ⌝ }
-    ensures { λ r. ⌜ ((part : List ℕ) → Wrote (numbers number session []) part (now (out .entry)) r (now (out .exit))) ⌝ }
+    ensures { λ r. ⌜ ((part : List ℕ) → WrittenBy (numbers number session []) part (now (out .entry)) r (now (out .exit))) ⌝ }
 {
     if out.len() < HEADER_OCTETS {
         return Written::Refused(Answer::OUTPUT_TOO_SHORT);
@@ -56,7 +56,7 @@ fn write_bare(number: u8, session: u8, out: &mut [u8]) -> Written
 // Writes a FLOW STOP or a SESSION STOP, by its number.
 fn write_stop(number: u8, session: u8, reason_code: u16, part: &[u8], out: &mut [u8]) -> Written
     requires { ⌜ (widthsOf number ≡ 2 ∷ []) × (isCounted number ≡ true) ⌝ }
-    ensures { λ r. ⌜ Wrote (numbers number session («reason_code» ∷ [])) (now (part .entry)) (now (out .entry)) r (now (out .exit)) ⌝ }
+    ensures { λ r. ⌜ WrittenBy (numbers number session («reason_code» ∷ [])) (now (part .entry)) (now (out .entry)) r (now (out .exit)) ⌝ }
 {
     if MAX_PART_OCTETS < part.len() {
         return Written::Refused(Answer::RECORD_TOO_LONG);
@@ -73,7 +73,8 @@ fn write_stop(number: u8, session: u8, reason_code: u16, part: &[u8], out: &mut 
 
 // Writes a CONNECT.
 fn write_connect(session: u8, fields: Connect, part: &[u8], out: &mut [u8]) -> Written
-    ensures { λ r. ⌜ Wrote (numbers connect session (connectValues fields)) (now (part .entry)) (now (out .entry)) r (now (out .exit)) ⌝ }
+    ensures { λ r. ⌜ WrittenBy (numbers connect session (connectValues fields)) (now (part .entry))
+        (now (out .entry)) r (now (out .exit)) ⌝ }
 {
     if MAX_PART_OCTETS < part.len() {
         return Written::Refused(Answer::RECORD_TOO_LONG);
@@ -99,7 +100,7 @@ fn write_connect_response(
     part: &[u8],
     out: &mut [u8],
 ) -> Written
-    ensures { λ r. ⌜ Wrote (numbers connectResponse session (capabilities ∷ «keep_alive_interval» ∷ [])) (now (part .entry))
+    ensures { λ r. ⌜ WrittenBy (numbers connectResponse session (capabilities ∷ «keep_alive_interval» ∷ [])) (now (part .entry))
         (now (out .entry)) r (now (out .exit)) ⌝ }
 {
     if MAX_PART_OCTETS < part.len() {
@@ -125,7 +126,7 @@ fn octet_of(b: bool) -> u8
 
 // Writes a SESSION START.
 fn write_session_start(session: u8, fields: SessionStart, out: &mut [u8]) -> Written
-    ensures { λ r. ⌜ ((part : List ℕ) → Wrote (numbers sessionStart session (sessionStartValues fields)) part (now (out .entry)) r
+    ensures { λ r. ⌜ ((part : List ℕ) → WrittenBy (numbers sessionStart session (sessionStartValues fields)) part (now (out .entry)) r
         (now (out .exit))) ⌝ }
 {
     if out.len() < SESSION_START_OCTETS {
@@ -152,7 +153,7 @@ fn write_session_start(session: u8, fields: SessionStart, out: &mut [u8]) -> Wri
 
 // Writes a DATA with the record `part`.
 fn write_data(session: u8, head: DataHead, part: &[u8], out: &mut [u8]) -> Written
-    ensures { λ r. ⌜ Wrote (numbers dataNumber session (dataValues head)) (now (part .entry)) (now (out .entry)) r (now (out .exit)) ⌝ }
+    ensures { λ r. ⌜ WrittenBy (numbers dataNumber session (dataValues head)) (now (part .entry)) (now (out .entry)) r (now (out .exit)) ⌝ }
 {
     if MAX_PART_OCTETS < part.len() {
         return Written::Refused(Answer::RECORD_TOO_LONG);
@@ -173,7 +174,7 @@ fn write_data(session: u8, head: DataHead, part: &[u8], out: &mut [u8]) -> Writt
 
 // Writes a DATA ACKNOWLEDGE.
 fn write_data_acknowledge(session: u8, config_id: u16, sequence_num: u64, out: &mut [u8]) -> Written
-    ensures { λ r. ⌜ ((part : List ℕ) → Wrote (numbers dataAcknowledge session («config_id» ∷ «sequence_num» ∷ [])) part
+    ensures { λ r. ⌜ ((part : List ℕ) → WrittenBy (numbers dataAcknowledge session («config_id» ∷ «sequence_num» ∷ [])) part
         (now (out .entry)) r (now (out .exit))) ⌝ }
 {
     if out.len() < DATA_ACKNOWLEDGE_OCTETS {
@@ -199,7 +200,7 @@ fn write_error(
     part: &[u8],
     out: &mut [u8],
 ) -> Written
-    ensures { λ r. ⌜ Wrote (numbers errorNumber session («time_stamp» ∷ «error_code» ∷ [])) (now (part .entry))
+    ensures { λ r. ⌜ WrittenBy (numbers errorNumber session («time_stamp» ∷ «error_code» ∷ [])) (now (part .entry))
         (now (out .entry)) r (now (out .exit)) ⌝ }
 {
     if MAX_PART_OCTETS < part.len() {
@@ -227,10 +228,10 @@ pub fn write_message(message: Message, part: &[u8], out: &mut [u8]) -> Written
     let content = message.content;
     match content {
         Content::FlowStart => write_bare(Message::FLOW_START, session, out),
-        Content::FlowStop { reason_code } => write_stop(
+        Content::FlowStop { reason_code: r } => write_stop(
             Message::FLOW_STOP,
             session,
-            reason_code,
+            r,
             part,
             out,
         ),
@@ -241,10 +242,10 @@ pub fn write_message(message: Message, part: &[u8], out: &mut [u8]) -> Written
         } => write_connect_response(session, capabilities, keep_alive_interval, part, out),
         Content::Disconnect => write_bare(Message::DISCONNECT, session, out),
         Content::SessionStart(fields) => write_session_start(session, fields, out),
-        Content::SessionStop { reason_code } => write_stop(
+        Content::SessionStop { reason_code: r } => write_stop(
             Message::SESSION_STOP,
             session,
-            reason_code,
+            r,
             part,
             out,
         ),

@@ -12,7 +12,7 @@ use lib.Seq.{take-all, sets, length-sets}
 use Rattle.octets.specs.Answers.{judge, done, messageNotAccepted, bodyLengthWrong, outputTooShort, unsoundTable}
 use Rattle.octets.specs.Numbers.{octetsOf, putAt}
 use Rattle.octets.proofs.Stores.{put-fits, put-short, put-then, sets-append}
-use Rattle.messages.specs.Messages.{Form, ofForm, forms, isMessage, bodyFits, messageNumber, versionOf, lengthField, headerChecks, bodyChecks, headerAnswer, headerAnswerFor, readAnswer, sessionOf, meaningOf, readWhere, readTable, readOf, partAt, partOf, tmplData, dataNumber}
+use Rattle.messages.specs.Messages.{Form, forms, isMessage, bodyFits, messageNumber, versionOf, lengthField, headerChecks, bodyChecks, headerAnswer, headerAnswerFor, readAnswer, sessionOf, meaningOf, readWhere, readTable, readOf, partAt, partOf, tmplData, dataNumber}
 use Rattle.tables.specs.Table.{tableSound}
 use Rattle.messages.specs.Messages.{headerOctets, protocolVersion, dataHeadLength, maxRecordOctets, headerOctetsOf, messageOf, dataFront, dataHeadOctets, Placed, isTmplData, isData, layoutOf, writeChecks, writeAnswer, writeOf, writeOut, headWriteAnswer, headWriteOut}
 use Rattle.messages.specs.declared.message.DataHead.{DataHead}

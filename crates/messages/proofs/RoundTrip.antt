@@ -1,19 +1,19 @@
 -- What is written reads back as what was meant, what reads without refusal is the layout of what it says, and answers that are enums
 -- have the answer numbers of the paper (01, "Messages" and "Answer numbers").
-use mathlib.Core.Path.{_≡_, refl, sym, ap, subst, _∙_}
-use mathlib.Core.Bool.{Bool, true, false, cond, not}
+use mathlib.Core.Path.{_≡_, refl, sym, ap, _∙_}
+use mathlib.Core.Bool.{Bool, true, false, not}
 use mathlib.Core.List.{List, [], _∷_, _++_, append-nil}
 use Prim.Native.Nat.{ℕ, zero, suc, _+_, _-_, _^_, _≤_, _<_}
-use native.Mathlib.Nat.{zero-add}
 use native.Mathlib.Omega.{arith}
 use borrow.Author.Tests.{ltb-false, eqb-true, eqb-false, leb-true, le-ltb, le-leb}
 use lib.Dec.{eqb, leb, ltb}
-use lib.ListN.{length, take, drop, length-drop, drop-of-length-le, take-append-drop}
-use lib.Seq.{sets, sets-eq, drop-cons, drop-drop, take-at, drop-at}
+use lib.ListN.{length, take, drop, drop-of-length-le}
+use lib.Seq.{sets}
 use Rattle.octets.specs.Answers.{done}
 use Rattle.octets.specs.Numbers.{numberOf, uintAt, octetsOf, Octets}
-use Rattle.octets.proofs.Numbers.{uint-one, uint-append, uint-front, read-back, write-back}
-use Rattle.messages.specs.Messages.{protocolVersion, Form, forms, isMessage, bodyFits, messageNumber, sessionOf, headerOctetsOf, messageOf, dataFront, flagsOf, flagFirst, flagDuplicate, layoutOf}
+use Rattle.octets.proofs.Numbers.{uint-one, uint-front, read-back, cut, cut-one}
+use Rattle.octets.proofs.Stores.{output-begins}
+use Rattle.messages.specs.Messages.{protocolVersion, Form, forms, isMessage, bodyFits, messageNumber, sessionOf, messageOf, dataFront, flagsOf, flagFirst, flagDuplicate, layoutOf}
 use Rattle.messages.specs.Messages.{start, startAck, stop, stopAck, tmplData, finalTmplDataAck, startNegotiate, startNegotiateAck, dataNumber, dataAck}
 use Rattle.messages.specs.Messages.{maxRecordOctets, headerAnswer, headerOf, readAnswer, dataHeadOf, meaningOf, readOf, partAt, partOf, writeAnswer, writeOf, writeOut, headWriteAnswer, headWriteOf, isData, isTmplData}
 use Rattle.messages.specs.Messages.{writeChecks, carried, carriedAt, Writable, Plain, headerReadingAnswer, readingAnswer, writtenAnswer}
@@ -28,7 +28,6 @@ use Rattle.messages.proofs.Messages.{not-both, Readable, readable, read
 use Rattle.tables.proofs.Tables.{table-facts}
 use Rattle.octets.proofs.Rows.{EachRow, none, _and_, each-row}
 use Rattle.headers.proofs.Headers as shared
-use Rattle.headers.proofs.Headers.{cut, cut-one}
 
 -- ---- reading the octets of a layout
 
@@ -329,7 +328,7 @@ done-fits m part out h = ltb-false (length out) (length (layoutOf m part)) (pass
 pub written-out : (m : Message) (part out : List ℕ) → writeAnswer m part (length out) ≡ done
     → (take (length (layoutOf m part)) (writeOut m part out) ≡ layoutOf m part)
     × (drop (length (layoutOf m part)) (writeOut m part out) ≡ drop (length (layoutOf m part)) out)
-written-out m part out h = rw (done-out m part out h) (shared.output-begins (layoutOf m part) out (done-fits m part out h))
+written-out m part out h = rw (done-out m part out h) (output-begins (layoutOf m part) out (done-fits m part out h))
 
 -- So what was written to an output with room reads back from there, and its part is handed back at its place.
 pub wrote-reads : (m : Message) (part out : List ℕ) → Writable m part → length (layoutOf m part) ≤ length out

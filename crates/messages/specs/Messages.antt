@@ -10,7 +10,8 @@ use Rattle.octets.specs.Answers.{Check, _when_, judge, done, messageNotAccepted
 use Rattle.octets.specs.Numbers.{uintAt, octetsOf, putAt}
 use Rattle.octets.specs.Each.{lookUp}
 use Rattle.tables.specs.Table.{tableSound}
-pub use Rattle.headers.specs.Headers.{headerOctets, versionOf, messageNumber, sessionOf, lengthField, headerFor, messageFor, headerChecksFor, headerReadingAnswer}
+pub use Rattle.headers.specs.Headers.{headerOctets, versionOf, messageNumber, sessionOf, lengthField, headerFor, messageFor}
+pub use Rattle.headers.specs.Headers.{headerChecksFor, headerReadingAnswer}
 unfoldable pub use Rattle.headers.specs.Headers.{headerAnswerFor, headerReadingFor}
 use Rattle.headers.specs.declared.header.HeaderReading.{HeaderReading}
 use Rattle.messages.specs.declared.message.DataHead.{DataHead}

@@ -8,8 +8,8 @@ use native.Mathlib.Numerals.{add-one}
 use native.Mathlib.Omega.{arith}
 use borrow.Author.Tests.{le-leb, leb-true, leb-false}
 use lib.Dec.{lit<, leb}
-use lib.ListN.{length, getD, take, drop, length-append, length-drop, List·getD-append, List·getD-eq-default}
-use lib.Seq.{take-suc, getD-drop, getD-append-add, getD-append-seam}
+use lib.ListN.{length, getD, take, drop, length-append, length-drop, take-append-drop, List·getD-append, List·getD-eq-default}
+use lib.Seq.{take-suc, drop-cons, drop-drop, getD-drop, getD-append-add, getD-append-seam}
 use Rattle.numbers.specs.Numbers.{numberOf, uintAt, octetsOf, Octets, smaller}
 
 -- ---- the number of given digits
@@ -167,6 +167,21 @@ write-back s octet at (suc w) h =
     ∙ ap (λ (l : List ℕ). l ++ (x ∷ [])) (write-back s octet at w (omega arith))
     ∙ ap (λ (k : ℕ). take w (drop at s) ++ (k ∷ [])) (sym (getD-drop at s w 0))
     ∙ sym (take-suc (drop at s) w 0 (omega (arith, length-drop at s)))
+
+-- ---- octets split into numbers
+
+-- one octet, then the rest
+pub cut-one : (s : List ℕ) (at : ℕ) → at < length s → drop at s ≡ uintAt s at 1 ∷ drop (suc at) s
+cut-one s at h = drop-cons s at 0 h ∙ ap (λ (x : ℕ). x ∷ drop (suc at) s) (sym (uint-one s at))
+
+-- the octets of a number, then the rest
+pub cut : (s : List ℕ) → Octets s → (at w : ℕ) → at + w ≤ length s → drop at s ≡ octetsOf w (uintAt s at w) ++ drop (at + w) s
+cut s octet at w h =
+    sym (take-append-drop w (drop at s))
+    ∙ ap (λ (l : List ℕ). take w (drop at s) ++ l) (drop-drop w at s)
+    ∙ ap (λ (l : List ℕ). l ++ drop (at + w) s) (sym (write-back s octet at w h))
+
+-- ---- the greatest number
 
 -- up to 8 octets, the width that `greatest` counts is the width itself
 pub greatest-of : (w : ℕ) → w ≤ 8 → {r : ℕ} → r ≡ 256 ^ smaller w 8 - 1 → r ≡ 256 ^ w - 1

@@ -9,7 +9,7 @@ use native.Mathlib.Numerals.{add-one}
 use native.Mathlib.Omega.{arith}
 use borrow.Author.Tests.{le-leb, lt-leb}
 use lib.ListN.{length, getD, take, drop, set, length-append, drop-of-length-le, List·getD-append, length-drop, take-append-drop}
-use lib.Seq.{sets, sets-eq, length-sets, drop-cons, length-take-le, getD-append-add, set-comm, take-all, drop-drop, take-append-seam}
+use lib.Seq.{sets, sets-eq, length-sets, drop-cons, length-take-le, getD-append-add, set-comm, take-all, drop-drop, take-at, drop-at}
 use Rattle.numbers.specs.Numbers.{uintAt, octetsOf, putAt}
 use Rattle.numbers.proofs.Numbers.{uint-same, octets-length, octets-join, octets-mod, read-back}
 
@@ -71,10 +71,22 @@ sets-at out at vs i h l =
     ∙ getD-append-add front (vs ++ drop (at + length vs) out) i 0
     ∙ List·getD-append vs (drop (at + length vs) out) 0 i l
 
+-- octets stored from the first place on, and what stands behind them
+pub sets-first : (out octets : List ℕ) → length octets ≤ length out → sets out 0 octets ≡ octets ++ drop (length octets) out
+sets-first out octets h = sets-eq octets out 0 (omega arith) ∙ ap (λ (k : ℕ). octets ++ drop k out) (zero-add (length octets))
+
+-- they begin the output, and behind them it is as it was
+pub output-begins : (octets out : List ℕ) → length octets ≤ length out
+    → (take (length octets) (sets out 0 octets) ≡ octets) × (drop (length octets) (sets out 0 octets) ≡ drop (length octets) out)
+output-begins octets out h =
+    let e = sets-first out octets h in (
+      ap (take (length octets)) e ∙ take-at octets (drop (length octets) out) (length octets) refl,
+      ap (drop (length octets)) e ∙ drop-at octets (drop (length octets) out) (length octets) refl,
+    )
+
 -- octets stored from the first place on are the first octets of what that left
 pub sets-front : (out l vs : List ℕ) → l ≡ sets out 0 vs → length vs ≤ length out → take (length vs) l ≡ vs
-sets-front out l vs e h =
-    ap (take (length vs)) (e ∙ sets-eq vs out 0 (omega arith)) ∙ take-append-seam vs (drop (0 + length vs) out)
+sets-front out l vs e h = ap (take (length vs)) e ∙ output-begins vs out h .0
 
 -- reading a number where it was written gives it back
 pub put-reads : (out : List ℕ) (at w v : ℕ) → at + w ≤ length out → v < 256 ^ w → uintAt (putAt out at (octetsOf w v)) at w ≡ v

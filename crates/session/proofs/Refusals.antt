@@ -5,11 +5,10 @@ use mathlib.Core.Logic.{_≢_}
 use mathlib.Core.Bool.{Bool, true, false}
 use mathlib.Core.List.{List, [], _++_}
 use Prim.Native.Nat.{ℕ}
-use native.Mathlib.Nat.{zero-add}
 use native.Mathlib.Omega.{arith}
 use lib.ListN.{length, drop}
-use lib.Seq.{sets-eq}
 use Rattle.octets.specs.Answers.{done, unsoundState}
+use Rattle.octets.proofs.Stores.{sets-first}
 use Rattle.wire.specs.Replies.{Encoding, crane}
 use Rattle.session.specs.Servers.{offer, down}
 use Rattle.session.specs.Sound.{settingsSound, numbersSound, sound}
@@ -89,8 +88,7 @@ set-up-refused-in-octets p capacity store e h = rw (refused-state p capacity h) 
 pub output-kept : OutputKept
 output-kept out c s store =
     let octets : List ℕ = octetsWritten (step crane (length out) c s store) in
-    sets-eq octets out 0 (omega (arith, octets-fit (length out) c s store))
-    ∙ ap (λ (k : ℕ). octets ++ drop k out) (zero-add (length octets))
+    sets-first out octets (octets-fit (length out) c s store)
 
 pub refusals : Refusals
 refusals =

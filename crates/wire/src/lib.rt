@@ -23,7 +23,8 @@
 // `walk::Cursor`. What is written reads back as the same meaning: specs/Demand2.antt.
 //
 // Nothing else is declared here. A crate that makes, matches or passes on a struct or enum lists, beside this one, the crate that declares
-// it (`field_types`, `tables`, `records`, `readers`, `appending`, `headers`, `messages`): the checker asks for it. Its text names `wire` alone.
+// it (`field_types`, `tables`, `records`, `readers`, `appending`, `headers`, `messages`): the checker asks for it. Its text names `wire`
+// alone.
 pub use appending::append;
 pub use field_types::field_type;
 pub use headers::header;

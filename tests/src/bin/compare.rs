@@ -17,7 +17,7 @@ use std::time::{Duration, Instant};
 const USAGE: &str = "usage: compare --program PATH [options]
   --program PATH        the replay program: a tape on standard input, lines on standard output
   --tapes N             how many tapes (2000)
-  --inputs N            how many inputs for the static library's functions, and how many messages of editions (100000)
+  --inputs N            how many inputs for the static library's functions, and how many messages of editions (120000)
   --many N              N times as many of all
   --seed S              the first seed (1); each seed gives other tapes and inputs
   --profile NAME        tapes of this profile only
@@ -28,7 +28,7 @@ const USAGE: &str = "usage: compare --program PATH [options]
 profiles:";
 
 /// How many inputs a run has if it is not told.
-const DEFAULT_INPUTS: u64 = 100_000;
+const DEFAULT_INPUTS: u64 = 120_000;
 
 const WORKERS: usize = 2;
 const MOST_MISMATCHES: u64 = 10;

@@ -4,7 +4,7 @@ use native.Mathlib.Omega.{arith}
 use lib.ListN.{length, List·getD-eq-default}
 use mathlib.Core.List.{[], _∷_}
 use native.Mathlib.Nat.{pos-of-ne-zero}
-use Rattle.ipdr_exports.specs.Said.{saidBy}
+use Rattle.ipdr_exports.specs.Said.{contentNumbers}
 use Rattle.ipdr_exports.proofs.Said.{behind-three}
 use borrow.Author.Needs.{needs}
 use Rattle.ipdr_exports.proofs.ipdr_calls.ipdr_read_part.Statement.{statement}
@@ -63,7 +63,7 @@ returns-4 c =
       c .before .before .before .before .before .reading .given .1,
     )
     (c .said-at .ensures
-    ∙ sym (behind-three _ _ _ (saidBy (c .before .before .before .before .before .reading .given .0 .0 .content)) (a .part)
+    ∙ sym (behind-three _ _ _ (contentNumbers (c .before .before .before .before .before .reading .given .0 .0 .content)) (a .part)
     (omega (arith, c .before .if3 .left, c .before .before .if2 .left, c .before .before .before .if1 .left))))
 
 returns-5 : tie.Need-returns-5

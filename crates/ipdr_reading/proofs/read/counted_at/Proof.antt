@@ -1,6 +1,5 @@
 -- `counted_at` meets its contract: each arm is a row that a text or a record ends, and no other row is so.
 use mathlib.Core.Path.{sym, ap}
-use Prim.Native.Nat.{ℕ}
 use mathlib.Core.Bool.{Bool, cond}
 use Rattle.ipdr.specs.Messages.{widthsOf, isCounted, fixedOctets}
 use Rattle.ipdr.proofs.Messages.{not-counted}

@@ -1,10 +1,8 @@
 -- `counted_part` meets its contract: where the length fits, the message has it and the octets behind it; else there are none.
-use mathlib.Core.Path.{_≡_, refl, sym, ap, _∙_}
-use mathlib.Core.Bool.{true}
+use mathlib.Core.Path.{refl, sym, _∙_}
 use native.Mathlib.Nat.{zero-add}
 use native.Mathlib.Omega.{arith}
 use Rattle.octets.proofs.Stores.{take-rest}
-use Rattle.ipdr.specs.Fields.{countedFits}
 use Rattle.ipdr.proofs.Fields.{counted-fitting}
 use borrow.Author.Needs.{needs}
 use Rattle.ipdr_reading.proofs.read.counted_part.Statement.{statement}

@@ -1,11 +1,10 @@
 -- `message_part` meets its contract: a message that is refused and one without text or record have no part; else it is what stands behind
 -- the length.
-use mathlib.Core.Path.{_≡_, refl, sym, ap, _∙_}
+use mathlib.Core.Path.{refl, sym, ap, _∙_}
 use mathlib.Core.Bool.{cond}
 use Prim.Native.Nat.{ℕ, _+_}
 use native.Mathlib.Nat.{zero-add}
 use native.Mathlib.Omega.{arith}
-use Rattle.headers.specs.Headers.{messageNumber}
 use Rattle.ipdr.specs.Messages.{widthsOf, isCounted, fixedOctets}
 use Rattle.ipdr.proofs.Messages.{header-refused, part-refused, part-none, part-behind}
 use borrow.Author.Needs.{needs}

@@ -1,5 +1,5 @@
 -- `read_data` meets its contract: a record behind its length ends the message, or it is refused.
-use mathlib.Core.Path.{refl, _∙_}
+use mathlib.Core.Path.{refl}
 use Rattle.ipdr.specs.Messages.{dataNumber, isMessage, widthsOf, isCounted, readBody}
 use Rattle.ipdr.proofs.Messages.{body-counted}
 use borrow.Author.Needs.{needs}
