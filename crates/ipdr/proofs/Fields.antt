@@ -22,7 +22,8 @@ use Rattle.ipdr.specs.Fields.{widthsTotal, valuesAt, octetsByWidths, InW
 pub fields-length : (ws vs : List ℕ) → length (octetsByWidths ws vs) ≡ widthsTotal ws
 fields-length [] vs = refl
 fields-length (w ∷ ws) [] = length-append (octetsOf w 0) (octetsByWidths ws []) ∙ omega (arith, octets-length w 0, fields-length ws [])
-fields-length (w ∷ ws) (v ∷ vs) = length-append (octetsOf w v) (octetsByWidths ws vs) ∙ omega (arith, octets-length w v, fields-length ws vs)
+fields-length (w ∷ ws) (v ∷ vs) =
+    length-append (octetsOf w v) (octetsByWidths ws vs) ∙ omega (arith, octets-length w v, fields-length ws vs)
 
 -- a number that stands behind other octets
 behind : (front s : List ℕ) (at w v : ℕ) → length front ≡ at → v < 256 ^ w → uintAt (front ++ (octetsOf w v ++ s)) at w ≡ v
@@ -78,7 +79,8 @@ put-length : (out : List ℕ) (at : ℕ) (one : List ℕ) → at + length one �
 put-length out at one h = ap length (put-fits out at one h) ∙ length-sets out at one
 
 -- fields that were put so are stored as their octets
-pub fields-put : (ws vs out : List ℕ) (at : ℕ) → at + widthsTotal ws ≤ length out → putFields out at ws vs ≡ sets out at (octetsByWidths ws vs)
+pub fields-put : (ws vs out : List ℕ) (at : ℕ) → at + widthsTotal ws ≤ length out
+    → putFields out at ws vs ≡ sets out at (octetsByWidths ws vs)
 fields-put [] vs out at h = refl
 fields-put (w ∷ ws) [] out at h =
     let one = octetsOf w 0 in
@@ -124,7 +126,8 @@ pub counted-written : (m : List ℕ) → Octets m → (at : ℕ) → countedFits
 unfolding countedFits
 counted-written m octet at h =
     let long = leb-true (at + 4) (length m) (and-left (leb (at + 4) (length m)) (eqb (uintAt m at 4) (length m - (at + 4))) h) in
-    let field = eqb-true (uintAt m at 4) (length m - (at + 4)) (and-right (leb (at + 4) (length m)) (eqb (uintAt m at 4) (length m - (at + 4))) h) in
+    let field =
+    eqb-true (uintAt m at 4) (length m - (at + 4)) (and-right (leb (at + 4) (length m)) (eqb (uintAt m at 4) (length m - (at + 4))) h) in
     cut m octet at 4 long ∙ ap (λ (k : ℕ). octetsOf 4 k ++ drop (at + 4) m) (field ∙ sym (length-drop (at + 4) m))
 
 -- where their length fits, it does

@@ -23,7 +23,8 @@ use Rattle.ipdr.specs.Fields.{widthsTotal, lengthOctets, countedFits, oc
 use Rattle.ipdr.specs.Messages.{Form, forms, protocolVersion, isMessage, widthsOf, isCounted, fixedOctets, behindLength, contentBy}
 use Rattle.ipdr.specs.Messages.{flowStart, flowStop, connect, connectResponse, disconnect, sessionStart, sessionStop, dataNumber}
 use Rattle.ipdr.specs.Messages.{dataAcknowledge, errorNumber}
-use Rattle.ipdr.specs.Messages.{MessageNumbers, bodyOf, layoutBy, bodyFits, bodyChecks, bodyAnswer, readAnswer, readBody, meaningOf, readOf, partAt, partOf}
+use Rattle.ipdr.specs.Messages.{MessageNumbers, bodyOf, layoutBy, bodyFits, bodyChecks, bodyAnswer, readAnswer, readBody}
+use Rattle.ipdr.specs.Messages.{meaningOf, readOf, partAt, partOf}
 use Rattle.ipdr.specs.Messages.{maxPartOctets, writeAnswerBy, writeBy, writeOutBy, WrittenBy}
 use Rattle.ipdr.proofs.Fields.{counted-fitting, counted-length, fields-length, putFields, fields-put, put-behind}
 
@@ -74,7 +75,8 @@ not-counted n h =
       ne-eqb n dataNumber (h .0 .1),
       ne-eqb n errorNumber (h .1),
     )
-    (neither (eqb n flowStart) _ (neither (eqb n disconnect) _ (neither (eqb n sessionStart) _ (neither (eqb n dataAcknowledge) false refl))))
+    (neither (eqb n flowStart) _ (neither (eqb n disconnect) _
+    (neither (eqb n sessionStart) _ (neither (eqb n dataAcknowledge) false refl))))
 
 -- ---- a message that can be read
 
@@ -228,7 +230,8 @@ module _ (x : MessageNumbers) (part : List ℕ) where
   layout-split : layoutBy x part ≡ front ++ tail
   unfolding layoutBy bodyOf
   layout-split =
-      let l : headerOctets + length (fields ++ tail) ≡ size = sym (message-length protocolVersion n (x .session) (fields ++ tail)) ∙ layout-length in
+      let l : headerOctets + length (fields ++ tail) ≡ size =
+      sym (message-length protocolVersion n (x .session) (fields ++ tail)) ∙ layout-length in
       ap (λ (k : ℕ). headerFor protocolVersion n (x .session) k ++ (fields ++ tail)) l
       ∙ sym (append-assoc (headerFor protocolVersion n (x .session) size) fields tail)
 
@@ -278,9 +281,11 @@ module _ (x : MessageNumbers) (part : List ℕ) where
           let mid = putAt k (fixedOctets n) len in
           let s : size ≡ fixedOctets n + (4 + length part) = ap (λ (b : Bool). fixedOctets n + cond b (4 + length part) 0) c in
           let one = octets-length 4 (length part) in
-          let first : mid ≡ sets out 0 (front ++ len) = put-behind out front k len (fixedOctets n) fields-behind front-length (omega arith) in
+          let first : mid ≡ sets out 0 (front ++ len) =
+          put-behind out front k len (fixedOctets n) fields-behind front-length (omega arith) in
           q
-          ∙ put-behind out (front ++ len) mid part (behindLength n) first (length-append front len ∙ omega (arith, front-length)) (omega arith)
+          ∙ put-behind out (front ++ len) mid part (behindLength n) first
+          (length-append front len ∙ omega (arith, front-length)) (omega arith)
           ∙ ap (sets out 0) (append-assoc front len part)
           ∙ ap (λ (b : Bool). sets out 0 (front ++ cond b (countedOctets part) [])) (sym c)
           ∙ ap (sets out 0) (sym layout-split)
@@ -300,7 +305,8 @@ module _ (x : MessageNumbers) (part : List ℕ) where
 
         pub bare-short : length out < fixed → WrittenBy x part out (written.Refused outputTooShort) out
         unfolding writeAnswerBy
-        bare-short h = refused outputTooShort (λ z. omega arith) (rw (c, layout-length, lt-ltb (length out) size (omega (arith, bare-size))))
+        bare-short h =
+            refused outputTooShort (λ z. omega arith) (rw (c, layout-length, lt-ltb (length out) size (omega (arith, bare-size))))
 
         pub bare-done : (l k : List ℕ) → fixed ≤ length out → l ≡ putAt out 0 (headerFor protocolVersion n (x .session) fixed)
             → k ≡ putFields l headerOctets ws (x .values) → WrittenBy x part out (written.Octets fixed) k

@@ -19,16 +19,19 @@ use Rattle.ipdr.specs.declared.message.Content.the-variants as content
 use Rattle.ipdr.specs.declared.message.Message.{Message}
 use Rattle.ipdr.specs.declared.message.Reading.the-variants as reading
 use Rattle.ipdr.specs.Fields.{valuesAt, octetsByWidths, InWidths, countedOctets, countedFits}
-use Rattle.ipdr.specs.Messages.{Form, forms, protocolVersion, isMessage, widthsOf, isCounted, fixedOctets, behindLength, octetOf, isTrue}
-use Rattle.ipdr.specs.Messages.{isDuplicate, flowStart, flowStop, connect, connectResponse, disconnect, sessionStart, sessionStop, dataNumber}
+use Rattle.ipdr.specs.Messages.{Form, forms, protocolVersion, isMessage, widthsOf, isCounted, fixedOctets, behindLength, octetOf}
+use Rattle.ipdr.specs.Messages.{isTrue, isDuplicate}
+use Rattle.ipdr.specs.Messages.{flowStart, flowStop, connect, connectResponse, disconnect, sessionStart, sessionStop, dataNumber}
 use Rattle.ipdr.specs.Messages.{dataAcknowledge, errorNumber, numbersOf, numberFor, valuesFor, contentBy, bodyOf, layoutBy, layoutOf}
 use Rattle.ipdr.specs.Messages.{bodyFits, readAnswer, meaningOf, readOf, partAt, partOf, takesPart, maxPartOctets, carried, carriedAt}
-use Rattle.ipdr.specs.Messages.{Writable, Plain, readingAnswer, writeChecks, writeAnswerBy, writeBy, writeOutBy, writeAnswer, writeOf, writeOut}
+use Rattle.ipdr.specs.Messages.{Writable, Plain, readingAnswer, writeChecks, writeAnswerBy, writeBy, writeOutBy}
+use Rattle.ipdr.specs.Messages.{writeAnswer, writeOf, writeOut}
 use Rattle.messages.specs.Messages.{writtenAnswer}
 use Rattle.messages.specs.declared.message.Written.the-variants as written
 use Rattle.octets.proofs.Judging.{passed, judged-done, kept}
 use Rattle.messages.proofs.Messages.{not-both}
-use Rattle.ipdr.proofs.Fields.{fields-length, values-back, values-written, counted-length, counted-back, counted-written, counted-fitting}
+use Rattle.ipdr.proofs.Fields.{fields-length, values-back, values-written, counted-length, counted-back}
+use Rattle.ipdr.proofs.Fields.{counted-written, counted-fitting}
 use Rattle.ipdr.proofs.Messages.{fields-small, Readable, readable, reads, part-counted, part-bare}
 
 -- ---- what a message says, by its number and its values
@@ -90,7 +93,8 @@ tail-length : (b : Bool) (part : List ℕ) → (b ≡ true → length part ≤ m
 tail-length true part short = omega (arith, counted-length part, short refl)
 tail-length false part short = omega arith
 
-module _ (n s : ℕ) (vs part : List ℕ) (known : isMessage n ≡ true) (fit : InWidths (widthsOf n) vs) (short : isCounted n ≡ true → length part ≤ maxPartOctets) where
+module _ (n s : ℕ) (vs part : List ℕ) (known : isMessage n ≡ true) (fit : InWidths (widthsOf n) vs)
+    (short : isCounted n ≡ true → length part ≤ maxPartOctets) where
   abbrev body : List ℕ
   body = bodyOf n vs part
 
@@ -113,7 +117,9 @@ module _ (n s : ℕ) (vs part : List ℕ) (known : isMessage n ≡ true) (fit : 
 
   split : m ≡ front ++ cond (isCounted n) (countedOctets part) []
   unfolding bodyOf
-  split = sym (append-assoc (headerFor protocolVersion n s (headerOctets + length body)) (octetsByWidths (widthsOf n) vs) (cond (isCounted n) (countedOctets part) []))
+  split =
+      let header = headerFor protocolVersion n s (headerOctets + length body) in
+      sym (append-assoc header (octetsByWidths (widthsOf n) vs) (cond (isCounted n) (countedOctets part) []))
 
   front-length : length front ≡ fixedOctets n
   unfolding octetsOf
@@ -130,7 +136,9 @@ module _ (n s : ℕ) (vs part : List ℕ) (known : isMessage n ≡ true) (fit : 
 
   values : valuesAt m headerOctets (widthsOf n) ≡ vs
   unfolding bodyOf octetsOf
-  values = values-back (widthsOf n) vs fit (headerFor protocolVersion n s (headerOctets + length body)) (cond (isCounted n) (countedOctets part) []) 8 refl
+  values =
+      let header = headerFor protocolVersion n s (headerOctets + length body) in
+      values-back (widthsOf n) vs fit header (cond (isCounted n) (countedOctets part) []) 8 refl
 
   said : meaningOf m ≡ record { session = s; content = contentBy n vs }
   unfolding meaningOf
@@ -146,7 +154,8 @@ module _ (n s : ℕ) (vs part : List ℕ) (known : isMessage n ≡ true) (fit : 
 
 -- ---- THE ROUND TRIP: a message that can be written reads back as what it says, and hands back its part at its place.
 pub reads-back : (m : Message) (part : List ℕ) → Writable m part
-    → (readOf (layoutOf m part) ≡ reading.Message m) × ((partOf (layoutOf m part) ≡ carried m part) × (partAt (layoutOf m part) ≡ carriedAt m))
+    → (readOf (layoutOf m part) ≡ reading.Message m)
+    × ((partOf (layoutOf m part) ≡ carried m part) × (partAt (layoutOf m part) ≡ carriedAt m))
 unfolding layoutBy readOf
 reads-back m part w =
     let n = numberFor (m .content) in
@@ -197,11 +206,13 @@ module _ (m : List ℕ) (octet : Octets m) (answer : readAnswer m ≡ done) (pla
   rest : (b : Bool) → isCounted num ≡ b → (fixedOctets num ≤ length m) × (drop (fixedOctets num) m ≡ cond b (countedOctets (partOf m)) [])
   unfolding bodyFits
   rest true e =
-      let f : countedFits m (fixedOctets num) ≡ true = ap (λ (b : Bool). cond b (countedFits m (fixedOctets num)) (eqb (length m) (fixedOctets num))) (sym e) ∙ r .fits in
+      let f : countedFits m (fixedOctets num) ≡ true =
+      ap (λ (b : Bool). cond b (countedFits m (fixedOctets num)) (eqb (length m) (fixedOctets num))) (sym e) ∙ r .fits in
       let p = part-counted m answer e .1 in
       (omega (arith, counted-fitting m (fixedOctets num) f), counted-written m octet (fixedOctets num) f ∙ ap countedOctets (sym p))
   rest false e =
-      let f : eqb (length m) (fixedOctets num) ≡ true = ap (λ (b : Bool). cond b (countedFits m (fixedOctets num)) (eqb (length m) (fixedOctets num))) (sym e) ∙ r .fits in
+      let f : eqb (length m) (fixedOctets num) ≡ true =
+      ap (λ (b : Bool). cond b (countedFits m (fixedOctets num)) (eqb (length m) (fixedOctets num))) (sym e) ∙ r .fits in
       let l : length m ≡ fixedOctets num = eqb-true (length m) (fixedOctets num) f in
       (omega arith, drop-of-length-le m {i = fixedOctets num} (omega arith))
 

@@ -26,10 +26,14 @@ from-ipdr-requires : tie.Need-from-ipdr-requires
 from-ipdr-requires c κs = search needs
 
 returns : tie.Need-returns
-returns c = rw (c .before .before .enum-told .given .1) (answered (crane-number _) (c .from-crane .ensures ∙ ap fromCrane (c .before .read-message .ensures .same)))
+returns c =
+    rw (c .before .before .enum-told .given .1)
+    (answered (crane-number _) (c .from-crane .ensures ∙ ap fromCrane (c .before .read-message .ensures .same)))
 
 returns-2 : tie.Need-returns-2
-returns-2 c = rw (c .before .before .enum-told2 .given .1) (answered (ipdr-number _) (c .from-ipdr .ensures ∙ ap fromIpdr (c .before .read-message2 .ensures .same)))
+returns-2 c =
+    rw (c .before .before .enum-told2 .given .1)
+    (answered (ipdr-number _) (c .from-ipdr .ensures ∙ ap fromIpdr (c .before .read-message2 .ensures .same)))
 
 pub read-message-spec : {M : Type 1} → statement M
 read-message-spec =

@@ -72,7 +72,8 @@ returns-5 c =
 
 returns-6 : tie.Need-returns-6
 returns-6 c =
-    rw (← c .before .before .before .before .read-message .ensures .same, c .before .before .reading2 .given .1) (sym (List·getD-eq-default (_ ∷ []) 0 (pos-of-ne-zero (c .if4 .left))))
+    rw (← c .before .before .before .before .read-message .ensures .same, c .before .before .reading2 .given .1)
+    (sym (List·getD-eq-default (_ ∷ []) 0 (pos-of-ne-zero (c .if4 .left))))
 
 pub ipdr-read-part-spec : {M : Type 1} → statement M
 ipdr-read-part-spec =

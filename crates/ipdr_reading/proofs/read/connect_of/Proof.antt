@@ -18,7 +18,13 @@ get-u32-requires-3 c κs = search needs
 
 returns : tie.Need-returns
 unfolding contentBy widthsOf
-returns c = rw (← c .get-u323 .ensures, ← c .before .get-u322 .ensures, ← c .before .before .get-u16 .ensures, ← c .before .before .before .get-u32 .ensures)
+returns c =
+    rw (
+      ← c .get-u323 .ensures,
+      ← c .before .get-u322 .ensures,
+      ← c .before .before .get-u16 .ensures,
+      ← c .before .before .before .get-u32 .ensures,
+    )
 
 pub connect-of-spec : {M : Type 1} → statement M
 connect-of-spec =

@@ -18,7 +18,13 @@ get-u64-requires c κs = search needs
 
 returns : tie.Need-returns
 unfolding contentBy widthsOf
-returns c = rw (← c .get-u64 .ensures, ← c .before .get-u8 .ensures, ← c .before .before .get-u162 .ensures, ← c .before .before .before .get-u16 .ensures)
+returns c =
+    rw (
+      ← c .get-u64 .ensures,
+      ← c .before .get-u8 .ensures,
+      ← c .before .before .get-u162 .ensures,
+      ← c .before .before .before .get-u16 .ensures,
+    )
 
 pub data-of-spec : {M : Type 1} → statement M
 data-of-spec =

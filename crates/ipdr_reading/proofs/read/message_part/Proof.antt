@@ -49,7 +49,8 @@ slice-aggregate-result-2 c = search needs
 returns-3 : tie.Need-returns-3
 returns-3 c =
     let a = c .before .before .before .before .before .before .before .before .args .message in
-    let h = sym (c .before .before .before .before .before .before .header-answer .ensures) ∙ c .before .before .before .before .before .if1 .left in
+    let b5 = c .before .before .before .before .before in
+    let h = sym (b5 .before .header-answer .ensures) ∙ b5 .if1 .left in
     let e = c .before .before .counted-at .ensures
     ∙ ap (λ (n : ℕ). cond (isCounted n) (fixedOctets n) 0) (c .before .before .before .before .get-u8 .ensures) in
     let p = part-none (a .now) h _ e (c .before .if3 .taken) in
@@ -61,7 +62,8 @@ counted-part-requires-2 c κs = search needs
 returns-4 : tie.Need-returns-4
 returns-4 c =
     let a = c .before .before .before .before .before .before .before .before .args .message in
-    let h = sym (c .before .before .before .before .before .before .header-answer .ensures) ∙ c .before .before .before .before .before .if1 .left in
+    let b5 = c .before .before .before .before .before in
+    let h = sym (b5 .before .header-answer .ensures) ∙ b5 .if1 .left in
     let e = c .before .before .counted-at .ensures
     ∙ ap (λ (n : ℕ). cond (isCounted n) (fixedOctets n) 0) (c .before .before .before .before .get-u8 .ensures) in
     let p = part-behind (a .now) h _ e (c .before .if3 .left) in

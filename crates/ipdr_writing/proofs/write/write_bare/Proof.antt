@@ -9,8 +9,9 @@ use Rattle.ipdr_writing.proofs.write.write_bare.Tie as tie
 
 returns : tie.Need-returns
 returns c =
-    let a = c .before .before .args in
-    λ part. bare-short (numbers (a .number) (a .session) []) part _ [] (c .before .before .pre .0) (c .before .before .pre .1) (c .if1 .taken)
+    let b2 = c .before .before in
+    let a = b2 .args in
+    λ part. bare-short (numbers (a .number) (a .session) []) part _ [] (b2 .pre .0) (b2 .pre .1) (c .if1 .taken)
 
 cast-put-header : tie.Need-cast-put-header
 cast-put-header c = search needs
@@ -23,10 +24,13 @@ same-length c = search needs
 
 returns-2 : tie.Need-returns-2
 returns-2 c =
-    let a = c .before .before .before .before .before .before .args in
+    let b2 = c .before .before in
+    let b4 = b2 .before .before in
+    let b6 = b4 .before .before in
+    let a = b6 .args in
     λ part.
-    bare-done (numbers (a .number) (a .session) []) part (a .out .now) [] (c .before .before .before .before .before .before .pre .0) (c .before .before .before .before .before .before .pre .1) _ _ (c .before .before .before .before .if1 .left)
-    (c .before .before .put-header .ensures)
+    bare-done (numbers (a .number) (a .session) []) part (a .out .now) [] (b6 .pre .0) (b6 .pre .1) _ _ (b4 .if1 .left)
+    (b2 .put-header .ensures)
     refl
 
 pub write-bare-spec : {M : Type 1} → statement M

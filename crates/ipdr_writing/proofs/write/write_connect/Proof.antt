@@ -22,8 +22,11 @@ add-len-2 c = search needs
 returns-2 : tie.Need-returns-2
 unfolding widthsOf isCounted
 returns-2 c =
-    let a = c .before .before .before .before .args in
-    counted-short (numbers connect (a .session) (connectValues (a .fields))) _ _ (4 ∷ 2 ∷ 4 ∷ 4 ∷ []) refl refl (c .before .if1 .left) (c .if2 .taken)
+    let b1 = c .before in
+    let b4 = b1 .before .before .before in
+    let a = b4 .args in
+    counted-short (numbers connect (a .session) (connectValues (a .fields))) _ _ (4 ∷ 2 ∷ 4 ∷ 4 ∷ []) refl refl
+    (b1 .if1 .left) (c .if2 .taken)
 
 cast-put-header : tie.Need-cast-put-header
 cast-put-header c = search needs
@@ -52,18 +55,27 @@ same-length c = search needs
 returns-3 : tie.Need-returns-3
 unfolding widthsOf isCounted
 returns-3 c =
-    let a = c .before .before .before .before .before .before .before .before .before .before .before .before .before .before .before .before .before .before .before .before .before .before .before .before .before .before .before .before .args in
+    let b2 = c .before .before in
+    let b6 = b2 .before .before .before .before in
+    let b10 = b6 .before .before .before .before in
+    let b14 = b10 .before .before .before .before in
+    let b18 = b14 .before .before .before .before in
+    let b22 = b18 .before .before .before .before in
+    let b24 = b22 .before .before in
+    let b25 = b24 .before in
+    let b28 = b25 .before .before .before in
+    let a = b28 .args in
     counted-done (numbers connect (a .session) (connectValues (a .fields))) (a .part .now) (a .out .now) (4 ∷ 2 ∷ 4 ∷ 4 ∷ []) refl refl
-    (c .before .before .before .before .before .before .before .before .before .before .before .before .before .before .before .before .before .before .before .before .before .before .before .before .before .if1 .left) _ _ _
-    (c .before .before .before .before .before .before .before .before .before .before .before .before .before .before .before .before .before .before .before .before .before .before .before .before .if2 .left)
-    (c .before .before .before .before .before .before .before .before .before .before .before .before .before .before .before .before .before .before .before .before .before .before .put-header .ensures)
+    (b25 .if1 .left) _ _ _
+    (b24 .if2 .left)
+    (b22 .put-header .ensures)
     (rw (
-      ← c .before .before .before .before .before .before .before .before .before .before .before .before .before .before .before .before .before .before .put-u32 .ensures,
-      ← c .before .before .before .before .before .before .before .before .before .before .before .before .before .before .put-u16 .ensures,
-      ← c .before .before .before .before .before .before .before .before .before .before .put-u322 .ensures,
-      ← c .before .before .before .before .before .before .put-u323 .ensures,
+      ← b18 .put-u32 .ensures,
+      ← b14 .put-u16 .ensures,
+      ← b10 .put-u322 .ensures,
+      ← b6 .put-u323 .ensures,
     ))
-    (c .before .before .put-counted .ensures)
+    (b2 .put-counted .ensures)
 
 pub write-connect-spec : {M : Type 1} → statement M
 write-connect-spec =

@@ -22,8 +22,11 @@ add-len-2 c = search needs
 returns-2 : tie.Need-returns-2
 unfolding widthsOf isCounted
 returns-2 c =
-    let a = c .before .before .before .before .args in
-    counted-short (numbers dataNumber (a .session) (dataValues (a .head))) _ _ (2 ∷ 2 ∷ 1 ∷ 8 ∷ []) refl refl (c .before .if1 .left) (c .if2 .taken)
+    let b1 = c .before in
+    let b4 = b1 .before .before .before in
+    let a = b4 .args in
+    counted-short (numbers dataNumber (a .session) (dataValues (a .head))) _ _ (2 ∷ 2 ∷ 1 ∷ 8 ∷ []) refl refl
+    (b1 .if1 .left) (c .if2 .taken)
 
 octet-of-requires : tie.Need-octet-of-requires
 octet-of-requires c κs = search needs
@@ -55,19 +58,29 @@ same-length c = search needs
 returns-3 : tie.Need-returns-3
 unfolding widthsOf isCounted
 returns-3 c =
-    let a = c .before .before .before .before .before .before .before .before .before .before .before .before .before .before .before .before .before .before .before .before .before .before .before .before .before .before .before .before .before .args in
+    let b2 = c .before .before in
+    let b6 = b2 .before .before .before .before in
+    let b10 = b6 .before .before .before .before in
+    let b14 = b10 .before .before .before .before in
+    let b18 = b14 .before .before .before .before in
+    let b22 = b18 .before .before .before .before in
+    let b24 = b22 .before .before in
+    let b25 = b24 .before in
+    let b26 = b25 .before in
+    let b29 = b26 .before .before .before in
+    let a = b29 .args in
     counted-done (numbers dataNumber (a .session) (dataValues (a .head))) (a .part .now) (a .out .now) (2 ∷ 2 ∷ 1 ∷ 8 ∷ []) refl refl
-    (c .before .before .before .before .before .before .before .before .before .before .before .before .before .before .before .before .before .before .before .before .before .before .before .before .before .before .if1 .left) _ _ _
-    (c .before .before .before .before .before .before .before .before .before .before .before .before .before .before .before .before .before .before .before .before .before .before .before .before .before .if2 .left)
-    (c .before .before .before .before .before .before .before .before .before .before .before .before .before .before .before .before .before .before .before .before .before .before .put-header .ensures)
+    (b26 .if1 .left) _ _ _
+    (b25 .if2 .left)
+    (b22 .put-header .ensures)
     (rw (
-      ← c .before .before .before .before .before .before .before .before .before .before .before .before .before .before .before .before .before .before .before .before .before .before .before .before .octet-of .ensures,
-      ← c .before .before .before .before .before .before .before .before .before .before .before .before .before .before .before .before .before .before .put-u16 .ensures,
-      ← c .before .before .before .before .before .before .before .before .before .before .before .before .before .before .put-u162 .ensures,
-      ← c .before .before .before .before .before .before .before .before .before .before .put-u8 .ensures,
-      ← c .before .before .before .before .before .before .put-u64 .ensures,
+      ← b24 .octet-of .ensures,
+      ← b18 .put-u16 .ensures,
+      ← b14 .put-u162 .ensures,
+      ← b10 .put-u8 .ensures,
+      ← b6 .put-u64 .ensures,
     ))
-    (c .before .before .put-counted .ensures)
+    (b2 .put-counted .ensures)
 
 pub write-data-spec : {M : Type 1} → statement M
 write-data-spec =

@@ -10,8 +10,10 @@ use Rattle.ipdr_writing.proofs.write.write_data_acknowledge.Tie as tie
 returns : tie.Need-returns
 unfolding widthsOf isCounted
 returns c =
-    let a = c .before .before .args in
-    λ part. bare-short (numbers dataAcknowledge (a .session) (a .config-id ∷ a .sequence-num ∷ [])) part _ (2 ∷ 8 ∷ []) refl refl (c .if1 .taken)
+    let b2 = c .before .before in
+    let a = b2 .args in
+    λ part. bare-short (numbers dataAcknowledge (a .session) (a .config-id ∷ a .sequence-num ∷ [])) part _
+    (2 ∷ 8 ∷ []) refl refl (c .if1 .taken)
 
 cast-put-header : tie.Need-cast-put-header
 cast-put-header c = search needs
@@ -31,13 +33,19 @@ same-length c = search needs
 returns-2 : tie.Need-returns-2
 unfolding widthsOf isCounted
 returns-2 c =
-    let a = c .before .before .before .before .before .before .before .before .before .before .before .before .before .before .args in
+    let b2 = c .before .before in
+    let b6 = b2 .before .before .before .before in
+    let b10 = b6 .before .before .before .before in
+    let b12 = b10 .before .before in
+    let b14 = b12 .before .before in
+    let a = b14 .args in
     λ part.
-    bare-done (numbers dataAcknowledge (a .session) (a .config-id ∷ a .sequence-num ∷ [])) part (a .out .now) (2 ∷ 8 ∷ []) refl refl _ _ (c .before .before .before .before .before .before .before .before .before .before .before .before .if1 .left)
-    (c .before .before .before .before .before .before .before .before .before .before .put-header .ensures)
+    bare-done (numbers dataAcknowledge (a .session) (a .config-id ∷ a .sequence-num ∷ [])) part (a .out .now)
+    (2 ∷ 8 ∷ []) refl refl _ _ (b12 .if1 .left)
+    (b10 .put-header .ensures)
     (rw (
-      ← c .before .before .before .before .before .before .put-u16 .ensures,
-      ← c .before .before .put-u64 .ensures,
+      ← b6 .put-u16 .ensures,
+      ← b2 .put-u64 .ensures,
     ))
 
 pub write-data-acknowledge-spec : {M : Type 1} → statement M

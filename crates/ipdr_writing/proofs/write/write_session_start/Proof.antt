@@ -10,8 +10,10 @@ use Rattle.ipdr_writing.proofs.write.write_session_start.Tie as tie
 returns : tie.Need-returns
 unfolding widthsOf isCounted
 returns c =
-    let a = c .before .before .args in
-    λ part. bare-short (numbers sessionStart (a .session) (sessionStartValues (a .fields))) part _ (4 ∷ 8 ∷ 8 ∷ 1 ∷ 4 ∷ 4 ∷ 8 ∷ 8 ∷ []) refl refl (c .if1 .taken)
+    let b2 = c .before .before in
+    let a = b2 .args in
+    λ part. bare-short (numbers sessionStart (a .session) (sessionStartValues (a .fields))) part _
+    (4 ∷ 8 ∷ 8 ∷ 1 ∷ 4 ∷ 4 ∷ 8 ∷ 8 ∷ []) refl refl (c .if1 .taken)
 
 octet-of-requires : tie.Need-octet-of-requires
 octet-of-requires c κs = search needs
@@ -52,20 +54,33 @@ same-length c = search needs
 returns-2 : tie.Need-returns-2
 unfolding widthsOf isCounted
 returns-2 c =
-    let a = c .before .before .before .before .before .before .before .before .before .before .before .before .before .before .before .before .before .before .before .before .before .before .before .before .before .before .before .before .before .before .before .before .before .before .before .before .before .before .before .args in
+    let b2 = c .before .before in
+    let b6 = b2 .before .before .before .before in
+    let b10 = b6 .before .before .before .before in
+    let b14 = b10 .before .before .before .before in
+    let b18 = b14 .before .before .before .before in
+    let b22 = b18 .before .before .before .before in
+    let b26 = b22 .before .before .before .before in
+    let b30 = b26 .before .before .before .before in
+    let b34 = b30 .before .before .before .before in
+    let b36 = b34 .before .before in
+    let b37 = b36 .before in
+    let b39 = b37 .before .before in
+    let a = b39 .args in
     λ part.
-    bare-done (numbers sessionStart (a .session) (sessionStartValues (a .fields))) part (a .out .now) (4 ∷ 8 ∷ 8 ∷ 1 ∷ 4 ∷ 4 ∷ 8 ∷ 8 ∷ []) refl refl _ _ (c .before .before .before .before .before .before .before .before .before .before .before .before .before .before .before .before .before .before .before .before .before .before .before .before .before .before .before .before .before .before .before .before .before .before .before .before .before .if1 .left)
-    (c .before .before .before .before .before .before .before .before .before .before .before .before .before .before .before .before .before .before .before .before .before .before .before .before .before .before .before .before .before .before .before .before .before .before .put-header .ensures)
+    bare-done (numbers sessionStart (a .session) (sessionStartValues (a .fields))) part (a .out .now)
+    (4 ∷ 8 ∷ 8 ∷ 1 ∷ 4 ∷ 4 ∷ 8 ∷ 8 ∷ []) refl refl _ _ (b37 .if1 .left)
+    (b34 .put-header .ensures)
     (rw (
-      ← c .before .before .before .before .before .before .before .before .before .before .before .before .before .before .before .before .before .before .before .before .before .before .before .before .before .before .before .before .before .before .before .before .before .before .before .before .octet-of .ensures,
-      ← c .before .before .before .before .before .before .before .before .before .before .before .before .before .before .before .before .before .before .before .before .before .before .before .before .before .before .before .before .before .before .put-u32 .ensures,
-      ← c .before .before .before .before .before .before .before .before .before .before .before .before .before .before .before .before .before .before .before .before .before .before .before .before .before .before .put-u64 .ensures,
-      ← c .before .before .before .before .before .before .before .before .before .before .before .before .before .before .before .before .before .before .before .before .before .before .put-u642 .ensures,
-      ← c .before .before .before .before .before .before .before .before .before .before .before .before .before .before .before .before .before .before .put-u8 .ensures,
-      ← c .before .before .before .before .before .before .before .before .before .before .before .before .before .before .put-u322 .ensures,
-      ← c .before .before .before .before .before .before .before .before .before .before .put-u323 .ensures,
-      ← c .before .before .before .before .before .before .put-u643 .ensures,
-      ← c .before .before .put-u644 .ensures,
+      ← b36 .octet-of .ensures,
+      ← b30 .put-u32 .ensures,
+      ← b26 .put-u64 .ensures,
+      ← b22 .put-u642 .ensures,
+      ← b18 .put-u8 .ensures,
+      ← b14 .put-u322 .ensures,
+      ← b10 .put-u323 .ensures,
+      ← b6 .put-u643 .ensures,
+      ← b2 .put-u644 .ensures,
     ))
 
 pub write-session-start-spec : {M : Type 1} → statement M

@@ -8,8 +8,9 @@ use Rattle.ipdr_writing.proofs.write.write_stop.Tie as tie
 
 returns : tie.Need-returns
 returns c =
-    let a = c .before .before .before .args in
-    counted-long (numbers (a .number) (a .session) (a .reason-code ∷ [])) _ _ (2 ∷ []) (c .before .before .before .pre .0) (c .before .before .before .pre .1) (c .if1 .taken)
+    let b3 = c .before .before .before in
+    let a = b3 .args in
+    counted-long (numbers (a .number) (a .session) (a .reason-code ∷ [])) _ _ (2 ∷ []) (b3 .pre .0) (b3 .pre .1) (c .if1 .taken)
 
 add-len : tie.Need-add-len
 add-len c = search needs
@@ -19,8 +20,10 @@ add-len-2 c = search needs
 
 returns-2 : tie.Need-returns-2
 returns-2 c =
-    let a = c .before .before .before .before .args in
-    counted-short (numbers (a .number) (a .session) (a .reason-code ∷ [])) _ _ (2 ∷ []) (c .before .before .before .before .pre .0) (c .before .before .before .before .pre .1) (c .before .if1 .left)
+    let b1 = c .before in
+    let b4 = b1 .before .before .before in
+    let a = b4 .args in
+    counted-short (numbers (a .number) (a .session) (a .reason-code ∷ [])) _ _ (2 ∷ []) (b4 .pre .0) (b4 .pre .1) (b1 .if1 .left)
     (c .if2 .taken)
 
 cast-put-header : tie.Need-cast-put-header
@@ -40,13 +43,19 @@ same-length c = search needs
 
 returns-3 : tie.Need-returns-3
 returns-3 c =
-    let a = c .before .before .before .before .before .before .before .before .before .before .before .before .before .before .before .before .args in
+    let b2 = c .before .before in
+    let b6 = b2 .before .before .before .before in
+    let b10 = b6 .before .before .before .before in
+    let b12 = b10 .before .before in
+    let b13 = b12 .before in
+    let b16 = b13 .before .before .before in
+    let a = b16 .args in
     counted-done (numbers (a .number) (a .session) (a .reason-code ∷ [])) (a .part .now) (a .out .now) (2 ∷ [])
-    (c .before .before .before .before .before .before .before .before .before .before .before .before .before .before .before .before .pre .0) (c .before .before .before .before .before .before .before .before .before .before .before .before .before .before .before .before .pre .1)
-    (c .before .before .before .before .before .before .before .before .before .before .before .before .before .if1 .left) _ _ _ (c .before .before .before .before .before .before .before .before .before .before .before .before .if2 .left)
-    (c .before .before .before .before .before .before .before .before .before .before .put-header .ensures)
-    (c .before .before .before .before .before .before .put-u16 .ensures)
-    (c .before .before .put-counted .ensures)
+    (b16 .pre .0) (b16 .pre .1)
+    (b13 .if1 .left) _ _ _ (b12 .if2 .left)
+    (b10 .put-header .ensures)
+    (b6 .put-u16 .ensures)
+    (b2 .put-counted .ensures)
 
 pub write-stop-spec : {M : Type 1} → statement M
 write-stop-spec =
