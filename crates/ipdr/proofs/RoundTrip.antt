@@ -81,6 +81,40 @@ content-back (content.Data f) = rw (duplicate-back (f .duplicate))
 content-back (content.DataAcknowledge config sequence) = refl
 content-back (content.Error time code) = refl
 
+-- what a message says has its number
+number-said : (vs : List ℕ) (n : ℕ) → isMessage n ≡ true → numberFor (contentBy n vs) ≡ n
+unfolding isMessage contentBy
+number-said vs n known = each-row (λ (f : Form). f .number) (λ k. n ≡ k → numberFor (contentBy k vs) ≡ k) forms rows n known refl
+  where
+    rows : EachRow (λ (f : Form). f .number) (λ f. n ≡ f .number → numberFor (contentBy (f .number) vs) ≡ f .number) forms
+    rows =
+        (λ (e : n ≡ flowStart). refl)
+        and (λ (e : n ≡ flowStop). refl)
+        and (λ (e : n ≡ connect). refl)
+        and (λ (e : n ≡ connectResponse). refl)
+        and (λ (e : n ≡ disconnect). refl)
+        and (λ (e : n ≡ sessionStart). refl)
+        and (λ (e : n ≡ sessionStop). refl)
+        and (λ (e : n ≡ dataNumber). refl)
+        and (λ (e : n ≡ dataAcknowledge). refl)
+        and (λ (e : n ≡ errorNumber). refl)
+        and none
+
+-- so the part of a message that is read begins where what it says has it
+pub part-at : (m : List ℕ) (x : Message) → readOf m ≡ reading.Message x → partAt m ≡ carriedAt x
+unfolding readOf meaningOf partAt
+part-at m x e = go (eqb (readAnswer m) done) refl e
+  where
+    go : (b : Bool) → eqb (readAnswer m) done ≡ b
+        → cond b (reading.Message (meaningOf m)) (reading.Refused (readAnswer m)) ≡ reading.Message x → partAt m ≡ carriedAt x
+    go true a e =
+        let n = messageNumber m in
+        let said = number-said (valuesAt m headerOctets (widthsOf n)) n (readable m (eqb-true (readAnswer m) done a) .known) in
+        let same : meaningOf m ≡ x = cc in
+        let at : partAt m ≡ cond (isCounted n) (behindLength n) 0 = rw a in
+        at ∙ ap (λ (k : ℕ). cond (isCounted k) (behindLength k) 0) (sym said) ∙ ap carriedAt same
+    go false a e = let z : _≡_ {A = ℕ} 0 1 = cc in absurd (omega arith)
+
 -- ---- reading the octets of a layout
 
 -- fields, and behind them a text or a record with its length, or nothing

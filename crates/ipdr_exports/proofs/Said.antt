@@ -1,4 +1,4 @@
--- Laws of numbers picked from a list: zeros behind it say nothing, and the first three can be left out.
+-- Laws of numbers picked from a list: zeros behind it say nothing, and the first four can be left out.
 use mathlib.Core.Path.{_≡_, refl, sym, ap, _∙_}
 use mathlib.Core.List.{List, [], _∷_, _++_}
 use Prim.Native.Nat.{ℕ, zero, suc, _-_, _≤_}
@@ -24,9 +24,10 @@ pub said-padded : (c x : Content) (r : List ℕ) (n : ℕ) → c ≡ x → r ≡
 said-padded c x r n e h i =
     ap (λ (l : List ℕ). getD l i 0) h ∙ padded (contentNumbers x) n i ∙ ap (λ (k : Content). getD (contentNumbers k) i 0) (sym e)
 
--- behind three numbers
-pub behind-three : (a b c : ℕ) (vs : List ℕ) (i : ℕ) → 3 ≤ i → getD (a ∷ b ∷ c ∷ vs) i 0 ≡ getD vs (i - 3) 0
-behind-three a b c vs zero h = absurd (omega arith)
-behind-three a b c vs (suc zero) h = absurd (omega arith)
-behind-three a b c vs (suc (suc zero)) h = absurd (omega arith)
-behind-three a b c vs (suc (suc (suc i))) h = ap (λ (k : ℕ). getD vs k 0) (omega arith)
+-- behind four numbers
+pub behind-four : (a b c d : ℕ) (vs : List ℕ) (i : ℕ) → 4 ≤ i → getD (a ∷ b ∷ c ∷ d ∷ vs) i 0 ≡ getD vs (i - 4) 0
+behind-four a b c d vs zero h = absurd (omega arith)
+behind-four a b c d vs (suc zero) h = absurd (omega arith)
+behind-four a b c d vs (suc (suc zero)) h = absurd (omega arith)
+behind-four a b c d vs (suc (suc (suc zero))) h = absurd (omega arith)
+behind-four a b c d vs (suc (suc (suc (suc i)))) h = ap (λ (k : ℕ). getD vs k 0) (omega arith)

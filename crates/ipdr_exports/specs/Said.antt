@@ -12,11 +12,12 @@ use Rattle.ipdr.specs.declared.message.Reading.the-variants as reading
 abbrev pub contentNumbers : Content → List ℕ
 contentNumbers c = numberFor c ∷ valuesFor c
 
--- The answer 0; the length of the part that the message carries, its session, its number and its fields. A refused reading is alone.
-abbrev pub readParts : List ℕ → Reading → List ℕ
-readParts part (reading.Message m) = done ∷ length part ∷ m .session ∷ contentNumbers (m .content)
-readParts part (reading.Refused a) = a ∷ []
+-- The answer 0; the place and the length of the part that the message carries, its session, its number and its fields. A refused reading
+-- is alone.
+abbrev pub readParts : ℕ → List ℕ → Reading → List ℕ
+readParts at part (reading.Message m) = done ∷ at ∷ length part ∷ m .session ∷ contentNumbers (m .content)
+readParts at part (reading.Refused a) = a ∷ []
 
 -- One of them by its number, 0 where there is none.
-abbrev pub readPart : ℕ → List ℕ → Reading → ℕ
-readPart number part r = getD (readParts part r) number 0
+abbrev pub readPart : ℕ → ℕ → List ℕ → Reading → ℕ
+readPart number at part r = getD (readParts at part r) number 0

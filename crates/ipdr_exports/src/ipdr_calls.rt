@@ -4,14 +4,20 @@ ghost use mathlib.Core.Bool.{cond};
 ghost use mathlib.Core.List.{[], _∷_, _++_};
 ghost use Prim.Native.Nat.{ℕ};
 ghost use lib.ListN.{getD};
-ghost use Rattle.ipdr.specs.Messages.{sessionStart, sessionStartValues, readOf, partOf};
+ghost use Rattle.ipdr.specs.Messages.{sessionStart, sessionStartValues, readOf, partAt, partOf, carriedAt};
 ghost use Rattle.ipdr.specs.declared.message.Content.the-variants as content;
 ghost use Rattle.ipdr_exports.specs.Said.{contentNumbers, readPart};
+use ipdr::message::CONNECT_FIXED;
+use ipdr::message::CONNECT_RESPONSE_FIXED;
 use ipdr::message::Connect;
 use ipdr::message::Content;
+use ipdr::message::DATA_FIXED;
 use ipdr::message::DataHead;
+use ipdr::message::ERROR_FIXED;
+use ipdr::message::LENGTH_OCTETS;
 use ipdr::message::Message;
 use ipdr::message::Reading;
+use ipdr::message::STOP_FIXED;
 use ipdr::message::SessionStart;
 
 // 1 for a flag that is set, else 0.
@@ -114,12 +120,39 @@ fn said_at(content: Content, i: u8) -> u64
     if at < 9 { all[at] } else { 0 }
 }
 
-// Reads an IPDR/SP message alone. Answers a part of what was read, by its number: 0 the answer, 0 or the refusal; 1 the length of the part
-// that the message carries, 2 its session, 3 its number, and from 4 on its fields in the layout's order, documentId as two numbers; 0 for
-// what there is not, and for what could not be read.
+// Where the text or the record of a message that says something begins; 0 where it has none.
+fn place_of(content: Content) -> usize
+    ensures { λ n. ⌜ n ≡ carriedAt (record { session = 0; content = content }) ⌝ }
+{
+    match content {
+        Content::FlowStart => 0,
+        Content::FlowStop { reason_code: _ } => STOP_FIXED + LENGTH_OCTETS,
+        Content::Connect(_) => CONNECT_FIXED + LENGTH_OCTETS,
+        Content::ConnectResponse {
+            capabilities: _,
+            keep_alive_interval: _,
+        } => CONNECT_RESPONSE_FIXED + LENGTH_OCTETS,
+        Content::Disconnect => 0,
+        Content::SessionStart(_) => 0,
+        Content::SessionStop { reason_code: _ } => STOP_FIXED + LENGTH_OCTETS,
+        Content::Data(_) => DATA_FIXED + LENGTH_OCTETS,
+        Content::DataAcknowledge {
+            config_id: _,
+            sequence_num: _,
+        } => 0,
+        Content::Error {
+            time_stamp: _,
+            error_code: _,
+        } => ERROR_FIXED + LENGTH_OCTETS,
+    }
+}
+
+// Reads an IPDR/SP message alone. Answers a part of what was read, by its number: 0 the answer, 0 or the refusal; 1 and 2 the place and the
+// length of the part that the message carries, 3 its session, 4 its number, and from 5 on its fields in the layout's order, documentId as
+// two numbers; 0 for what there is not, and for what could not be read.
 #[no_mangle]
 pub extern "C" fn ipdr_read_part(message: &[u8], part: u8) -> u64
-    ensures { λ n. ⌜ n ≡ readPart part (partOf (now (message .entry))) (readOf (now (message .entry))) ⌝ }
+    ensures { λ n. ⌜ n ≡ readPart part (partAt (now (message .entry))) (partOf (now (message .entry))) (readOf (now (message .entry))) ⌝ }
 {
     let reading = ipdr_reading::read::read_message(message);
     match reading {
@@ -127,14 +160,17 @@ pub extern "C" fn ipdr_read_part(message: &[u8], part: u8) -> u64
             if part == 0 {
                 return 0;
             }
+            let content = m.content;
             if part == 1 {
-                return ipdr_reading::read::message_part(message).len() as u64;
+                return place_of(content) as u64;
             }
             if part == 2 {
+                return ipdr_reading::read::message_part(message).len() as u64;
+            }
+            if part == 3 {
                 return m.session as u64;
             }
-            let content = m.content;
-            said_at(content, part - 3)
+            said_at(content, part - 4)
         }
         Reading::Refused(a) => if part == 0 { a as u64 } else { 0 },
     }

@@ -15,8 +15,8 @@ pub struct Edition {
     pub out: Vec<u8>,
 }
 
-/// The parts of an IPDR/SP message that are compared: none has more than twelve, and those that it does not have are 0.
-const PARTS: [u8; 15] = [0, 1, 2, 3, 4, 5, 6, 7, 8, 9, 10, 11, 12, 13, 255];
+/// The parts of an IPDR/SP message that are compared: none has more than thirteen, and those that it does not have are 0.
+const PARTS: [u8; 16] = [0, 1, 2, 3, 4, 5, 6, 7, 8, 9, 10, 11, 12, 13, 14, 255];
 
 impl Edition {
     /// The message is read as CRANE's.
@@ -59,12 +59,13 @@ fn ipdr_again(message: &[u8], out: &mut [u8]) -> u64 {
     number_of(ipdr::read(message).and_then(|(said, part)| ipdr::write(&said, part, out)))
 }
 
-/// What reading an IPDR/SP message answers: the length of its text or record, session, message number, and the fields
-/// in the layout's order.
+/// What reading an IPDR/SP message answers: place and length of its text or record, session, message number, and the
+/// fields in the layout's order.
 fn ipdr_parts(message: &[u8]) -> Vec<u64> {
     match ipdr::read(message) {
         Ok((said, part)) => {
-            let mut parts = vec![u64::from(DONE), part.len() as u64];
+            let place = part.as_ptr() as usize - message.as_ptr() as usize;
+            let mut parts = vec![u64::from(DONE), place as u64, part.len() as u64];
             parts.extend([u64::from(said.session), u64::from(said.layout.number)]);
             parts.extend(said.values);
             parts
@@ -82,13 +83,14 @@ pub mod tests {
     use crate::model::ipdr::{layout, Layout, DATA, LAYOUTS, SESSION_START};
     use std::collections::{BTreeMap, BTreeSet};
 
-    /// Where an outcome's numbers have the parts of an IPDR/SP message: the reading's answer, the length of the text or
-    /// record, the session, the message number, and the first field.
+    /// Where an outcome's numbers have the parts of an IPDR/SP message: the reading's answer, place and length of the
+    /// text or record, the session, the message number, and the first field.
     pub const READ: usize = 1;
-    pub const LENGTH: usize = 2;
-    pub const SESSION: usize = 3;
-    pub const NUMBER: usize = 4;
-    pub const FIELDS: usize = 5;
+    pub const PLACE: usize = 2;
+    pub const LENGTH: usize = 3;
+    pub const SESSION: usize = 4;
+    pub const NUMBER: usize = 5;
+    pub const FIELDS: usize = 6;
 
     /// The messages of editions of a default run.
     pub fn editions() -> impl Iterator<Item = Edition> {

@@ -1,6 +1,6 @@
 //! A test that the messages of editions of a default run tell programs with one mistake from the right one.
 
-use super::edition::tests::{editions, FIELDS, LENGTH, NUMBER, READ, SESSION};
+use super::edition::tests::{editions, FIELDS, LENGTH, NUMBER, PLACE, READ, SESSION};
 use super::edition::Edition;
 use super::Outcome;
 use crate::library::ACCEPTED;
@@ -21,7 +21,7 @@ const fn mistake(name: &'static str, outcome: fn(&Edition) -> Outcome) -> Mistak
     Mistake { name, outcome }
 }
 
-const MISTAKES: [Mistake; 32] = [
+const MISTAKES: [Mistake; 33] = [
     mistake("configId and sequenceNum are exchanged in DATA ACKNOWLEDGE", exchanged_acknowledgement),
     mistake("the duplicate mark is bit 1", duplicate_in_bit_1),
     mistake("any flag is the duplicate mark", |edition| {
@@ -51,6 +51,7 @@ const MISTAKES: [Mistake; 32] = [
     mistake("the message number is judged before the length field", number_before_length),
     mistake("the text begins one octet early", text_early),
     mistake("an empty text is written without its length", empty_text_left_out),
+    mistake("an empty text lies at octet 0", empty_text_at_the_start),
     mistake("a text that is too long is not read", long_text_not_read),
     mistake("what is refused has its session read", session_of_refused),
     mistake("17 is judged after 12", long_after_short),
@@ -209,6 +210,7 @@ fn text_early(edition: &Edition) -> Outcome {
     if has_text(edition) && is_written(&outcome) {
         let end = edition.message.len();
         let begin = end - outcome.numbers[LENGTH] as usize;
+        outcome.numbers[PLACE] -= 1;
         outcome.out[begin..end].copy_from_slice(&edition.message[begin - 1..end - 1]);
     }
     outcome
@@ -221,6 +223,14 @@ fn empty_text_left_out(edition: &Edition) -> Outcome {
         outcome.numbers[0] = length as u64 + ACCEPTED;
         outcome.out[4..8].copy_from_slice(&(length as u32).to_be_bytes());
         outcome.out[length..].copy_from_slice(&edition.out[length..]);
+    }
+    outcome
+}
+
+fn empty_text_at_the_start(edition: &Edition) -> Outcome {
+    let mut outcome = edition.of_model();
+    if has_text(edition) && outcome.numbers[LENGTH] == 0 {
+        outcome.numbers[PLACE] = 0;
     }
     outcome
 }
