@@ -10,6 +10,7 @@ use lib.Dec.{eqb, leb, ltb}
 use lib.ListN.{length, getD, length-append}
 use Rattle.octets.specs.Answers.{recordInvalid, outputTooShort}
 use Rattle.octets.specs.Numbers.{putAt}
+use Rattle.numbers.specs.declared.OctetOrder.{OctetOrder}
 use Rattle.octets.proofs.Stores.{put-short, put-join}
 use Rattle.octets.specs.Each.{every}
 use Rattle.field_types.specs.FieldTypes.{widthOf, isNumber, isSigned, booleanType, stringType, terminatedType, blobType}
@@ -42,38 +43,38 @@ joined-fits a b out at place after h e f =
 
 -- ---- appending is storing the field of a value that fits, and refusing any other
 
-abbrev pub Appending : ℕ → Value → List ℕ → List ℕ → ℕ → Appended → List ℕ → Type 0
-Appending type value octets out at answer after = (answer ≡ appendOf type value octets out at) × (after ≡ appendOut type value octets out at)
+abbrev pub Appending : OctetOrder → ℕ → Value → List ℕ → List ℕ → ℕ → Appended → List ℕ → Type 0
+Appending order type value octets out at answer after = (answer ≡ appendOf order type value octets out at) × (after ≡ appendOut order type value octets out at)
 
 stored-answer : (field out : List ℕ) (at : ℕ) (b : Bool) → leb (at + length field) (length out) ≡ b → ltb (length out) (at + length field) ≡ not b
 stored-answer field out at true e = le-ltb (length out) (at + length field) (leb-true (at + length field) (length out) e)
 stored-answer field out at false e = lt-ltb (length out) (at + length field) (leb-false (at + length field) (length out) e)
 
-pub append-stores : (type : ℕ) (value : Value) (octets out : List ℕ) (at : ℕ) → valueFits type value octets ≡ true
-    → Appending type value octets out at (storedOf (fieldOctets type value octets) out at) (putAt out at (fieldOctets type value octets))
+pub append-stores : (order : OctetOrder) (type : ℕ) (value : Value) (octets out : List ℕ) (at : ℕ) → valueFits type value octets ≡ true
+    → Appending order type value octets out at (storedOf (fieldOctets order type value octets) out at) (putAt out at (fieldOctets order type value octets))
 unfolding appendOf appendOut appendAnswer storedOf putAt
-append-stores type value octets out at h = go (leb (at + length field) (length out)) refl
+append-stores order type value octets out at h = go (leb (at + length field) (length out)) refl
   where
     field : List ℕ
-    field = fieldOctets type value octets
+    field = fieldOctets order type value octets
 
     go : (b : Bool) → leb (at + length field) (length out) ≡ b
-        → Appending type value octets out at (storedOf field out at) (putAt out at field)
+        → Appending order type value octets out at (storedOf field out at) (putAt out at field)
     go true e = (rw (h, stored-answer field out at true e, e), rw (h, stored-answer field out at true e, e))
     go false e = (rw (h, stored-answer field out at false e, e), rw (h, stored-answer field out at false e, e))
 
 -- a value v that fits, whose field was stored
-pub append-stored : (type : ℕ) (value v : Value) (octets out : List ℕ) (at : ℕ) (answer : Appended) (after : List ℕ) → value ≡ v
-    → valueFits type v octets ≡ true → Stored (fieldOctets type v octets) out at answer after → Appending type value octets out at answer after
-append-stored type value v octets out at answer after e h s =
-    let a = append-stores type v octets out at h in
+pub append-stored : (order : OctetOrder) (type : ℕ) (value v : Value) (octets out : List ℕ) (at : ℕ) (answer : Appended) (after : List ℕ) → value ≡ v
+    → valueFits type v octets ≡ true → Stored (fieldOctets order type v octets) out at answer after → Appending order type value octets out at answer after
+append-stored order type value v octets out at answer after e h s =
+    let a = append-stores order type v octets out at h in
     rw e (s .0 ∙ a .0, s .1 ∙ a .1)
 
 -- a value v that does not fit
-pub append-refused : (type : ℕ) (value v : Value) (octets out : List ℕ) (at : ℕ) → value ≡ v → valueFits type v octets ≡ false
-    → Appending type value octets out at (Refused recordInvalid) out
+pub append-refused : (order : OctetOrder) (type : ℕ) (value v : Value) (octets out : List ℕ) (at : ℕ) → value ≡ v → valueFits type v octets ≡ false
+    → Appending order type value octets out at (Refused recordInvalid) out
 unfolding appendOf appendOut appendAnswer
-append-refused type value v octets out at e h = rw (e, h) (refl, refl)
+append-refused order type value v octets out at e h = rw (e, h) (refl, refl)
 
 -- ---- the octets that fit a type, by the kind of type
 

@@ -1,4 +1,4 @@
--- Writing a single field into the caller's octets (01, "Template table").
+-- Writing a single field into the caller's octets (01, "Template table"; 02, ask 6).
 use Prim.Native.Nat.{ℕ, _+_, _-_, _*_, _^_}
 use mathlib.Core.Path.{_≡_}
 use mathlib.Core.Bool.{Bool, cond, not, _&&_}
@@ -7,9 +7,10 @@ use lib.Dec.{eqb, leb, ltb}
 use lib.ListN.{length, getD}
 use lib.Seq.{sets}
 use Rattle.octets.specs.Answers.{done, _when_, judge, recordInvalid, outputTooShort}
-use Rattle.octets.specs.Numbers.{octetsOf, putAt, asciiLimit}
+use Rattle.octets.specs.Numbers.{octetsIn, putAt, asciiLimit}
 use Rattle.octets.specs.Each.{every}
-use Rattle.field_types.specs.FieldTypes.{widthOf, isNumber, isSigned, booleanType, stringType, terminatedType, blobType}
+use Rattle.numbers.specs.declared.OctetOrder.{OctetOrder}
+use Rattle.field_types.specs.FieldTypes.{widthOf, isNumber, isSigned, fieldOrder, booleanType, stringType, terminatedType, blobType}
 use Rattle.records.specs.Record.{lengthOctets}
 use Rattle.records.specs.declared.walk.Value.{Value}
 use Rattle.records.specs.declared.walk.Value.the-variants.{Octets, Number, Negative}
@@ -48,40 +49,41 @@ valueFits type (Negative n) octets = negativeFits type n
 valueFits type Octets octets = octetsFit type octets
 
 -- The field that holds octets: a null terminated string in front of its zero, an address alone, a string or blob behind its 32-bit
--- length; asked only of octets that fit.
-unfoldable pub octetsField : ℕ → List ℕ → List ℕ
-octetsField type octets =
+-- length, in an octet order; asked only of octets that fit.
+unfoldable pub octetsField : OctetOrder → ℕ → List ℕ → List ℕ
+octetsField order type octets =
     cond (eqb type terminatedType) (octets ++ (0 ∷ []))
-    (cond (ltb 0 (widthOf type)) octets (octetsOf lengthOctets (length octets) ++ octets))
+    (cond (ltb 0 (widthOf type)) octets (octetsIn order lengthOctets (length octets) ++ octets))
 
 -- How many octets stand in front of a value's own octets in their field: the 32-bit length of a string or blob.
 unfoldable pub prefixOctets : ℕ → ℕ
 prefixOctets type = cond (eqb type stringType) lengthOctets (cond (eqb type blobType) lengthOctets 0)
 
--- The octets of the field that holds a value: a number in the type's width, two's complement where it is below 0.
-abbrev pub fieldOctets : ℕ → Value → List ℕ → List ℕ
-fieldOctets type (Number n) octets = octetsOf (widthOf type) n
-fieldOctets type (Negative n) octets = octetsOf (widthOf type) (256 ^ widthOf type - n)
-fieldOctets type Octets octets = octetsField type octets
+-- The octets of the field that holds a value, under a table of an octet order: a number in the type's width, two's complement where it is
+-- below 0.
+abbrev pub fieldOctets : OctetOrder → ℕ → Value → List ℕ → List ℕ
+fieldOctets order type (Number n) octets = octetsIn (fieldOrder order type) (widthOf type) n
+fieldOctets order type (Negative n) octets = octetsIn (fieldOrder order type) (widthOf type) (256 ^ widthOf type - n)
+fieldOctets order type Octets octets = octetsField (fieldOrder order type) type octets
 
 -- Appending is judged 16, 12.
-unfoldable pub appendAnswer : ℕ → Value → List ℕ → List ℕ → ℕ → ℕ
-appendAnswer type value octets out at =
+unfoldable pub appendAnswer : OctetOrder → ℕ → Value → List ℕ → List ℕ → ℕ → ℕ
+appendAnswer order type value octets out at =
     judge
     ((recordInvalid when not (valueFits type value octets))
-    ∷ (outputTooShort when ltb (length out) (at + length (fieldOctets type value octets)))
+    ∷ (outputTooShort when ltb (length out) (at + length (fieldOctets order type value octets)))
     ∷ [])
 
 -- It answers the place after the field, or the refusal.
-unfoldable pub appendOf : ℕ → Value → List ℕ → List ℕ → ℕ → Appended
-appendOf type value octets out at =
-    let answer = appendAnswer type value octets out at in
-    cond (eqb answer done) (Next (at + length (fieldOctets type value octets))) (Refused answer)
+unfoldable pub appendOf : OctetOrder → ℕ → Value → List ℕ → List ℕ → ℕ → Appended
+appendOf order type value octets out at =
+    let answer = appendAnswer order type value octets out at in
+    cond (eqb answer done) (Next (at + length (fieldOctets order type value octets))) (Refused answer)
 
 -- The output afterwards: the field at its place and nothing else changed, or as it was.
-unfoldable pub appendOut : ℕ → Value → List ℕ → List ℕ → ℕ → List ℕ
-appendOut type value octets out at =
-    cond (eqb (appendAnswer type value octets out at) done) (sets out at (fieldOctets type value octets)) out
+unfoldable pub appendOut : OctetOrder → ℕ → Value → List ℕ → List ℕ → ℕ → List ℕ
+appendOut order type value octets out at =
+    cond (eqb (appendAnswer order type value octets out at) done) (sets out at (fieldOctets order type value octets)) out
 
 -- The answer number of appending.
 abbrev pub appendedAnswer : Appended → ℕ

@@ -1,17 +1,17 @@
 // Appending one field to lent output.
 ghost use mathlib.Core.Path.{_≡_};
 ghost use mathlib.Core.List.{[], _∷_, _++_};
-ghost use mathlib.Core.Bool.{true, not};
-ghost use Prim.Native.Nat.{_<_};
+ghost use mathlib.Core.Bool.{not};
 ghost use lib.Dec.{eqb};
 ghost use lib.ListN.{length, getD};
 ghost use Rattle.octets.specs.Answers.{Answered};
-ghost use Rattle.octets.specs.Numbers.{octetsOf};
+ghost use Rattle.octets.specs.Numbers.{octetsIn};
 ghost use Rattle.octets.specs.Each.{every};
 ghost use Rattle.records.specs.Record.{lengthOctets};
-ghost use Rattle.appending.specs.Append.{lengthLimit, numberFits, negativeFits, octetsFit, octetsField, Stored, appendAnswer, appendOf, appendOut, appendedAnswer};
+ghost use Rattle.appending.specs.Append.{numberFits, negativeFits, octetsFit, octetsField, Stored, appendAnswer, appendOf, appendOut, appendedAnswer};
 use field_types::field_type::FieldType;
 use octets::Answer;
+use octets::OctetOrder;
 use records::record::LENGTH_OCTETS;
 use records::walk::Value;
 
@@ -86,9 +86,9 @@ fn octets_fit(kind: u16, octets: &[u8]) -> bool
     (0 < width) & (!field_type.is_number() & (octets.len() == width))
 }
 
-// Stores a number in w octets at a place: the place after it, or 12 where it does not fit.
-fn store_number(w: usize, n: u64, out: &mut [u8], at: usize) -> Appended
-    ensures { λ r. ⌜ Stored (octetsOf w n) (now (out .entry)) at r (now (out .exit)) ⌝ }
+// Stores a number in w octets at a place, in an order: the place after it, or 12 where it does not fit.
+fn store_number(order: OctetOrder, w: usize, n: u64, out: &mut [u8], at: usize) -> Appended
+    ensures { λ r. ⌜ Stored (octetsIn order w n) (now (out .entry)) at r (now (out .exit)) ⌝ }
 {
     if out.len() < at {
         return Appended::Refused(Answer::OUTPUT_TOO_SHORT);
@@ -96,7 +96,7 @@ fn store_number(w: usize, n: u64, out: &mut [u8], at: usize) -> Appended
     if octets::saturating_sub(out.len(), at) < w {
         return Appended::Refused(Answer::OUTPUT_TOO_SHORT);
     }
-    octets::put_uint(out, at, w, n);
+    octets::put_uint(order, out, at, w, n);
     Appended::Next(at + w)
 }
 
@@ -127,10 +127,9 @@ fn store_terminated(octets: &[u8], out: &mut [u8], at: usize) -> Appended
     Appended::Next(end + 1)
 }
 
-// Stores octets behind their 32-bit length at a place: the place after them, or 12 where they do not fit.
-fn store_counted(octets: &[u8], out: &mut [u8], at: usize) -> Appended
-    requires { ⌜ length (now octets) < lengthLimit ⌝ }
-    ensures { λ r. ⌜ Stored (octetsOf lengthOctets (length (now (octets .entry))) ++ now (octets .entry))
+// Stores octets behind their 32-bit length, which has an order, at a place: the place after them, or 12 where they do not fit.
+fn store_counted(order: OctetOrder, octets: &[u8], out: &mut [u8], at: usize) -> Appended
+    ensures { λ r. ⌜ Stored (octetsIn order lengthOctets (length (now (octets .entry))) ++ now (octets .entry))
         (now (out .entry)) at r (now (out .exit)) ⌝ }
 {
     if octets::saturating_sub(out.len(), at) < LENGTH_OCTETS {
@@ -140,15 +139,15 @@ fn store_counted(octets: &[u8], out: &mut [u8], at: usize) -> Appended
     if octets::saturating_sub(out.len(), start) < octets.len() {
         return Appended::Refused(Answer::OUTPUT_TOO_SHORT);
     }
-    octets::put_u32(out, at, octets.len() as u32);
+    octets::put_uint(order, out, at, LENGTH_OCTETS, octets.len() as u64);
     octets::copy(out, start, octets);
     Appended::Next(start + octets.len())
 }
 
-// Stores the field that holds octets of a type at a place: the place after it, or 12 where it does not fit.
-fn store_octets(kind: u16, octets: &[u8], out: &mut [u8], at: usize) -> Appended
-    requires { ⌜ octetsFit kind (now octets) ≡ true ⌝ }
-    ensures { λ r. ⌜ Stored (octetsField kind (now (octets .entry))) (now (out .entry)) at r (now (out .exit)) ⌝ }
+// Stores the field that holds octets of a type at a place, a length in front in an octet order: the place after it, or 12 where it does
+// not fit.
+fn store_octets(order: OctetOrder, kind: u16, octets: &[u8], out: &mut [u8], at: usize) -> Appended
+    ensures { λ r. ⌜ Stored (octetsField order kind (now (octets .entry))) (now (out .entry)) at r (now (out .exit)) ⌝ }
 {
     if kind == FieldType::NULL_TERMINATED_STRING {
         return store_terminated(octets, out, at);
@@ -157,33 +156,42 @@ fn store_octets(kind: u16, octets: &[u8], out: &mut [u8], at: usize) -> Appended
     if 0 < width {
         return store_plain(octets, out, at);
     }
-    store_counted(octets, out, at)
+    store_counted(order, octets, out, at)
 }
 
-// Appends the field of a type that holds a value, at a place of the output: the place after it, or 16 for a value that is not of the type
-// and 12 for an output that is too short. The octets count where the value is octets.
-pub fn append(kind: u16, value: Value, octets: &[u8], out: &mut [u8], at: usize) -> Appended
-    ensures { λ r. ⌜ Answered appendedAnswer r (appendOf kind value (now (octets .entry)) (now (out .entry)) at)
-        (appendAnswer kind value (now (octets .entry)) (now (out .entry)) at)
-        × (now (out .exit) ≡ appendOut kind value (now (octets .entry)) (now (out .entry)) at) ⌝ }
+// Appends the field of a type that holds a value, under a table of an octet order, at a place of the output: the place after it, or 16 for
+// a value that is not of the type and 12 for an output that is too short. The octets count where the value is octets.
+pub fn append(
+    order: OctetOrder,
+    kind: u16,
+    value: Value,
+    octets: &[u8],
+    out: &mut [u8],
+    at: usize,
+) -> Appended
+    ensures { λ r. ⌜ Answered appendedAnswer r (appendOf order kind value (now (octets .entry)) (now (out .entry)) at)
+        (appendAnswer order kind value (now (octets .entry)) (now (out .entry)) at)
+        × (now (out .exit) ≡ appendOut order kind value (now (octets .entry)) (now (out .entry)) at) ⌝ }
 {
-    let width = FieldType { number: kind }.width() as usize;
+    let field_type = FieldType { number: kind };
+    let width = field_type.width() as usize;
+    let field_order = field_type.field_order(order);
     match value {
         Value::Octets => {
             if octets_fit(kind, octets) {
-                return store_octets(kind, octets, out, at);
+                return store_octets(field_order, kind, octets, out, at);
             }
             Appended::Refused(Answer::RECORD_INVALID)
         }
         Value::Number(n) => {
             if number_fits(kind, n) {
-                return store_number(width, n, out, at);
+                return store_number(field_order, width, n, out, at);
             }
             Appended::Refused(Answer::RECORD_INVALID)
         }
         Value::Negative(n) => {
             if negative_fits(kind, n) {
-                return store_number(width, octets::greatest(width) - n + 1, out, at);
+                return store_number(field_order, width, octets::greatest(width) - n + 1, out, at);
             }
             Appended::Refused(Answer::RECORD_INVALID)
         }

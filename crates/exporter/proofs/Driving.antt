@@ -1,6 +1,6 @@
 -- The session of the front page goes as it is written: each call is computed from its definition, on what the call before it left.
 use mathlib.Core.Path.{refl}
-use Rattle.octets.specs.Numbers.{numberOf, uintAt, octetsOf, putAt}
+use Rattle.octets.specs.Numbers.{numberOf, uintIn, octetsIn, putAt}
 use Rattle.octets.specs.Each.{every, firstFrom}
 use Rattle.wire.specs.FieldTypes.{widthOf, isType, isSigned, isNumber}
 use Rattle.wire.specs.Table.{keySound, blockEnd, headSound, paddingSound, blockSound, blockAt, tableSound, templateIndex, templateAt, findOf, locateOf}
@@ -15,5 +15,5 @@ use Rattle.session.specs.InOctets.{afterEvent}
 use Rattle.exporter.specs.Driving.{Driven}
 
 pub driven : Driven
-unfolding numberOf uintAt octetsOf putAt every firstFrom widthOf isType isSigned isNumber keySound blockEnd headSound paddingSound blockSound blockAt tableSound templateIndex templateAt findOf locateOf fixedLength blobLength stringLength terminatedLength fieldLength fieldAt recordValid recordAnswer isMessage bodyFits messageOf layoutOf headerAnswerFor headerReadingFor readAnswer dataHeadOf meaningOf readOf partAt partOf writeAnswer choose changed settle transition sentOne acknowledged otherAgreed expired ticked ringRead ringWrite sumOf recordAt heldFrom has hasOther pushed dropFront marked settingsSound numbersSound sound ackCount formAnswer callOfMessage received headOf written checks answer after settled storeAfter step fresh setUp begin afterEvent
+unfolding numberOf uintIn octetsIn putAt every firstFrom widthOf isType isSigned isNumber keySound blockEnd headSound paddingSound blockSound blockAt tableSound templateIndex templateAt findOf locateOf fixedLength blobLength stringLength terminatedLength fieldLength fieldAt recordValid recordAnswer isMessage bodyFits messageOf layoutOf headerAnswerFor headerReadingFor readAnswer dataHeadOf meaningOf readOf partAt partOf writeAnswer choose changed settle transition sentOne acknowledged otherAgreed expired ticked ringRead ringWrite sumOf recordAt heldFrom has hasOther pushed dropFront marked settingsSound numbersSound sound ackCount formAnswer callOfMessage received headOf written checks answer after settled storeAfter step fresh setUp begin afterEvent
 driven = ((refl, refl), ((refl, refl), ((refl, refl), ((refl, refl), ((refl, refl), ((refl, refl), ((refl, refl), ((refl, refl), ((refl, refl), tt)))))))))

@@ -5,7 +5,8 @@ use mathlib.Core.List.{List, [], _∷_}
 use lib.Dec.{eqb}
 use lib.ListN.{length, getD}
 use Rattle.octets.specs.Answers.{done, unsoundTable}
-use Rattle.wire.specs.Table.{tableSound}
+use Rattle.wire.specs.Table.{tableSound, flagsSound, orderOf}
+use Rattle.wire.specs.Append.{appendOf, appendOut}
 use Rattle.wire.specs.Messages.{start, startAck, stop, stopAck, tmplData, finalTmplDataAck, startNegotiate, startNegotiateAck, dataNumber, dataAck, writeOf, writeOut}
 use Rattle.tables.specs.declared.table.Template.{Template}
 use Rattle.tables.specs.declared.table.Found.{Found}
@@ -156,3 +157,14 @@ countedNumber (counted.Refused a) = a
 abbrev pub appendedNumber : Appended → ℕ
 appendedNumber (appended.Next place) = acceptedNumber place
 appendedNumber (appended.Refused a) = a
+
+-- Appending under a table of given flags is judged 21, 16, 12: 21 for flags that no sound table has, and otherwise the number of what
+-- appending answers.
+unfoldable pub appendUnder : ℕ → ℕ → Value → List ℕ → List ℕ → ℕ → ℕ
+appendUnder flags type value octets out at =
+    cond (flagsSound flags) (appendedNumber (appendOf (orderOf flags) type value octets out at)) unsoundTable
+
+-- The output afterwards: as it was where the flags are refused.
+unfoldable pub appendUnderOut : ℕ → ℕ → Value → List ℕ → List ℕ → ℕ → List ℕ
+appendUnderOut flags type value octets out at =
+    cond (flagsSound flags) (appendOut (orderOf flags) type value octets out at) out

@@ -3,10 +3,9 @@ ghost use mathlib.Core.Path.{_≡_};
 ghost use lib.ListN.{getD};
 ghost use Rattle.wire.specs.Walk.{openOf, openAnswer, stepOf};
 ghost use Rattle.wire.specs.Count.{countOf};
-ghost use Rattle.wire.specs.Append.{appendOf, appendOut};
-ghost use Rattle.exports.specs.Numbers.{valueSort, valueSize, fieldParts, stepPart, valueOf, countedNumber, appendedNumber};
-use crate::numbers::accepted;
-use crate::numbers::sole_part;
+ghost use Rattle.exports.specs.Numbers.{valueSort, valueSize, fieldParts, stepPart, valueOf, countedNumber, appendedNumber, appendUnder, appendUnderOut};
+use crate::parts::accepted;
+use crate::parts::sole_part;
 use octets::Answer;
 use wire::append::Appended;
 use wire::reader::Counted;
@@ -135,9 +134,11 @@ fn appended_number(appended: Appended) -> u64
     }
 }
 
-// Appends the field of a type that holds a value at a place of the output: the place after it plus 256, or 16 or 12.
+// Appends the field of a type that holds a value, under a table of given flags, at a place of the output: the place after it plus 256, or
+// 21 for flags that no table has, 16 or 12.
 #[no_mangle]
 pub extern "C" fn crane_append(
+    flags: u8,
     kind: u16,
     sort: u8,
     number: u64,
@@ -145,8 +146,18 @@ pub extern "C" fn crane_append(
     out: &mut [u8],
     at: usize,
 ) -> u64
-    ensures { λ n. ⌜ (n ≡ appendedNumber (appendOf kind (valueOf sort number) (now (octets .entry)) (now (out .entry)) at))
-        × (now (out .exit) ≡ appendOut kind (valueOf sort number) (now (octets .entry)) (now (out .entry)) at) ⌝ }
+    ensures { λ n. ⌜ (n ≡ appendUnder flags kind (valueOf sort number) (now (octets .entry)) (now (out .entry)) at)
+        × (now (out .exit) ≡ appendUnderOut flags kind (valueOf sort number) (now (octets .entry)) (now (out .entry)) at) ⌝ }
 {
-    appended_number(wire::append::append(kind, value_of(sort, number), octets, out, at))
+    if !wire::table::flags_sound(flags) {
+        return Answer::UNSOUND_TABLE as u64;
+    }
+    appended_number(wire::append::append(
+        wire::table::order_of(flags),
+        kind,
+        value_of(sort, number),
+        octets,
+        out,
+        at,
+    ))
 }

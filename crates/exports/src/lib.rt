@@ -3,5 +3,5 @@
 // `crane_` are those that a C or Rust program links; they answer any octets and numbers.
 pub mod fields;
 pub mod message_calls;
-pub mod numbers;
+pub mod parts;
 pub mod table_calls;

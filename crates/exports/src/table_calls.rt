@@ -45,6 +45,6 @@ pub extern "C" fn crane_find_part(table: &[u8], id: u16, part: u8) -> u64
     let found = wire::table::find_template(table, id);
     match found {
         Found::At(m) => template_part(part, m),
-        Found::Refused(a) => crate::numbers::sole_part(part, a as u64),
+        Found::Refused(a) => crate::parts::sole_part(part, a as u64),
     }
 }

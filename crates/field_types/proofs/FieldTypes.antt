@@ -8,8 +8,8 @@ use borrow.Author.Tests.{ltb-true, ltb-false, eqb-true, ne-eqb, lt-leb}
 use lib.Dec.{ltb, leb, eqb}
 use lib.ListN.{getD, take, drop}
 use Rattle.octets.specs.Each.{every}
-use Rattle.field_types.specs.FieldTypes.{booleanType, signed8Type, signed16Type, signed32Type, signed64Type, doubleType, ipv4Type, secondsType, microseconds32Type, stringType, terminatedType, blobType}
-use Rattle.field_types.specs.FieldTypes.{Row, rows, ofRow, widthOf, isType, isSigned, isNumber, isSignedClass, isNumberClass}
+use Rattle.field_types.specs.FieldTypes.{booleanType, unsigned8Type, signed8Type, signed16Type, signed32Type, signed64Type, doubleType, ipv4Type, secondsType, microseconds32Type, stringType, terminatedType, blobType}
+use Rattle.field_types.specs.FieldTypes.{Row, rows, ofRow, widthOf, isType, isSigned, isNumber, isTurned, isSignedClass, isNumberClass}
 use Rattle.octets.proofs.Each.{every-at, and-left, and-right, and-false, same, same-true}
 
 -- every row has a number below b
@@ -87,6 +87,29 @@ unfolding every isSigned
 signed-code n =
     split signedCode isSigned refl
     (λ n h. rw (ne-eqb n signed8Type (λ e. omega arith), ne-eqb n signed16Type (λ e. omega arith), ne-eqb n signed32Type (λ e. omega arith), ne-eqb n signed64Type (λ e. omega arith)) (none-of (eqb n stringType) (eqb n terminatedType) (eqb n blobType) false) ∙ sym (past-fixed (λ r. isSignedClass (r .class)) false n h))
+    n
+
+abbrev turnedCode : ℕ → Bool
+turnedCode n = (leb unsigned8Type n && leb n doubleType) || eqb n stringType || eqb n blobType
+
+-- of the three, the string and the blob are turned
+turned-rest : (n : ℕ) → (eqb n stringType || eqb n blobType) ≡ cond (eqb n stringType) true (cond (eqb n terminatedType) false (cond (eqb n blobType) true false))
+turned-rest n = go (eqb n blobType) refl
+  where
+    string-alone : (a b : Bool) → (a || false) ≡ cond a true (cond b false false)
+    string-alone true b = refl
+    string-alone false true = refl
+    string-alone false false = refl
+
+    go : (c : Bool) → eqb n blobType ≡ c → (eqb n stringType || c) ≡ cond (eqb n stringType) true (cond (eqb n terminatedType) false (cond c true false))
+    go true e = rw (eqb-true n blobType e)
+    go false e = string-alone (eqb n stringType) (eqb n terminatedType)
+
+pub turned-code : (n : ℕ) → turnedCode n ≡ isTurned n
+unfolding every isTurned
+turned-code n =
+    split turnedCode isTurned refl
+    (λ n h. rw (lt-leb n doubleType (omega arith), and-false (leb unsigned8Type n)) (turned-rest n) ∙ sym (past-fixed (λ r. r .turns) false n h))
     n
 
 -- the widths in the code's order: by number, from 0

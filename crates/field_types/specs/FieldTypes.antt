@@ -1,22 +1,35 @@
--- The field types, one row each (01, "Template table").
+-- The field types, one row each (01, "Template table"; 02, ask 6).
 use Prim.Native.Nat.{ℕ}
-use mathlib.Core.Bool.{Bool, true, false}
+use mathlib.Core.Bool.{Bool, true, false, cond}
 use mathlib.Core.List.{List, [], _∷_, map}
 use Rattle.octets.specs.Each.{lookUp}
+use Rattle.numbers.specs.declared.OctetOrder.{OctetOrder}
+use Rattle.numbers.specs.declared.OctetOrder.the-variants.{BigEndian}
 
 -- What the octets of a field stand for: an unsigned number (floats by their bits, Booleans and times too), a signed number, or themselves.
 pub data Class : Type 0 where
   unsigned signed octets : Class
 
--- A row: the type's number, the width of its fields in octets, 0 where that varies, and its class.
+-- A row: the type's number, the width of its fields in octets, 0 where that varies, its class, and whether under a little-endian table the
+-- number in its fields (the value, or the 32-bit length in front) stands least significant octet first. Where there is no number of two
+-- octets or more, as in an address, the last column changes no field.
 pub record Row : Type 0 where
   pub number : ℕ
   pub width : ℕ
   pub class : Class
+  pub turns : Bool
 
 -- A row, by its columns.
-abbrev pub row : ℕ → ℕ → Class → Row
-row number width class = record { number = number; width = width; class = class }
+abbrev pub row : ℕ → ℕ → Class → Bool → Row
+row number width class turns = record { number = number; width = width; class = class; turns = turns }
+
+-- The last column where under a little-endian table the least significant octet stands first.
+abbrev pub turned : Bool
+turned = true
+
+-- The last column where a field is the same under every table.
+abbrev pub unturned : Bool
+unturned = false
 
 -- ---- the numbers of the types
 
@@ -109,17 +122,17 @@ blobType = 0x4015
 -- Boolean; the integers; float and double; the two addresses; the five times; string, null terminated string and blob.
 abbrev pub rows : List Row
 rows =
-    row booleanType 1 unsigned
-    ∷ row unsigned8Type 1 unsigned ∷ row signed8Type 1 signed
-    ∷ row unsigned16Type 2 unsigned ∷ row signed16Type 2 signed
-    ∷ row unsigned32Type 4 unsigned ∷ row signed32Type 4 signed
-    ∷ row unsigned64Type 8 unsigned ∷ row signed64Type 8 signed
-    ∷ row floatType 4 unsigned ∷ row doubleType 8 unsigned
-    ∷ row ipv4Type 4 octets ∷ row ipv6Type 16 octets
-    ∷ row secondsType 4 unsigned
-    ∷ row milliseconds64Type 8 unsigned ∷ row microseconds64Type 8 unsigned
-    ∷ row milliseconds32Type 4 unsigned ∷ row microseconds32Type 4 unsigned
-    ∷ row stringType 0 octets ∷ row terminatedType 0 octets ∷ row blobType 0 octets
+    row booleanType 1 unsigned unturned
+    ∷ row unsigned8Type 1 unsigned turned ∷ row signed8Type 1 signed turned
+    ∷ row unsigned16Type 2 unsigned turned ∷ row signed16Type 2 signed turned
+    ∷ row unsigned32Type 4 unsigned turned ∷ row signed32Type 4 signed turned
+    ∷ row unsigned64Type 8 unsigned turned ∷ row signed64Type 8 signed turned
+    ∷ row floatType 4 unsigned turned ∷ row doubleType 8 unsigned turned
+    ∷ row ipv4Type 4 octets unturned ∷ row ipv6Type 16 octets unturned
+    ∷ row secondsType 4 unsigned unturned
+    ∷ row milliseconds64Type 8 unsigned unturned ∷ row microseconds64Type 8 unsigned unturned
+    ∷ row milliseconds32Type 4 unsigned unturned ∷ row microseconds32Type 4 unsigned unturned
+    ∷ row stringType 0 octets turned ∷ row terminatedType 0 octets unturned ∷ row blobType 0 octets turned
     ∷ []
 
 -- The numbers of all types, in the rows' order.
@@ -157,3 +170,11 @@ isSigned n = ofRow (λ r. isSignedClass (r .class)) false rows n
 -- The type's fields are numbers.
 unfoldable pub isNumber : ℕ → Bool
 isNumber n = ofRow (λ r. isNumberClass (r .class)) false rows n
+
+-- The number in the type's fields has the octet order of the table.
+unfoldable pub isTurned : ℕ → Bool
+isTurned n = ofRow (λ r. r .turns) unturned rows n
+
+-- The octet order of the number in a type's fields, under a table of an octet order.
+unfoldable pub fieldOrder : OctetOrder → ℕ → OctetOrder
+fieldOrder order n = cond (isTurned n) order BigEndian

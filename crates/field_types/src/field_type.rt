@@ -1,6 +1,7 @@
-// The types of a record's fields, for reader and writer: each has one number, width and signedness.
+// The types of a record's fields, for reader and writer: each has one number, width, signedness and order.
 ghost use mathlib.Core.Path.{_≡_};
-ghost use Rattle.field_types.specs.FieldTypes.{typeNumbers, widthOf, isType, isSigned, isNumber};
+ghost use Rattle.field_types.specs.FieldTypes.{typeNumbers, widthOf, isType, isSigned, isNumber, isTurned, fieldOrder};
+use octets::OctetOrder;
 
 // A field type, by its number.
 pub struct FieldType {
@@ -172,5 +173,25 @@ impl FieldType {
         let n = self.number;
         ((FieldType::BOOLEAN <= n) & (n <= FieldType::DOUBLE))
             | ((FieldType::TIME_SEC <= n) & (n <= FieldType::TIME_USEC_32))
+    }
+
+    // Whether the number in fields of the type has the octet order of the table: integers, floats, and the lengths of strings and blobs.
+    pub fn is_turned(self) -> bool
+        ensures { λ r. ⌜ r ≡ isTurned (self .number) ⌝ }
+    {
+        let n = self.number;
+        ((FieldType::UNSIGNED_8 <= n) & (n <= FieldType::DOUBLE))
+            | (n == FieldType::STRING)
+            | (n == FieldType::BLOB)
+    }
+
+    // The octet order of the number in fields of the type, under a table of an octet order.
+    pub fn field_order(self, order: OctetOrder) -> OctetOrder
+        ensures { λ r. ⌜ r ≡ fieldOrder order (self .number) ⌝ }
+    {
+        if self.is_turned() {
+            return order;
+        }
+        OctetOrder::BigEndian
     }
 }

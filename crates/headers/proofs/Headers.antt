@@ -8,7 +8,7 @@ use native.Mathlib.Omega.{arith}
 use borrow.Author.Tests.{ltb-false, eqb-true, not-false, le-ltb, eq-eqb}
 use lib.ListN.{length, drop, length-drop}
 use Rattle.octets.specs.Answers.{done}
-use Rattle.octets.specs.Numbers.{numberOf, uintAt, octetsOf, Octets}
+use Rattle.octets.specs.Numbers.{numberOf, uintIn, uintAt, octetsIn, Octets}
 use Rattle.octets.proofs.Numbers.{uint-one, uint-append, read-back, cut, cut-one}
 use Rattle.octets.proofs.Judging.{Passed, passed, kept}
 use Rattle.headers.specs.Headers.{headerOctets, versionOf, messageNumber, sessionOf, lengthField, headerFor, messageFor}
@@ -19,7 +19,7 @@ use Rattle.headers.specs.declared.header.HeaderReading.the-variants as h
 
 module _ (version n s : ℕ) (body : List ℕ) where
   pub message-length : length (messageFor version n s body) ≡ headerOctets + length body
-  unfolding octetsOf
+  unfolding octetsIn
   message-length = omega arith
 
   pub version-of : versionOf (messageFor version n s body) ≡ version
@@ -32,16 +32,16 @@ module _ (version n s : ℕ) (body : List ℕ) where
   session-of = uint-one _ 2
 
   pub body-of : drop headerOctets (messageFor version n s body) ≡ body
-  unfolding octetsOf
+  unfolding octetsIn
   body-of = refl
 
   -- a number of the body, at its place of the message
   pub at-body : (k w : ℕ) → uintAt (messageFor version n s body) (headerOctets + k) w ≡ uintAt body k w
-  unfolding octetsOf
+  unfolding octetsIn
   at-body k w = uint-append (headerFor version n s (8 + length body)) body k w
 
   pub field-of : headerOctets + length body < 2 ^ 32 → lengthField (messageFor version n s body) ≡ length (messageFor version n s body)
-  unfolding octetsOf uintAt numberOf
+  unfolding octetsIn uintIn numberOf
   field-of h = read-back 4 (8 + length body) h ∙ sym message-length
 
   -- its header is not refused

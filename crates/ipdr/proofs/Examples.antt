@@ -1,19 +1,15 @@
 -- The examples hold: each row is shown by computing the definitions on it.
 use mathlib.Core.Path.{refl}
-use Rattle.octets.specs.Numbers.{numberOf, uintAt, octetsOf}
+use Rattle.octets.specs.Numbers.{numberOf, uintIn, octetsIn}
+use Rattle.octets.proofs.Each.{_and_}
 use Rattle.headers.specs.Headers.{headerAnswerFor, headerReadingFor}
 use Rattle.ipdr.specs.Fields.{countedFits}
 use Rattle.ipdr.specs.Messages.{isMessage, widthsOf, isCounted, contentBy, bodyOf, layoutBy, bodyFits, readAnswer, meaningOf, readOf}
 use Rattle.ipdr.specs.Messages.{partAt, partOf, writeAnswerBy, writeBy, writeOutBy}
 use Rattle.ipdr.specs.Examples.{AllHold, rows}
 
--- One row, and those behind it.
-infixr 20 _and_
-_and_ : {A B : Type 0} → A → B → A × B
-row and rest = (row, rest)
-
 pub examples : AllHold rows
-unfolding numberOf uintAt octetsOf headerAnswerFor headerReadingFor countedFits isMessage widthsOf isCounted contentBy bodyOf layoutBy bodyFits readAnswer meaningOf readOf partAt partOf writeAnswerBy writeBy writeOutBy
+unfolding numberOf uintIn octetsIn headerAnswerFor headerReadingFor countedFits isMessage widthsOf isCounted contentBy bodyOf layoutBy bodyFits readAnswer meaningOf readOf partAt partOf writeAnswerBy writeBy writeOutBy
 examples =
     (refl, (refl, (refl, refl))) and (refl, (refl, (refl, refl))) and (refl, (refl, (refl, refl))) and (refl, (refl, (refl, refl)))
     and (refl, (refl, (refl, refl))) and (refl, (refl, (refl, refl))) and (refl, (refl, (refl, refl))) and (refl, (refl, (refl, refl)))

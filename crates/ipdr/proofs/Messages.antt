@@ -9,7 +9,7 @@ use lib.Dec.{eqb, ltb}
 use lib.ListN.{length, drop, length-append}
 use lib.Seq.{sets, length-sets}
 use Rattle.octets.specs.Answers.{done, messageNotAccepted, bodyLengthWrong, outputTooShort, recordTooLong}
-use Rattle.octets.specs.Numbers.{octetsOf, putAt}
+use Rattle.octets.specs.Numbers.{octetsIn, octetsOf, putAt}
 use Rattle.octets.proofs.Numbers.{octets-length}
 use Rattle.octets.proofs.Stores.{put-fits, sets-append}
 use Rattle.octets.proofs.Judging.{Passed, passed, judged-done, judged-first, judged-next}
@@ -236,7 +236,7 @@ module _ (x : MessageNumbers) (part : List ℕ) where
       ∙ sym (append-assoc (headerFor protocolVersion n (x .session) size) fields tail)
 
   front-length : length front ≡ fixedOctets n
-  unfolding octetsOf
+  unfolding octetsIn
   front-length = omega (arith, fields-length (widthsOf n) (x .values))
 
   module _ (out : List ℕ) where
@@ -256,7 +256,7 @@ module _ (x : MessageNumbers) (part : List ℕ) where
         (header : l ≡ putAt out 0 (headerFor protocolVersion n (x .session) size))
         (put : k ≡ putFields l headerOctets (widthsOf n) (x .values)) where
       fields-behind : k ≡ sets out 0 front
-      unfolding octetsOf
+      unfolding octetsIn
       fields-behind =
           let h = headerFor protocolVersion n (x .session) size in
           let e : l ≡ sets out 0 h = header ∙ put-fits out 0 h (omega arith) in

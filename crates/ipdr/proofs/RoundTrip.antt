@@ -9,7 +9,7 @@ use lib.Dec.{eqb, ltb}
 use lib.Seq.{sets}
 use lib.ListN.{length, take, drop, length-append, drop-of-length-le}
 use Rattle.octets.specs.Answers.{done}
-use Rattle.octets.specs.Numbers.{uintAt, octetsOf, Octets}
+use Rattle.octets.specs.Numbers.{uintAt, octetsIn, Octets}
 use Rattle.octets.proofs.Stores.{output-begins}
 use Rattle.headers.specs.Headers.{headerOctets, messageNumber, sessionOf, headerFor, messageFor}
 use Rattle.headers.proofs.Headers as header
@@ -156,7 +156,7 @@ module _ (n s : ℕ) (vs part : List ℕ) (known : isMessage n ≡ true) (fit : 
       sym (append-assoc header (octetsByWidths (widthsOf n) vs) (cond (isCounted n) (countedOctets part) []))
 
   front-length : length front ≡ fixedOctets n
-  unfolding octetsOf
+  unfolding octetsIn
   front-length = omega (arith, fields-length (widthsOf n) vs)
 
   fits : bodyFits n m ≡ true
@@ -169,7 +169,7 @@ module _ (n s : ℕ) (vs part : List ℕ) (known : isMessage n ≡ true) (fit : 
   answered = reads m (header.header-right protocolVersion n s body body-small) (rw number known) (rw number fits)
 
   values : valuesAt m headerOctets (widthsOf n) ≡ vs
-  unfolding bodyOf octetsOf
+  unfolding bodyOf octetsIn
   values =
       let header = headerFor protocolVersion n s (headerOctets + length body) in
       values-back (widthsOf n) vs fit header (cond (isCounted n) (countedOctets part) []) 8 refl

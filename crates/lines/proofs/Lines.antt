@@ -10,7 +10,7 @@ use borrow.Author.Tests.{lt-ltb, le-ltb, le-leb, lt-leb}
 use lib.ListN.{length, getD, set, drop, length-append, drop-of-length-le}
 use lib.Seq.{sets, length-sets, drop-cons}
 use lib.Dec.{ltb}
-use Rattle.octets.specs.Numbers.{octetsOf, putAt}
+use Rattle.octets.specs.Numbers.{octetsIn, octetsOf, putAt}
 use Rattle.octets.proofs.Stores.{cond-cases, put-fits, sets-then, put-then}
 use Rattle.lines.specs.Lines.{space, newline, digit, decimal, hex, writtenText, lineOf, numberDigits, lineOctets, fitted, Stored, Printed}
 
@@ -86,7 +86,7 @@ nothing-shown text at (x ∷ octets) e = absurd (omega arith)
 
 pub some-shown : (text : List ℕ) (at : ℕ) (octets first after : List ℕ) → (length octets ≡ 0 → ⊥) → at + 1 ≤ length text
     → first ≡ putAt text at (octetsOf 1 space) → after ≡ sets first (at + 1) (hex octets) → Shown text at octets (at + 1 + 2 * length octets) after
-unfolding octetsOf
+unfolding octetsIn
 some-shown text at [] first after h l f e = absurd (h refl)
 some-shown text at (x ∷ octets) first after h l f e =
     let n = hex-length (x ∷ octets) in
@@ -103,7 +103,7 @@ pub line-joined : (text octets t₁ t₂ t₃ t₄ t₅ : List ℕ) (p a first s
     → Spelt text 0 p first t₁ → t₂ ≡ putAt t₁ first (octetsOf 1 space) → Spelt t₂ (first + 1) a second t₃
     → Shown t₃ second octets last t₄ → t₅ ≡ putAt t₄ last (octetsOf 1 newline)
     → (last + 1 ≡ length (lineOf p a octets)) × (t₅ ≡ sets text 0 (lineOf p a octets))
-unfolding octetsOf lineOf
+unfolding octetsIn lineOf
 line-joined text octets t₁ t₂ t₃ t₄ t₅ p a first second last h s₁ e₂ s₃ s₄ e₅ =
     let d = decimal p in
     let sp : List ℕ = space ∷ [] in

@@ -1,17 +1,16 @@
 -- Laws of messages: what an answer of 0 says of a message, and what writing answers.
 use mathlib.Core.Path.{_≡_, refl, sym, ap, _∙_}
 use mathlib.Core.Bool.{Bool, true, false, cond, not, _&&_}
-use mathlib.Core.List.{List, [], _∷_, _++_}
+use mathlib.Core.List.{List, [], _++_}
 use Prim.Native.Nat.{ℕ, _+_, _-_, _≤_, _<_}
-use native.Mathlib.Nat.{zero-add}
 use native.Mathlib.Omega.{arith}
 use borrow.Author.Tests.{ltb-true, ltb-false, eqb-true, not-false, le-ltb, lt-ltb, le-leb, lt-leb, eq-eqb, ne-eqb}
 use lib.Dec.{eqb, leb, ltb}
-use lib.ListN.{length, take, drop, length-drop}
-use lib.Seq.{take-all, sets, length-sets}
+use lib.ListN.{length, drop}
+use lib.Seq.{sets}
 use Rattle.octets.specs.Answers.{judge, done, messageNotAccepted, bodyLengthWrong, outputTooShort, unsoundTable}
-use Rattle.octets.specs.Numbers.{octetsOf, putAt}
-use Rattle.octets.proofs.Stores.{put-fits, put-short, put-then, sets-append}
+use Rattle.octets.specs.Numbers.{octetsIn, putAt}
+use Rattle.octets.proofs.Stores.{put-fits, put-short, put-then}
 use Rattle.messages.specs.Messages.{Form, forms, isMessage, bodyFits, messageNumber, versionOf, lengthField, headerChecks, bodyChecks, headerAnswer, headerAnswerFor, readAnswer, sessionOf, meaningOf, readWhere, readTable, readOf, partAt, partOf, tmplData, dataNumber}
 use Rattle.tables.specs.Table.{tableSound}
 use Rattle.messages.specs.Messages.{headerOctets, protocolVersion, dataHeadLength, maxRecordOctets, headerOctetsOf, messageOf, dataFront, dataHeadOctets, Placed, isTmplData, isData, layoutOf, writeChecks, writeAnswer, writeOf, writeOut, headWriteAnswer, headWriteOut}
@@ -224,12 +223,12 @@ message-length number session body = shared.message-length protocolVersion numbe
 
 -- a DATA message is what stands in front of its record, then the record
 pub data-layout : (h : DataHead) (part : List ℕ) → layoutOf (Data h) part ≡ dataHeadOctets h (length part) ++ part
-unfolding layoutOf messageOf octetsOf
+unfolding layoutOf messageOf octetsIn
 data-layout h part =
     ap (λ (n : ℕ). (headerOctetsOf dataNumber (h .session) n ++ dataFront h) ++ part) (omega arith)
 
 pub data-length : (h : DataHead) (part : List ℕ) → length (layoutOf (Data h) part) ≡ dataHeadLength + length part
-unfolding octetsOf
+unfolding octetsIn
 data-length h part = ap length (data-layout h part) ∙ omega arith
 
 -- A DATA's head is judged as the whole message with any record of that length.
@@ -240,7 +239,7 @@ head-answer h part room = rw (data-length h part)
 -- The head, and the record put behind it, are the message.
 pub head-then-record : (h : DataHead) (part out : List ℕ) → writeAnswer (Data h) part (length out) ≡ done
     → putAt (headWriteOut h (length part) out) dataHeadLength part ≡ writeOut (Data h) part out
-unfolding writeAnswer headWriteOut writeOut octetsOf
+unfolding writeAnswer headWriteOut writeOut octetsIn
 head-then-record h part out e =
     let fits = ltb-false (length out) (length (layoutOf (Data h) part)) (passed (writeChecks (Data h) part (length out)) tt e .1 .1 .0) in
     rw (head-answer h part (length out), e)

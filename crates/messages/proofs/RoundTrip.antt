@@ -10,7 +10,7 @@ use lib.Dec.{eqb, leb, ltb}
 use lib.ListN.{length, take, drop, drop-of-length-le}
 use lib.Seq.{sets}
 use Rattle.octets.specs.Answers.{done}
-use Rattle.octets.specs.Numbers.{numberOf, uintAt, octetsOf, Octets}
+use Rattle.octets.specs.Numbers.{numberOf, uintIn, uintAt, octetsIn, octetsOf, Octets}
 use Rattle.octets.proofs.Numbers.{uint-one, uint-front, read-back, cut, cut-one}
 use Rattle.octets.proofs.Stores.{output-begins}
 use Rattle.messages.specs.Messages.{protocolVersion, Form, forms, isMessage, bodyFits, messageNumber, sessionOf, messageOf, dataFront, flagsOf, flagFirst, flagDuplicate, layoutOf}
@@ -99,19 +99,19 @@ module _ (h : DataHead) (part : List ℕ) where
   behind = dataFront h ++ part
 
   template-of : h .template < 2 ^ 16 → uintAt behind 0 2 ≡ h .template
-  unfolding octetsOf uintAt numberOf
+  unfolding octetsIn uintIn numberOf
   template-of l = read-back 2 (h .template) l
 
   dsn-of : h .dsn < 2 ^ 32 → uintAt behind 4 4 ≡ h .dsn
-  unfolding octetsOf uintAt numberOf
+  unfolding octetsIn uintIn numberOf
   dsn-of l = read-back 4 (h .dsn) l
 
   config-of : uintAt behind 2 1 ≡ h .config
-  unfolding octetsOf
+  unfolding octetsIn
   config-of = uint-one _ 2
 
   marks-of : uintAt behind 3 1 ≡ flagsOf (h .first) (h .duplicate)
-  unfolding octetsOf
+  unfolding octetsIn
   marks-of = uint-one _ 3
 
 first-of : (s d : Bool) → flagFirst (flagsOf s d) ≡ s
@@ -148,7 +148,7 @@ head-of h part t d =
 -- ---- THE ROUND TRIP: a message that can be written reads back as what it says, and hands back its part at its place.
 pub reads-back : (m : Message) (part : List ℕ) → Writable m part
     → (readOf (layoutOf m part) ≡ reading.Message m) × ((partOf (layoutOf m part) ≡ carried m part) × (partAt (layoutOf m part) ≡ carriedAt m))
-unfolding layoutOf messageOf octetsOf meaningOf isMessage bodyFits
+unfolding layoutOf messageOf octetsIn meaningOf isMessage bodyFits
 reads-back (Start s) part w = empty-back start s Start refl refl refl refl (λ m e. rw e)
 reads-back (StartAck s boot) part w =
     let body = octetsOf 4 boot in
@@ -234,7 +234,7 @@ module _ (m : List ℕ) (octet : Octets m) (answer : readAnswer m ≡ done) (pla
       cut m octet 8 4 (omega arith) ∙ ap (λ (x : List ℕ). octetsOf 4 (uintAt m 8 4) ++ x) (ended 12 (omega arith)) ∙ append-nil _
 
   zeros : (at : ℕ) → uintAt m at 3 ≡ 0 → length m ≡ at + 3 → drop at m ≡ 0 ∷ 0 ∷ 0 ∷ []
-  unfolding octetsOf
+  unfolding octetsIn
   zeros at z n =
       cut m octet at 3 (omega arith)
       ∙ ap (λ (x : List ℕ). octetsOf 3 (uintAt m at 3) ++ x) (ended (at + 3) (omega arith))
@@ -252,7 +252,7 @@ module _ (m : List ℕ) (octet : Octets m) (answer : readAnswer m ≡ done) (pla
       ∙ ap (λ (x : List ℕ). octetsOf 4 (uintAt m 8 4) ++ x) (cut-one m 12 (omega arith) ∙ ap (λ (x : List ℕ). uintAt m 12 1 ∷ x) (zeros 13 (plain .unused e) n))
 
   data-body : messageNumber m ≡ dataNumber → leb 8 (length m - 8) ≡ true → drop 8 m ≡ dataFront (dataHeadOf m) ++ drop 16 m
-  unfolding octetsOf dataHeadOf
+  unfolding octetsIn dataHeadOf
   data-body e l =
       let n : 16 ≤ length m = omega (arith, leb-true 8 (length m - 8) l) in
       let f : uintAt m 11 1 ≡ flagsOf (flagFirst (uintAt m 11 1)) (flagDuplicate (uintAt m 11 1)) = sym (flags-back (uintAt m 11 1) (plain .marks e)) in

@@ -1,12 +1,13 @@
-// Reading: unsigned numbers of 8, 16, 32 and 64 bits, or of any width, at a place of a slice, most significant octet first; and whether
-// octets there are ASCII. `octets` passes these on.
+// Reading: unsigned numbers of 8, 16, 32 and 64 bits at a place of a slice, most significant octet first, or of any width in either order;
+// and whether octets there are ASCII. `octets` passes these on.
 //
 // Every function is total: a read past the end reads 0.
 ghost use mathlib.Core.Path.{_≡_};
 ghost use mathlib.Core.List.{[], _∷_};
 ghost use Prim.Native.Nat.{_+_, _-_, _%_, _^_};
 ghost use lib.ListN.{getD};
-ghost use Rattle.numbers.specs.Numbers.{uintAt, smaller, allAscii};
+ghost use Rattle.numbers.specs.Numbers.{placeIn, uintIn, uintAt, smaller, allAscii};
+use numbers::OctetOrder;
 
 // The first number minus the second, 0 where the second is the larger: of len octets, how many lie from a place on.
 pub fn saturating_sub(a: usize, b: usize) -> usize
@@ -86,6 +87,16 @@ pub fn greatest(w: usize) -> u64
     if w <= 8 { GREATEST[w] } else { GREATEST[8] }
 }
 
+// Where digit i of w digits stands among their octets, digit 0 being the most significant.
+pub fn place_in(order: OctetOrder, w: usize, i: usize) -> usize
+    ensures { λ r. ⌜ r ≡ placeIn order w i ⌝ }
+{
+    match order {
+        OctetOrder::BigEndian => i,
+        OctetOrder::LittleEndian => saturating_sub(saturating_sub(w, 1), i),
+    }
+}
+
 // The octet i past a place.
 fn octet(s: &[u8], at: usize, i: usize) -> u8
     ensures { λ r. ⌜ r ≡ getD (now (s .entry)) (at + i) 0 ⌝ }
@@ -96,14 +107,14 @@ fn octet(s: &[u8], at: usize, i: usize) -> u8
     s[at + i]
 }
 
-// The number in the w octets at a place, at any width, modulo 2 to the 64: the number itself where w is at most 8.
-pub fn get_uint(s: &[u8], at: usize, w: usize) -> u64
-    ensures { λ r. ⌜ r ≡ uintAt (now (s .entry)) at w % 256 ^ 8 ⌝ }
+// The number in the w octets at a place, at any width and in either order, modulo 2 to the 64: the number itself where w is at most 8.
+pub fn get_uint(order: OctetOrder, s: &[u8], at: usize, w: usize) -> u64
+    ensures { λ r. ⌜ r ≡ uintIn order (now (s .entry)) at w % 256 ^ 8 ⌝ }
 {
     let mut v: u64 = 0;
     let mut i: usize = 0;
     while i < w {
-        v = v % 72057594037927936 * 256 + (octet(s, at, i) as u64);
+        v = v % 72057594037927936 * 256 + (octet(s, at, place_in(order, w, i)) as u64);
         i += 1;
     }
     v

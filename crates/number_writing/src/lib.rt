@@ -1,12 +1,13 @@
-// Writing: unsigned numbers of 8, 16, 32 and 64 bits, or of any width, most significant octet first, and octets, to a place of a slice.
-// `octets` passes these on.
+// Writing: unsigned numbers of 8, 16, 32 and 64 bits, most significant octet first, or of any width in either order, and octets, to a place
+// of a slice. `octets` passes these on.
 //
 // Every public function is total: a write that does not fit changes nothing.
 ghost use mathlib.Core.Path.{_≡_};
 ghost use Prim.Native.Nat.{_+_, _≤_};
 ghost use lib.ListN.{length};
 ghost use lib.Seq.{sets};
-ghost use Rattle.numbers.specs.Numbers.{octetsOf, putAt};
+ghost use Rattle.numbers.specs.Numbers.{octetsIn, octetsOf, putAt};
+use numbers::OctetOrder;
 
 // One octet to a place.
 pub fn put_u8(out: &mut [u8], at: usize, v: u8)
@@ -50,9 +51,9 @@ pub fn put_u64(out: &mut [u8], at: usize, v: u64)
     put_u32(out, at + 4, (v % 4294967296) as u32);
 }
 
-// A number to the w octets at a place, at any width; it is taken modulo 256 to the w.
-pub fn put_uint(out: &mut [u8], at: usize, w: usize, v: u64)
-    ensures { λ _. ⌜ now (out .exit) ≡ putAt (now (out .entry)) at (octetsOf w v) ⌝ }
+// A number to the w octets at a place, at any width and in either order; it is taken modulo 256 to the w.
+pub fn put_uint(order: OctetOrder, out: &mut [u8], at: usize, w: usize, v: u64)
+    ensures { λ _. ⌜ now (out .exit) ≡ putAt (now (out .entry)) at (octetsIn order w v) ⌝ }
 {
     if out.len() < at {
         return;
@@ -64,7 +65,7 @@ pub fn put_uint(out: &mut [u8], at: usize, w: usize, v: u64)
     let mut i = w;
     while 0 < i {
         i -= 1;
-        out[at + i] = (n % 256) as u8;
+        out[at + number_reading::place_in(order, w, i)] = (n % 256) as u8;
         n = n / 256;
     }
 }

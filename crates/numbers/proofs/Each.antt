@@ -145,3 +145,10 @@ pub first-least : (i n : ℕ) (p : ℕ → Bool) → i ≤ firstFrom i n p
 unfolding firstFrom
 first-least i zero p = le-refl i
 first-least i (suc n) p = cond-cases (λ (k : ℕ). i ≤ k) (p i) i (firstFrom (i + 1) n p) (λ e. le-refl i) (λ e. omega (arith, first-least (i + 1) n p))
+
+-- ---- tables of examples
+
+-- What one row says, and those behind it.
+infixr 20 _and_
+pub _and_ : {A B : Type 0} → A → B → A × B
+row and rest = (row, rest)

@@ -1,5 +1,5 @@
 -- Octets stored at a place: what fits is stored and what does not changes nothing; two stores, one behind the other, are one. A number is
--- stored in two halves, or octet by octet from its last one.
+-- stored in two parts, or octet by octet from its least significant one, in either order.
 use mathlib.Core.Path.{_≡_, refl, sym, ap, _∙_}
 use mathlib.Core.Bool.{Bool, true, false, cond}
 use mathlib.Core.List.{List, [], _∷_, _++_, append-assoc}
@@ -10,8 +10,10 @@ use native.Mathlib.Omega.{arith}
 use borrow.Author.Tests.{le-leb, lt-leb}
 use lib.ListN.{length, getD, take, drop, set, length-append, drop-of-length-le, List·getD-append, length-drop, take-append-drop}
 use lib.Seq.{sets, sets-eq, length-sets, drop-cons, length-take-le, getD-append-add, set-comm, take-all, drop-drop, take-at, drop-at}
-use Rattle.numbers.specs.Numbers.{uintAt, octetsOf, putAt}
-use Rattle.numbers.proofs.Numbers.{uint-same, octets-length, octets-join, octets-mod, read-back}
+use Rattle.numbers.specs.Numbers.{placeIn, uintIn, joinIn, octetsIn, putAt}
+use Rattle.numbers.specs.declared.OctetOrder.{OctetOrder}
+use Rattle.numbers.specs.declared.OctetOrder.the-variants.{BigEndian, LittleEndian}
+use Rattle.numbers.proofs.Numbers.{highAt, lowAt, uint-in-same, octets-in-length, octets-in-join, octets-in-mod, read-back-in}
 
 -- a claim about a choice holds where it holds in each case
 pub cond-cases : {A : Type 0} (P : A → Type 0) (b : Bool) (x y : A) → (b ≡ true → P x) → (b ≡ false → P y) → P (cond b x y)
@@ -43,23 +45,6 @@ put-join out at a b h =
     ∙ sets-append a out at b
     ∙ sym (put-fits out at (a ++ b) (omega (arith, length-append a b)))
 
--- a number written in two halves, of a and of b octets
-put-halves : (out : List ℕ) (at a b v : ℕ) → at + a + b ≤ length out
-    → putAt (putAt out at (octetsOf a (v / 256 ^ b))) (at + a) (octetsOf b (v % 256 ^ b)) ≡ putAt out at (octetsOf (a + b) v)
-put-halves out at a b v h =
-    let x = octetsOf a (v / 256 ^ b) in
-    let n : length x ≡ a = octets-length a (v / 256 ^ b) in
-    let m : length (octetsOf b v) ≡ b = octets-length b v in
-    ap (putAt (putAt out at x) (at + a)) (octets-mod b v)
-    ∙ ap (λ (k : ℕ). putAt (putAt out at x) (at + k) (octetsOf b v)) (sym n)
-    ∙ put-join out at x (octetsOf b v) (omega arith)
-    ∙ ap (putAt out at) (sym (octets-join a b v))
-
--- the same of what two stores left: `mid` between them, `after` in the end
-pub put-twice : (out mid after : List ℕ) (at a b v : ℕ) → mid ≡ putAt out at (octetsOf a (v / 256 ^ b))
-    → after ≡ putAt mid (at + a) (octetsOf b (v % 256 ^ b)) → at + a + b ≤ length out → after ≡ putAt out at (octetsOf (a + b) v)
-put-twice out mid after at a b v p q h = q ∙ ap (λ (l : List ℕ). putAt l (at + a) (octetsOf b (v % 256 ^ b))) p ∙ put-halves out at a b v h
-
 -- the octets that were stored stand at their place
 pub sets-at : (out : List ℕ) (at : ℕ) (vs : List ℕ) (i : ℕ) → at + length vs ≤ length out → i < length vs → getD (sets out at vs) (at + i) 0 ≡ getD vs i 0
 sets-at out at vs i h l =
@@ -89,36 +74,105 @@ pub sets-front : (out l vs : List ℕ) → l ≡ sets out 0 vs → length vs ≤
 sets-front out l vs e h = ap (take (length vs)) e ∙ output-begins vs out h .0
 
 -- reading a number where it was written gives it back
-pub put-reads : (out : List ℕ) (at w v : ℕ) → at + w ≤ length out → v < 256 ^ w → uintAt (putAt out at (octetsOf w v)) at w ≡ v
-put-reads out at w v h l =
-    let vs = octetsOf w v in
-    let n : length vs ≡ w = octets-length w v in
-    ap (λ (o : List ℕ). uintAt o at w) (put-fits out at vs (omega arith))
-    ∙ uint-same (sets out at vs) vs at 0 w (λ i k. sets-at out at vs i (omega arith) (omega arith) ∙ ap (λ (j : ℕ). getD vs j 0) (sym (zero-add i)))
-    ∙ read-back w v l
+pub put-reads : (order : OctetOrder) (out : List ℕ) (at w v : ℕ) → at + w ≤ length out → v < 256 ^ w
+    → uintIn order (putAt out at (octetsIn order w v)) at w ≡ v
+put-reads order out at w v h l =
+    let vs = octetsIn order w v in
+    let n : length vs ≡ w = octets-in-length order w v in
+    ap (λ (o : List ℕ). uintIn order o at w) (put-fits out at vs (omega arith))
+    ∙ uint-in-same order (sets out at vs) vs at 0 w
+    (λ i k. sets-at out at vs i (omega arith) (omega arith) ∙ ap (λ (j : ℕ). getD vs j 0) (sym (zero-add i)))
+    ∙ read-back-in order w v l
 
--- an octet stored behind those that are stored in front of it
-set-behind : (vs l : List ℕ) (at x : ℕ) → sets (set l (at + length vs) x) at vs ≡ set (sets l at vs) (at + length vs) x
-set-behind [] l at x = refl
-set-behind (y ∷ vs) l at x =
-    let e : at + suc (length vs) ≡ suc at + length vs = add-suc at (length vs) ∙ sym (suc-add at (length vs)) in
-    ap (λ (r : List ℕ). sets r (suc at) vs) (set-comm l (at + suc (length vs)) at x y (λ q. omega arith))
-    ∙ ap (λ (n : ℕ). sets (set (set l at y) n x) (suc at) vs) e
-    ∙ set-behind vs (set l at y) (suc at) x
-    ∙ ap (λ (n : ℕ). set (sets (set l at y) (suc at) vs) n x) (sym e)
+-- an octet stored in front of others that are stored
+set-before : (vs l : List ℕ) (at k x : ℕ) → at < k → set (sets l k vs) at x ≡ sets (set l at x) k vs
+set-before [] l at k x h = refl
+set-before (y ∷ vs) l at k x h =
+    set-before vs (set l k y) at (suc k) x (omega arith) ∙ ap (λ (r : List ℕ). sets r (suc k) vs) (set-comm l k at y x (λ q. omega arith))
 
--- a turn of a loop that writes a number from its last octet on
-pub number-step : (l : List ℕ) (at i v : ℕ) → 0 < i → sets (set l (at + (i - 1)) (v % 256)) at (octetsOf (i - 1) (v / 256)) ≡ sets l at (octetsOf i v)
-unfolding octetsOf
-number-step l at zero v h = absurd (omega arith)
-number-step l at (suc i) v h =
+-- octets stored in front of those that are stored behind them
+sets-before : (a l : List ℕ) (at : ℕ) (b : List ℕ) → sets (sets l (at + length a) b) at a ≡ sets l at (a ++ b)
+sets-before [] l at b = ap (λ (n : ℕ). sets l n b) (add-zero at)
+sets-before (x ∷ a) l at b =
+    let e : at + suc (length a) ≡ suc at + length a = add-suc at (length a) ∙ sym (suc-add at (length a)) in
+    ap (λ (r : List ℕ). sets r (suc at) a) (set-before b l at (at + suc (length a)) x (omega arith))
+    ∙ ap (λ (n : ℕ). sets (sets (set l at x) n b) (suc at) a) e
+    ∙ sets-before a (set l at x) (suc at) b
+
+-- octets of more significance stored first, then those of less
+store-high-first : (order : OctetOrder) (l : List ℕ) (at : ℕ) (high low : List ℕ)
+    → sets (sets l (highAt order at (length low)) high) (lowAt order at (length high)) low ≡ sets l at (joinIn order high low)
+store-high-first BigEndian l at high low = sets-append high l at low
+store-high-first LittleEndian l at high low = sets-before low l at high
+
+-- octets of less significance stored first, then those of more
+store-low-first : (order : OctetOrder) (l : List ℕ) (at : ℕ) (high low : List ℕ)
+    → sets (sets l (lowAt order at (length high)) low) (highAt order at (length low)) high ≡ sets l at (joinIn order high low)
+store-low-first BigEndian l at high low = sets-before high l at low
+store-low-first LittleEndian l at high low = sets-append low l at high
+
+-- where a number has room, so have its parts
+parts-fit : (order : OctetOrder) (at a b n : ℕ) → at + (a + b) ≤ n → (highAt order at b + a ≤ n) × (lowAt order at a + b ≤ n)
+parts-fit BigEndian at a b n h = (omega arith, omega arith)
+parts-fit LittleEndian at a b n h = (omega arith, omega arith)
+
+-- a number written in two parts, of a octets and of b of less significance
+put-parts : (order : OctetOrder) (out : List ℕ) (at a b v : ℕ) → at + (a + b) ≤ length out
+    → putAt (putAt out (highAt order at b) (octetsIn order a (v / 256 ^ b))) (lowAt order at a) (octetsIn order b (v % 256 ^ b))
+    ≡ putAt out at (octetsIn order (a + b) v)
+put-parts order out at a b v h =
+    let high = octetsIn order a (v / 256 ^ b) in
+    let low = octetsIn order b v in
+    let n : length high ≡ a = octets-in-length order a (v / 256 ^ b) in
+    let m : length low ≡ b = octets-in-length order b v in
+    let fit = parts-fit order at a b (length out) h in
+    let first = sets out (highAt order at b) high in
+    let l = length-sets out (highAt order at b) high in
+    ap (putAt (putAt out (highAt order at b) high) (lowAt order at a)) (octets-in-mod order b v)
+    ∙ ap (λ (o : List ℕ). putAt o (lowAt order at a) low) (put-fits out (highAt order at b) high (omega arith))
+    ∙ put-fits first (lowAt order at a) low (omega arith)
+    ∙ ap (λ (k : ℕ). sets (sets out (highAt order at k) high) (lowAt order at a) low) (sym m)
+    ∙ ap (λ (k : ℕ). sets (sets out (highAt order at (length low)) high) (lowAt order at k) low) (sym n)
+    ∙ store-high-first order out at high low
+    ∙ ap (sets out at) (sym (octets-in-join order a b v))
+    ∙ sym (put-fits out at (octetsIn order (a + b) v) (omega (arith, octets-in-length order (a + b) v)))
+
+-- the same of what two stores left: `mid` between them, `after` in the end
+pub put-twice : (order : OctetOrder) (out mid after : List ℕ) (at a b v : ℕ) → mid ≡ putAt out (highAt order at b) (octetsIn order a (v / 256 ^ b))
+    → after ≡ putAt mid (lowAt order at a) (octetsIn order b (v % 256 ^ b)) → at + (a + b) ≤ length out
+    → after ≡ putAt out at (octetsIn order (a + b) v)
+put-twice order out mid after at a b v p q h =
+    q ∙ ap (λ (l : List ℕ). putAt l (lowAt order at a) (octetsIn order b (v % 256 ^ b))) p ∙ put-parts order out at a b v h
+
+-- Of w octets, those of more significance than the last w - i begin at `highAt order at (w - i)`: at first all of them.
+pub high-whole : (order : OctetOrder) (at w : ℕ) → highAt order at (w - w) ≡ at
+high-whole BigEndian at w = refl
+high-whole LittleEndian at w = omega arith
+
+high-next : (order : OctetOrder) (at w i : ℕ) → suc i ≤ w → highAt order at (w - i) ≡ highAt order (highAt order at (w - suc i)) 1
+high-next BigEndian at w i h = refl
+high-next LittleEndian at w i h = omega arith
+
+low-next : (order : OctetOrder) (at w i : ℕ) → suc i ≤ w → at + placeIn order w i ≡ lowAt order (highAt order at (w - suc i)) i
+low-next BigEndian at w i h = refl
+low-next LittleEndian at w i h = refl
+
+-- a turn of a loop that writes a number from its least significant octet on
+pub number-step : (order : OctetOrder) (l : List ℕ) (at w i v : ℕ) → 0 < i → i ≤ w
+    → sets (set l (at + placeIn order w (i - 1)) (v % 256)) (highAt order at (w - (i - 1))) (octetsIn order (i - 1) (v / 256))
+    ≡ sets l (highAt order at (w - i)) (octetsIn order i v)
+unfolding octetsIn
+number-step order l at w zero v h k = absurd (omega arith)
+number-step order l at w (suc i) v h k =
     let e : suc i - 1 ≡ i = omega arith in
-    let vs = octetsOf i (v / 256) in
-    let n : length vs ≡ i = octets-length i (v / 256) in
-    ap (λ (k : ℕ). sets (set l (at + k) (v % 256)) at (octetsOf k (v / 256))) e
-    ∙ ap (λ (k : ℕ). sets (set l (at + k) (v % 256)) at vs) (sym n)
-    ∙ set-behind vs l at (v % 256)
-    ∙ sets-append vs l at (v % 256 ∷ [])
+    let high = octetsIn order i (v / 256) in
+    let low = v % 256 ∷ [] in
+    let start = highAt order at (w - suc i) in
+    let n : length high ≡ i = octets-in-length order i (v / 256) in
+    ap (λ (j : ℕ). sets (sets l (at + placeIn order w j) low) (highAt order at (w - j)) (octetsIn order j (v / 256))) e
+    ∙ ap (λ (j : ℕ). sets (sets l j low) (highAt order at (w - i)) high) (low-next order at w i k ∙ ap (lowAt order start) (sym n))
+    ∙ ap (λ (j : ℕ). sets (sets l (lowAt order start (length high)) low) j high) (high-next order at w i k)
+    ∙ store-low-first order l start high low
 
 -- the invariant of a loop that stores `octets` from `at` on: `out` was `before` and has i of them, and storing the others gives what
 -- storing all of them in `before` gives

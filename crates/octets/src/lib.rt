@@ -1,6 +1,6 @@
-// Unsigned numbers of 8, 16, 32 and 64 bits at a place of a slice, most significant octet first, octets copied to a place or judged there,
-// and the answer numbers that all crates share. The functions stand in `number_reading` and `number_writing`, the definitions and laws in
-// `numbers`.
+// Unsigned numbers at a place of a slice, of 8, 16, 32 and 64 bits most significant octet first and of any width in either order, octets
+// copied to a place or judged there, and the answer numbers that all crates share. The functions stand in `number_reading` and
+// `number_writing`, the definitions and laws in `numbers`.
 //
 // Every function is total: a read past the end reads 0, and a write that does not fit changes nothing.
 ghost use mathlib.Core.Path.{_≡_};
@@ -22,6 +22,7 @@ pub use number_writing::put_u16;
 pub use number_writing::put_u32;
 pub use number_writing::put_u64;
 pub use number_writing::put_uint;
+pub use numbers::OctetOrder;
 
 // A name for the constants below, the answer numbers of every call; answers themselves are `u8`.
 pub struct Answer {

@@ -40,7 +40,7 @@ impl<'a> Reader<'a> {
     pub fn step(self, t: &[u8], id: u16) -> Step
         ensures { λ s. ⌜ Answered stepAnswer s (stepFrom (now (t .entry)) id (now (self .entry .«record»)) (self .entry .place))
             (stepFromJudged (now (t .entry)) id (now (self .entry .«record»)) (self .entry .place))
-            × Exact (now (self .entry .«record»)) s ⌝ }
+            × Exact (now (t .entry)) (now (self .entry .«record»)) s ⌝ }
     {
         records::walk::step_from(t, id, self.record, self.place)
     }

@@ -8,10 +8,11 @@ use native.Mathlib.Omega.{arith}
 use borrow.Author.Tests.{ltb-true, ltb-false}
 use lib.Dec.{eqb, ltb}
 use lib.ListN.{length, getD}
-use Rattle.octets.specs.Numbers.{uintAt}
+use Rattle.octets.specs.Numbers.{uintIn}
+use Rattle.numbers.specs.declared.OctetOrder.{OctetOrder}
 use Rattle.octets.proofs.Stores.{cond-cases}
 use Rattle.octets.specs.Each.{every, firstFrom}
-use Rattle.field_types.specs.FieldTypes.{widthOf, booleanType, stringType, terminatedType, blobType}
+use Rattle.field_types.specs.FieldTypes.{widthOf, fieldOrder, booleanType, stringType, terminatedType, blobType}
 use Rattle.records.specs.Record.{left, fixedLength, blobLength, stringLength, terminatedLength, fieldLength}
 
 -- a choice of two lengths
@@ -33,31 +34,34 @@ pub fixed-within : (type : ℕ) (r : List ℕ) (at : ℕ) → fixedLength type r
 unfolding fixedLength
 fixed-within type r at =
     choice _ (ltb (left r at) (widthOf type)) _ _ (λ e. none _)
-    (λ e. choice _ (eqb type booleanType && ltb 1 (uintAt r at 1)) 0 (widthOf type) (λ f. none _) (λ f. ltb-false _ _ e))
+    (λ e. choice _ (eqb type booleanType && ltb 1 (getD r at 0)) 0 (widthOf type) (λ f. none _) (λ f. ltb-false _ _ e))
 
-pub blob-within : (r : List ℕ) (at : ℕ) → blobLength r at ≤ left r at
+pub blob-within : (order : OctetOrder) (r : List ℕ) (at : ℕ) → blobLength order r at ≤ left r at
 unfolding blobLength
-blob-within r at = choice _ _ _ _ (λ e. none _) (λ e. choice _ _ _ _ (λ f. none _) (λ f. behind (length r) 4 (uintAt r at 4) at e f))
+blob-within order r at =
+    choice _ _ _ _ (λ e. none _) (λ e. choice _ _ _ _ (λ f. none _) (λ f. behind (length r) 4 (uintIn order r at 4) at e f))
 
 -- a blob has its length in front
-pub blob-counts : (r : List ℕ) (at : ℕ) → 0 < blobLength r at → 4 ≤ blobLength r at
+pub blob-counts : (order : OctetOrder) (r : List ℕ) (at : ℕ) → 0 < blobLength order r at → 4 ≤ blobLength order r at
 unfolding blobLength
-blob-counts r at =
+blob-counts order r at =
+    let n = uintIn order r at 4 in
     cond-cases (λ (n : ℕ). 0 < n → 4 ≤ n) (ltb (left r at) 4) 0 _ (λ e h. omega arith)
-    (λ e. cond-cases (λ (n : ℕ). 0 < n → 4 ≤ n) (ltb (left r (at + 4)) (uintAt r at 4)) 0 (4 + uintAt r at 4) (λ f h. omega arith) (λ f h. omega arith))
+    (λ e. cond-cases (λ (n : ℕ). 0 < n → 4 ≤ n) (ltb (left r (at + 4)) n) 0 (4 + n) (λ f h. omega arith) (λ f h. omega arith))
 
-pub string-within : (r : List ℕ) (at : ℕ) → stringLength r at ≤ left r at
+pub string-within : (order : OctetOrder) (r : List ℕ) (at : ℕ) → stringLength order r at ≤ left r at
 unfolding stringLength
-string-within r at = choice _ (every (blobLength r at - 4) (λ i. ltb (getD r (at + 4 + i) 0) 128)) _ _ (λ e. blob-within r at) (λ e. none _)
+string-within order r at =
+    choice _ (every (blobLength order r at - 4) (λ i. ltb (getD r (at + 4 + i) 0) 128)) _ _ (λ e. blob-within order r at) (λ e. none _)
 
 pub terminated-within : (r : List ℕ) (at : ℕ) → terminatedLength r at ≤ left r at
 unfolding terminatedLength
 terminated-within r at = choice _ _ _ _ (up-to (length r) (firstFrom at (left r at) (λ p. eqb (getD r p 0) 0)) at) (λ e. none _)
 
-pub field-within : (type : ℕ) (r : List ℕ) (at : ℕ) → fieldLength type r at ≤ length r - at
+pub field-within : (order : OctetOrder) (type : ℕ) (r : List ℕ) (at : ℕ) → fieldLength order type r at ≤ length r - at
 unfolding fieldLength
-field-within type r at =
+field-within order type r at =
     choice _ (ltb 0 (widthOf type)) _ _ (λ e. fixed-within type r at)
-    (λ e. choice _ (eqb type stringType) _ _ (λ f. string-within r at)
+    (λ e. choice _ (eqb type stringType) _ _ (λ f. string-within (fieldOrder order type) r at)
     (λ f. choice _ (eqb type terminatedType) _ _ (λ g. terminated-within r at)
-    (λ g. choice _ (eqb type blobType) _ _ (λ h. blob-within r at) (λ h. none _))))
+    (λ g. choice _ (eqb type blobType) _ _ (λ h. blob-within (fieldOrder order type) r at) (λ h. none _))))

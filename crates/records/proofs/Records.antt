@@ -1,5 +1,5 @@
--- A field that is due is valid exactly if its length is above 0, and lies within the record. `fields_valid` cites this at each key. Assumes
--- nothing.
+-- A field of a fixed width has its length under every table. A field that is due is valid exactly if its length is above 0, and lies within
+-- the record; `fields_valid` cites this at each key.
 use mathlib.Core.Path.{_≡_, refl}
 use mathlib.Core.Bool.{Bool, true, false, not, _&&_, _||_, false≢true}
 use mathlib.Core.List.{List}
@@ -10,10 +10,17 @@ use borrow.Author.Tests.{lt-ltb, eqb-true, eqb-false}
 use lib.Dec.{eqb, ltb}
 use lib.ListN.{length}
 use Rattle.octets.proofs.Stores.{cond-cases}
-use Rattle.tables.specs.Table.{keyAt, keyType, isEnabled}
-use Rattle.records.specs.Record.{fieldLength, lengthUnder, fieldAt}
+use Rattle.tables.specs.Table.{tableOrder, keyAt, keyType, isEnabled}
+use Rattle.numbers.specs.declared.OctetOrder.{OctetOrder}
+use Rattle.field_types.specs.FieldTypes.{widthOf}
+use Rattle.records.specs.Record.{fixedLength, fieldLength, lengthUnder, fieldAt}
 use Rattle.tables.specs.declared.table.Template.{Template}
 use Rattle.records.proofs.FieldsWithin.{field-within}
+
+-- a field of a fixed width has its length under a table of any order
+pub fixed-length : (order : OctetOrder) (type : ℕ) (r : List ℕ) (at : ℕ) → 0 < widthOf type → fixedLength type r at ≡ fieldLength order type r at
+unfolding fieldLength
+fixed-length order type r at some = rw (lt-ltb 0 (widthOf type) some)
 
 -- a field that is due is valid unless its length is 0
 pub valid-field : (due : Bool) (n : ℕ) → due && eqb n 0 ≡ false → not due || ltb 0 n ≡ true
@@ -35,4 +42,6 @@ field-at-more t m r k = rw add-one refl
 -- a key's field lies within the record
 pub under-within : (t : List ℕ) (m : Template) (r : List ℕ) (k at : ℕ) → lengthUnder t m r k at ≤ length r - at
 under-within t m r k at =
-    cond-cases (λ (n : ℕ). n ≤ length r - at) (isEnabled t (keyAt (m .keys) k)) (fieldLength (keyType t (keyAt (m .keys) k)) r at) 0 (λ e. field-within (keyType t (keyAt (m .keys) k)) r at) (λ e. omega arith)
+    let type = keyType t (keyAt (m .keys) k) in
+    cond-cases (λ (n : ℕ). n ≤ length r - at) (isEnabled t (keyAt (m .keys) k)) (fieldLength (tableOrder t) type r at) 0
+    (λ e. field-within (tableOrder t) type r at) (λ e. omega arith)

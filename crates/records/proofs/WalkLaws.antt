@@ -14,7 +14,7 @@ use lib.ListN.{length, take, drop, take-append-drop, drop-of-length-le}
 use lib.Seq.{drop-drop}
 use Rattle.octets.specs.Answers.{done, _when_, unsoundTable, templateNotFound, recordInvalid}
 use Rattle.octets.specs.Each.{every}
-use Rattle.tables.specs.Table.{keyAt, keyType, isEnabled, tableSound, isMissing, templateOf, templateChecks, findAnswer}
+use Rattle.tables.specs.Table.{tableOrder, keyAt, keyType, isEnabled, tableSound, isMissing, templateOf, templateChecks, findAnswer}
 use Rattle.records.specs.Record.{fieldLength, lengthUnder, fieldAt, fieldValid, recordValid, recordAnswer}
 use Rattle.records.specs.Walk.{fieldOf, stepJudged, openAnswer, stepAnswer}
 use Rattle.records.specs.Walk.{nextKey, stepUnder, stepOf, walkStart, openOf, afterStep, visited, lastCursor, lastAnswer, laidOut, enabledFrom, enabledKeys, enabledTypes, fieldUnder}
@@ -128,13 +128,13 @@ module _ (t : List ℕ) (m : Template) (r : List ℕ) (k : ℕ) where
   step-field valid h on =
       let type = keyType t (keyAt (m .keys) k) in
       let at = fieldAt t m r k in
-      let some : ltb 0 (fieldLength type r at) ≡ true =
+      let some : ltb 0 (fieldLength (tableOrder t) type r at) ≡ true =
       rw on at (every-at (m .count) (fieldValid t m r) (and-left (every (m .count) (fieldValid t m r)) (eqb (fieldAt t m r (m .count)) (length r)) valid) k h) in
-      let p : fieldAt t m r (k + 1) ≡ at + fieldLength type r at = field-next t m r k ∙ rw on in
+      let p : fieldAt t m r (k + 1) ≡ at + fieldLength (tableOrder t) type r at = field-next t m r k ∙ rw on in
       rw (
         first-here k (m .count - k) (λ k. isEnabled t (keyAt (m .keys) k)) (omega arith) on,
         lt-leb (m .count) k h,
-        ne-eqb (fieldLength type r at) 0 (λ e. omega (arith, ltb-true 0 (fieldLength type r at) some)),
+        ne-eqb (fieldLength (tableOrder t) type r at) 0 (λ e. omega (arith, ltb-true 0 (fieldLength (tableOrder t) type r at) some)),
         p,
       )
 
@@ -227,7 +227,7 @@ open-number t id r = kept openAnswer (opened.At walkStart) opened.Refused refl (
 
 pub step-number : (t : List ℕ) (id : ℕ) (r : List ℕ) (c : Cursor) → stepAnswer (stepOf t id r c) ≡ stepJudged t id r c
 unfolding stepOf stepUnder stepJudged
-step-number t id r c = go (tableSound t) (isMissing t id) (leb (m .count) k) (eqb (fieldLength type r (c .at)) 0)
+step-number t id r c = go (tableSound t) (isMissing t id) (leb (m .count) k) (eqb (fieldLength (tableOrder t) type r (c .at)) 0)
   where
     m : Template
     m = templateOf t id
@@ -244,7 +244,7 @@ step-number t id r c = go (tableSound t) (isMissing t id) (leb (m .count) k) (eq
     go : (sound missing last none : Bool)
         → stepAnswer
         (cond (eqb (judged sound missing done) done)
-        (cond last step.End (cond none (step.Refused recordInvalid) (step.Next (fieldOf type r (c .at)) (record { index = k + 1; at = c .at + fieldLength type r (c .at) }))))
+        (cond last step.End (cond none (step.Refused recordInvalid) (step.Next (fieldOf (tableOrder t) type r (c .at)) (record { index = k + 1; at = c .at + fieldLength (tableOrder t) type r (c .at) }))))
         (step.Refused (judged sound missing done)))
         ≡ judged sound missing (cond (not last && none) recordInvalid done)
     go false missing last none = refl

@@ -7,8 +7,9 @@ use native.Mathlib.Nat.{one-le-pow, pow-suc, pow-le-pow-right, mod-eq-of-lt, lt-
 use native.Mathlib.Omega.{arith}
 use borrow.Author.Tests.{le-leb, lt-leb, leb-true, leb-false}
 use lib.Dec.{lit<, leb, ltb}
-use Rattle.octets.specs.Numbers.{uintAt, Octets}
-use Rattle.octets.proofs.Numbers.{uint-below}
+use Rattle.octets.specs.Numbers.{uintIn, Octets}
+use Rattle.numbers.specs.declared.OctetOrder.{OctetOrder}
+use Rattle.octets.proofs.Numbers.{uint-in-below}
 
 -- the greatest of them
 pub pow-u64 : (w : ℕ) → w ≤ 8 → 256 ^ w ≤ 256 ^ 8
@@ -23,8 +24,10 @@ pow-even zero h = absurd (omega arith)
 pow-even (suc w) h = omega (arith, pow-suc 256 w)
 
 -- the number in w octets is below 256 to the w, and itself modulo 2 to the 64
-pub uint-u64 : (s : List ℕ) → Octets s → (at w : ℕ) → w ≤ 8 → (uintAt s at w < 256 ^ w) × (uintAt s at w % 256 ^ 8 ≡ uintAt s at w)
-uint-u64 s octet at w h = (uint-below s octet at w, mod-eq-of-lt (lt-of-lt-of-le (uint-below s octet at w) (pow-u64 w h)))
+pub uint-u64 : (order : OctetOrder) (s : List ℕ) → Octets s → (at w : ℕ) → w ≤ 8
+    → (uintIn order s at w < 256 ^ w) × (uintIn order s at w % 256 ^ 8 ≡ uintIn order s at w)
+uint-u64 order s octet at w h =
+    let below = uint-in-below order s octet at w in (below, mod-eq-of-lt (lt-of-lt-of-le below (pow-u64 w h)))
 
 -- ---- the tests of the code, which has the greatest number of w octets in place of 256 to the w
 

@@ -1,14 +1,16 @@
--- Fields and records: how long the field of a type is that begins at a place, and which octets are a valid record (01, "Template table").
+-- Fields and records: how long the field of a type is that begins at a place, and which octets are a valid record (01, "Template table";
+-- 02, ask 6).
 use Prim.Native.Nat.{ℕ, zero, suc, _+_, _-_}
 use mathlib.Core.Bool.{Bool, cond, not, _&&_, _||_}
 use mathlib.Core.List.{List, [], _∷_, _++_}
 use lib.Dec.{eqb, ltb}
 use lib.ListN.{length, getD}
 use Rattle.octets.specs.Answers.{_when_, judge, recordInvalid}
-use Rattle.octets.specs.Numbers.{uintAt, allAscii}
+use Rattle.octets.specs.Numbers.{uintIn, allAscii}
 use Rattle.octets.specs.Each.{every, firstFrom}
-use Rattle.field_types.specs.FieldTypes.{widthOf, booleanType, stringType, terminatedType, blobType}
-use Rattle.tables.specs.Table.{keyAt, keyType, isEnabled, templateOf, templateChecks}
+use Rattle.numbers.specs.declared.OctetOrder.{OctetOrder}
+use Rattle.field_types.specs.FieldTypes.{widthOf, fieldOrder, booleanType, stringType, terminatedType, blobType}
+use Rattle.tables.specs.Table.{tableOrder, keyAt, keyType, isEnabled, templateOf, templateChecks}
 use Rattle.tables.specs.declared.table.Template.{Template}
 
 -- ---- the length of the field that begins at a place of a record, 0 where no valid field of its type does (a field has an octet at least)
@@ -21,22 +23,22 @@ left r at = length r - at
 unfoldable pub fixedLength : ℕ → List ℕ → ℕ → ℕ
 fixedLength type r at =
     cond (ltb (left r at) (widthOf type)) 0
-    (cond (eqb type booleanType && ltb 1 (uintAt r at 1)) 0 (widthOf type))
+    (cond (eqb type booleanType && ltb 1 (getD r at 0)) 0 (widthOf type))
 
 -- Octets of the 32-bit length of a string or blob.
 abbrev pub lengthOctets : ℕ
 lengthOctets = 4
 
--- A blob: a 32-bit length, then as many octets.
-unfoldable pub blobLength : List ℕ → ℕ → ℕ
-blobLength r at =
-    cond (ltb (left r at) lengthOctets) 0
-    (cond (ltb (left r (at + lengthOctets)) (uintAt r at lengthOctets)) 0 (lengthOctets + uintAt r at lengthOctets))
+-- A blob: a 32-bit length in an octet order, then as many octets.
+unfoldable pub blobLength : OctetOrder → List ℕ → ℕ → ℕ
+blobLength order r at =
+    let n = uintIn order r at lengthOctets in
+    cond (ltb (left r at) lengthOctets) 0 (cond (ltb (left r (at + lengthOctets)) n) 0 (lengthOctets + n))
 
 -- A string: a blob whose octets after its length are below 128.
-unfoldable pub stringLength : List ℕ → ℕ → ℕ
-stringLength r at =
-    cond (allAscii r (at + lengthOctets) (blobLength r at - lengthOctets)) (blobLength r at) 0
+unfoldable pub stringLength : OctetOrder → List ℕ → ℕ → ℕ
+stringLength order r at =
+    cond (allAscii r (at + lengthOctets) (blobLength order r at - lengthOctets)) (blobLength order r at) 0
 
 -- A null terminated string ends with the first zero from its place on, and that zero counts.
 unfoldable pub terminatedLength : List ℕ → ℕ → ℕ
@@ -44,19 +46,19 @@ terminatedLength r at =
     let zeroAt = firstFrom at (left r at) (λ p. eqb (getD r p 0) 0) in
     cond (ltb zeroAt (length r)) (zeroAt + 1 - at) 0
 
--- The field of a type.
-unfoldable pub fieldLength : ℕ → List ℕ → ℕ → ℕ
-fieldLength type r at =
+-- The field of a type, under a table of an octet order.
+unfoldable pub fieldLength : OctetOrder → ℕ → List ℕ → ℕ → ℕ
+fieldLength order type r at =
     cond (ltb 0 (widthOf type)) (fixedLength type r at)
-    (cond (eqb type stringType) (stringLength r at)
+    (cond (eqb type stringType) (stringLength (fieldOrder order type) r at)
     (cond (eqb type terminatedType) (terminatedLength r at)
-    (cond (eqb type blobType) (blobLength r at) 0)))
+    (cond (eqb type blobType) (blobLength (fieldOrder order type) r at) 0)))
 
 -- ---- a record under a template
 
 -- The length of key k's field at a place of the record: 0 for a disabled key, which has no field.
 abbrev pub lengthUnder : List ℕ → Template → List ℕ → ℕ → ℕ → ℕ
-lengthUnder t m r k at = cond (isEnabled t (keyAt (m .keys) k)) (fieldLength (keyType t (keyAt (m .keys) k)) r at) 0
+lengthUnder t m r k at = cond (isEnabled t (keyAt (m .keys) k)) (fieldLength (tableOrder t) (keyType t (keyAt (m .keys) k)) r at) 0
 
 -- Where key k's field begins: the fields of the enabled keys before it stand in front, in order and unpadded.
 unfoldable pub fieldAt : List ℕ → Template → List ℕ → ℕ → ℕ

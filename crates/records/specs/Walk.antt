@@ -1,4 +1,4 @@
--- Going through a record field by field (01, "Template table").
+-- Going through a record field by field (01, "Template table"; 02, ask 6).
 use Prim.Native.Nat.{ℕ, zero, suc, _+_, _-_, _*_, _^_}
 use mathlib.Core.Path.{_≡_}
 use mathlib.Core.Bool.{Bool, cond, not, _&&_}
@@ -8,10 +8,11 @@ use lib.Dec.{eqb, leb, ltb}
 use lib.IntN.{ℤ, pos, negℤ, subℕ}
 use lib.ListN.{getD, take, drop}
 use Rattle.octets.specs.Answers.{_when_, judge, done, recordInvalid}
-use Rattle.octets.specs.Numbers.{uintAt}
+use Rattle.octets.specs.Numbers.{placeIn, uintIn}
 use Rattle.octets.specs.Each.{firstFrom}
-use Rattle.field_types.specs.FieldTypes.{widthOf, isNumber, isSigned}
-use Rattle.tables.specs.Table.{keyAt, keyType, isEnabled, templateOf, templateChecks, findAnswer}
+use Rattle.numbers.specs.declared.OctetOrder.{OctetOrder}
+use Rattle.field_types.specs.FieldTypes.{widthOf, isNumber, isSigned, fieldOrder}
+use Rattle.tables.specs.Table.{tableOrder, keyAt, keyType, isEnabled, templateOf, templateChecks, findAnswer}
 use Rattle.records.specs.Record.{fieldLength, fieldAt, recordAnswer}
 use Rattle.tables.specs.declared.table.Template.{Template}
 use Rattle.records.specs.declared.walk.Value.{Value}
@@ -25,14 +26,16 @@ use Rattle.records.specs.declared.walk.Step.the-variants as step
 
 -- `Number n` is n and `Negative n` is minus n. In two's complement, u in w octets is u where it lies below half of 256 to the w, and
 -- otherwise minus what it lacks of 256 to the w.
-unfoldable pub signedAt : List ℕ → ℕ → ℕ → Value
-signedAt r at w = cond (ltb (2 * uintAt r at w) (256 ^ w)) (Number (uintAt r at w)) (Negative (256 ^ w - uintAt r at w))
+unfoldable pub signedAt : OctetOrder → List ℕ → ℕ → ℕ → Value
+signedAt order r at w =
+    let u = uintIn order r at w in
+    cond (ltb (2 * u) (256 ^ w)) (Number u) (Negative (256 ^ w - u))
 
--- The exact value of a field that is a number; addresses, strings and blobs are octets.
-unfoldable pub valueAt : ℕ → List ℕ → ℕ → Value
-valueAt type r at =
-    cond (isSigned type) (signedAt r at (widthOf type))
-    (cond (isNumber type) (Number (uintAt r at (widthOf type))) Octets)
+-- The exact value of a field that is a number, under a table of an octet order; addresses, strings and blobs are octets.
+unfoldable pub valueAt : OctetOrder → ℕ → List ℕ → ℕ → Value
+valueAt order type r at =
+    cond (isSigned type) (signedAt (fieldOrder order type) r at (widthOf type))
+    (cond (isNumber type) (Number (uintIn (fieldOrder order type) r at (widthOf type))) Octets)
 
 -- ---- exact values, in ℤ
 
@@ -42,22 +45,25 @@ integerOf (Number n) = some (pos n)
 integerOf (Negative n) = some (negℤ (pos n))
 integerOf Octets = none
 
--- Two's complement: the unsigned number in w octets, less 256 to the w where its highest bit is set, which is that of the first octet.
-unfoldable pub twosComplementAt : List ℕ → ℕ → ℕ → ℤ
-twosComplementAt r at w = cond (leb 128 (getD r at 0)) (subℕ (uintAt r at w) (256 ^ w)) (pos (uintAt r at w))
+-- Two's complement: the unsigned number in w octets, less 256 to the w where its highest bit is set, which is that of the most significant
+-- octet.
+unfoldable pub twosComplementAt : OctetOrder → List ℕ → ℕ → ℕ → ℤ
+twosComplementAt order r at w =
+    let u = uintIn order r at w in
+    cond (leb 128 (getD r (at + placeIn order w 0) 0)) (subℕ u (256 ^ w)) (pos u)
 
--- The integer in the octets of a type at a place: two's complement for signed types, the unsigned number for the other types of numbers,
--- times and the bits of floats too, and none for the rest.
-unfoldable pub integerAt : ℕ → List ℕ → ℕ → Option ℤ
-integerAt type r at =
-    cond (isSigned type) (some (twosComplementAt r at (widthOf type)))
-    (cond (isNumber type) (some (pos (uintAt r at (widthOf type)))) none)
+-- The integer in the octets of a type at a place, under a table of an octet order: two's complement for signed types, the unsigned number
+-- for the other types of numbers, times and the bits of floats too, and none for the rest.
+unfoldable pub integerAt : OctetOrder → ℕ → List ℕ → ℕ → Option ℤ
+integerAt order type r at =
+    cond (isSigned type) (some (twosComplementAt (fieldOrder order type) r at (widthOf type)))
+    (cond (isNumber type) (some (pos (uintIn (fieldOrder order type) r at (widthOf type)))) none)
 
 -- ---- a step, and opening
 
--- The field of a type that begins at a place.
-abbrev pub fieldOf : ℕ → List ℕ → ℕ → Field
-fieldOf type r at = record { kind = type; at = at; len = fieldLength type r at; value = valueAt type r at }
+-- The field of a type that begins at a place, under a table of an octet order.
+abbrev pub fieldOf : OctetOrder → ℕ → List ℕ → ℕ → Field
+fieldOf order type r at = record { kind = type; at = at; len = fieldLength order type r at; value = valueAt order type r at }
 
 -- The first enabled key from a key on; the template's count or more where there is none.
 unfoldable pub nextKey : List ℕ → Template → ℕ → ℕ
@@ -67,16 +73,16 @@ nextKey t m index = firstFrom index (m .count - index) (λ k. isEnabled t (keyAt
 unfoldable pub stepUnder : List ℕ → Template → List ℕ → Cursor → Step
 stepUnder t m r c =
     let k = nextKey t m (c .index) in
-    let type = keyType t (keyAt (m .keys) k) in
+    let field = fieldOf (tableOrder t) (keyType t (keyAt (m .keys) k)) r (c .at) in
     cond (leb (m .count) k) step.End
-    (cond (eqb (fieldLength type r (c .at)) 0) (step.Refused recordInvalid)
-    (step.Next (fieldOf type r (c .at)) (record { index = k + 1; at = c .at + fieldLength type r (c .at) })))
+    (cond (eqb (field .len) 0) (step.Refused recordInvalid)
+    (step.Next field (record { index = k + 1; at = c .at + field .len })))
 
 -- An enabled key is left, and no valid field of its type begins where the cursor stands.
 abbrev pub fieldMissing : List ℕ → Template → List ℕ → Cursor → Bool
 fieldMissing t m r c =
     let k = nextKey t m (c .index) in
-    not (leb (m .count) k) && eqb (fieldLength (keyType t (keyAt (m .keys) k)) r (c .at)) 0
+    not (leb (m .count) k) && eqb (fieldLength (tableOrder t) (keyType t (keyAt (m .keys) k)) r (c .at)) 0
 
 -- A step is judged 21, 15, then 16 by its field alone.
 unfoldable pub stepJudged : List ℕ → ℕ → List ℕ → Cursor → ℕ
@@ -105,11 +111,11 @@ abbrev pub stepFromJudged : List ℕ → ℕ → List ℕ → Opened → ℕ
 stepFromJudged t id r (opened.At c) = stepJudged t id r c
 stepFromJudged t id r (opened.Refused a) = a
 
--- The value of a field that a step answers stands for the integer in the field's octets; the end and a refusal have no value.
-abbrev pub Exact : List ℕ → Step → Type 0
-Exact r (step.Next f c) = integerOf (f .value) ≡ integerAt (f .kind) r (f .at)
-Exact r step.End = Unit {0}
-Exact r (step.Refused a) = Unit {0}
+-- The value of a field that a step under a table answers stands for the integer in the field's octets; the end and a refusal have no value.
+abbrev pub Exact : List ℕ → List ℕ → Step → Type 0
+Exact t r (step.Next f c) = integerOf (f .value) ≡ integerAt (tableOrder t) (f .kind) r (f .at)
+Exact t r step.End = Unit {0}
+Exact t r (step.Refused a) = Unit {0}
 
 -- The answer number of an opening: 0, or the refusal's.
 abbrev pub openAnswer : Opened → ℕ
@@ -166,4 +172,4 @@ enabledTypes t m = map (λ k. keyType t (keyAt (m .keys) k)) (enabledKeys t m)
 
 -- The field of key k in a record that is valid under the template.
 abbrev pub fieldUnder : List ℕ → Template → List ℕ → ℕ → Field
-fieldUnder t m r k = fieldOf (keyType t (keyAt (m .keys) k)) r (fieldAt t m r k)
+fieldUnder t m r k = fieldOf (tableOrder t) (keyType t (keyAt (m .keys) k)) r (fieldAt t m r k)

@@ -6,9 +6,11 @@ ghost use lib.ListN.{length, getD};
 ghost use Rattle.octets.specs.Each.{firstFrom};
 ghost use Rattle.tables.specs.Table.{keyOctets, keyAt, isEnabled};
 ghost use Rattle.field_types.specs.FieldTypes.{widthOf};
-ghost use Rattle.records.specs.Record.{blobLength, stringLength, terminatedLength, fieldLength, lengthUnder, recordValid, recordAnswer};
+ghost use Rattle.records.specs.Record.{fixedLength, blobLength, stringLength, terminatedLength, fieldLength, lengthUnder, recordValid, recordAnswer};
 use field_types::field_type::FieldType;
 use octets::Answer;
+use octets::OctetOrder;
+use tables::table::FLAGS_AT;
 use tables::table::Found;
 use tables::table::KEY_ATTRIBUTES_AT;
 use tables::table::KEY_OCTETS;
@@ -21,7 +23,7 @@ pub const LENGTH_OCTETS: usize = 4;
 // The length of the field of a type of a fixed width at a place, 0 where none is valid there.
 fn fixed_length(kind: u16, width: usize, r: &[u8], at: usize) -> usize
     requires { ⌜ (width ≡ widthOf kind) × (0 < width) ⌝ }
-    ensures { λ n. ⌜ n ≡ fieldLength kind (now (r .entry)) at ⌝ }
+    ensures { λ n. ⌜ n ≡ fixedLength kind (now (r .entry)) at ⌝ }
 {
     if octets::saturating_sub(r.len(), at) < width {
         return 0;
@@ -35,25 +37,25 @@ fn fixed_length(kind: u16, width: usize, r: &[u8], at: usize) -> usize
     width
 }
 
-// The length of the blob at a place, 0 where none is valid there.
-fn blob_length(r: &[u8], at: usize) -> usize
-    ensures { λ n. ⌜ n ≡ blobLength (now (r .entry)) at ⌝ }
+// The length of the blob at a place whose 32-bit length has an order, 0 where none is valid there.
+fn blob_length(order: OctetOrder, r: &[u8], at: usize) -> usize
+    ensures { λ n. ⌜ n ≡ blobLength order (now (r .entry)) at ⌝ }
 {
     if octets::saturating_sub(r.len(), at) < LENGTH_OCTETS {
         return 0;
     }
-    let n = crate::within::u32_at(r, at) as usize;
+    let n = crate::within::u32_in(order, r, at) as usize;
     if octets::saturating_sub(r.len(), at + LENGTH_OCTETS) < n {
         return 0;
     }
     LENGTH_OCTETS + n
 }
 
-// The length of the string at a place, 0 where none is valid there.
-fn string_length(r: &[u8], at: usize) -> usize
-    ensures { λ n. ⌜ n ≡ stringLength (now (r .entry)) at ⌝ }
+// The length of the string at a place whose 32-bit length has an order, 0 where none is valid there.
+fn string_length(order: OctetOrder, r: &[u8], at: usize) -> usize
+    ensures { λ n. ⌜ n ≡ stringLength order (now (r .entry)) at ⌝ }
 {
-    let n = blob_length(r, at);
+    let n = blob_length(order, r, at);
     if n == 0 {
         return 0;
     }
@@ -88,32 +90,32 @@ fn terminated_length(r: &[u8], at: usize) -> usize
     0
 }
 
-// The length of the field of a type whose width varies at a place of a record, 0 where none is valid there.
-fn varying_length(kind: u16, r: &[u8], at: usize) -> usize
+// The length of the field of a type whose width varies at a place of a record under a table of an octet order, 0 where none is valid there.
+fn varying_length(order: OctetOrder, kind: u16, r: &[u8], at: usize) -> usize
     requires { ⌜ widthOf kind ≡ 0 ⌝ }
-    ensures { λ n. ⌜ n ≡ fieldLength kind (now (r .entry)) at ⌝ }
+    ensures { λ n. ⌜ n ≡ fieldLength order kind (now (r .entry)) at ⌝ }
 {
     if kind == FieldType::STRING {
-        return string_length(r, at);
+        return string_length(FieldType { number: kind }.field_order(order), r, at);
     }
     if kind == FieldType::NULL_TERMINATED_STRING {
         return terminated_length(r, at);
     }
     if kind == FieldType::BLOB {
-        return blob_length(r, at);
+        return blob_length(FieldType { number: kind }.field_order(order), r, at);
     }
     0
 }
 
-// The length of the field of a type at a place of a record, 0 where none is valid there.
-pub(crate) fn field_length(kind: u16, r: &[u8], at: usize) -> usize
-    ensures { λ n. ⌜ n ≡ fieldLength kind (now (r .entry)) at ⌝ }
+// The length of the field of a type at a place of a record under a table of an octet order, 0 where none is valid there.
+pub(crate) fn field_length(order: OctetOrder, kind: u16, r: &[u8], at: usize) -> usize
+    ensures { λ n. ⌜ n ≡ fieldLength order kind (now (r .entry)) at ⌝ }
 {
     let width = FieldType { number: kind }.width() as usize;
     if 0 < width {
         return fixed_length(kind, width, r, at);
     }
-    varying_length(kind, r, at)
+    varying_length(order, kind, r, at)
 }
 
 // Whether key k of a template is enabled.
@@ -136,7 +138,7 @@ fn length_under(t: &[u8], m: Template, r: &[u8], k: usize, at: usize) -> usize
         if 0 < width {
             return fixed_length(kind, width, r, at);
         }
-        return varying_length(kind, r, at);
+        return varying_length(tables::table::order_of(t[FLAGS_AT]), kind, r, at);
     }
     0
 }

@@ -8,6 +8,7 @@ ghost use Rattle.records.specs.Record.{recordAnswer};
 ghost use Rattle.records.specs.Walk.{signedAt, valueAt, nextKey, stepUnder, stepJudged, stepOf, stepFrom, stepFromJudged, stepAnswer, Exact, openOf, openAnswer};
 use field_types::field_type::FieldType;
 use octets::Answer;
+use octets::OctetOrder;
 use tables::table::Found;
 use tables::table::Template;
 
@@ -45,12 +46,12 @@ pub enum Step {
     Refused(u8),
 }
 
-// The two's complement number in the w octets at a place.
-fn signed_at(r: &[u8], at: usize, w: usize) -> Value
+// The two's complement number in the w octets at a place, in an order.
+fn signed_at(order: OctetOrder, r: &[u8], at: usize, w: usize) -> Value
     requires { ⌜ (1 ≤ w) × (w ≤ 8) ⌝ }
-    ensures { λ v. ⌜ v ≡ signedAt (now (r .entry)) at w ⌝ }
+    ensures { λ v. ⌜ v ≡ signedAt order (now (r .entry)) at w ⌝ }
 {
-    let n = octets::get_uint(r, at, w);
+    let n = octets::get_uint(order, r, at, w);
     let most = octets::greatest(w);
     if n <= most / 2 {
         return Value::Number(n);
@@ -58,19 +59,20 @@ fn signed_at(r: &[u8], at: usize, w: usize) -> Value
     Value::Negative(most - n + 1)
 }
 
-// The value of the field of a type at a place.
-fn value_at(kind: u16, r: &[u8], at: usize) -> Value
-    ensures { λ v. ⌜ v ≡ valueAt kind (now (r .entry)) at ⌝ }
+// The value of the field of a type at a place, under a table of an octet order.
+fn value_at(order: OctetOrder, kind: u16, r: &[u8], at: usize) -> Value
+    ensures { λ v. ⌜ v ≡ valueAt order kind (now (r .entry)) at ⌝ }
 {
     let field_type = FieldType { number: kind };
+    if !field_type.is_number() {
+        return Value::Octets;
+    }
     let width = field_type.width() as usize;
+    let field_order = field_type.field_order(order);
     if field_type.is_signed() {
-        return signed_at(r, at, width);
+        return signed_at(field_order, r, at, width);
     }
-    if field_type.is_number() {
-        return Value::Number(octets::get_uint(r, at, width));
-    }
-    Value::Octets
+    Value::Number(octets::get_uint(field_order, r, at, width))
 }
 
 // The first enabled key of a template from a key on; its count or more where there is none.
@@ -103,11 +105,12 @@ fn step_under(t: &[u8], m: Template, r: &[u8], c: Cursor) -> Step
         t,
         m.keys + tables::table::KEY_OCTETS * k + tables::table::KEY_TYPE_AT,
     );
-    let len = crate::record::field_length(kind, r, at);
+    let order = tables::table::order_of(t[tables::table::FLAGS_AT]);
+    let len = crate::record::field_length(order, kind, r, at);
     if len == 0 {
         return Step::Refused(Answer::RECORD_INVALID);
     }
-    let value = value_at(kind, r, at);
+    let value = value_at(order, kind, r, at);
     Step::Next(
         Field {
             kind,
@@ -138,7 +141,7 @@ pub fn open_walk(t: &[u8], id: u16, r: &[u8]) -> Opened
 // The field at a cursor and the cursor after it; the end where no enabled key is left; 21, 15, or 16 for a field that is not valid.
 pub fn step_walk(t: &[u8], id: u16, r: &[u8], c: Cursor) -> Step
     ensures { λ s. ⌜ Answered stepAnswer s (stepOf (now (t .entry)) id (now (r .entry)) c)
-        (stepJudged (now (t .entry)) id (now (r .entry)) c) × Exact (now (r .entry)) s ⌝ }
+        (stepJudged (now (t .entry)) id (now (r .entry)) c) × Exact (now (t .entry)) (now (r .entry)) s ⌝ }
 {
     // `&t[..]` lends the table anew: to pass the parameter on would copy it first.
     match tables::table::find_template(&t[..], id) {
@@ -150,7 +153,7 @@ pub fn step_walk(t: &[u8], id: u16, r: &[u8], c: Cursor) -> Step
 // A step from where an opening stands; the refusal again where it was refused.
 pub fn step_from(t: &[u8], id: u16, r: &[u8], place: Opened) -> Step
     ensures { λ s. ⌜ Answered stepAnswer s (stepFrom (now (t .entry)) id (now (r .entry)) place)
-        (stepFromJudged (now (t .entry)) id (now (r .entry)) place) × Exact (now (r .entry)) s ⌝ }
+        (stepFromJudged (now (t .entry)) id (now (r .entry)) place) × Exact (now (t .entry)) (now (r .entry)) s ⌝ }
 {
     match place {
         Opened::At(c) => step_walk(t, id, r, c),

@@ -25,7 +25,7 @@ use Rattle.session.specs.Queue.{Entry, sumOf, heldOctets, held}
 use Rattle.session.specs.Limits.{maxHeld}
 use Rattle.session.specs.Steps.{modulus, ackCount, Call, put, nextData, tick, ack, move, isDuplicate, headOf, written, isSessions, checks, soundFor, answer, after, settled, storeAfter, Outcome, step}
 use Rattle.session.specs.History.{Ledger, History, dsnOf, ackPlace, deliveryAfter, ledgerAfter, afterAccepted, afterCall, writtenIn}
-use Rattle.session.specs.Claim.{Session, InRange, entryAt, nextPlace, isDuplicateFor, dueReply, octetsIn, dueChecks, Named, ReleasedBy, Acknowledgeable, CallClaim, Account}
+use Rattle.session.specs.Claim.{Session, InRange, entryAt, nextPlace, isDuplicateFor, dueReply, octetsTogether, dueChecks, Named, ReleasedBy, Acknowledgeable, CallClaim, Account}
 use Rattle.session.specs.declared.state.Active.{Active}
 use Rattle.session.specs.declared.state.Active.the-variants.{Nobody, Server}
 use Rattle.session.specs.declared.state.Delivery.{Delivery}
@@ -204,11 +204,11 @@ module _ (enc : Encoding) (room : ℕ) (h : History) (s : State) (store : List �
   count-held : length (held s store) ≡ s .queue .count
   count-held = held-length s store 0 (s .queue .count)
 
-  octets-held : octetsIn (held s store) ≡ heldOctets (s .queue)
+  octets-held : octetsTogether (held s store) ≡ heldOctets (s .queue)
   unfolding sumOf
   octets-held =
       let n : ℕ = s .queue .count in
-      sym (zero-add (octetsIn (held s store))) ∙ held-octets s store 0 n (omega (arith, a .sized .lengths, facts .numbers .few)) ∙ ap (λ (i : ℕ). sumOf (take i (s .queue .lengths))) (zero-add n)
+      sym (zero-add (octetsTogether (held s store))) ∙ held-octets s store 0 n (omega (arith, a .sized .lengths, facts .numbers .few)) ∙ ap (λ (i : ℕ). sumOf (take i (s .queue .lengths))) (zero-add n)
 
   due-put : (table : List ℕ) (id : ℕ) (r : List ℕ)
       → judge (checks enc room (put table id r) s store) ≡ judge (dueChecks (sessionAt enc s) (length store) room h (held s store) (put table id r))
@@ -357,10 +357,10 @@ module _ (enc : Encoding) (room : ℕ) (h : History) (s : State) (store : List �
 
   due-putting : (table : List ℕ) (id : ℕ) (r : List ℕ) → isSessions (s .settings) table ≡ true → isMissing table id ≡ false
       → recordValid table (templateOf table id) r ≡ true → length r ≤ maxRecordOctets
-      → not (eqb (judge (checks enc room (put table id r) s store)) done) ≡ (leb maxHeld (length (held s store)) || ltb (length store) (octetsIn (held s store) + length r))
+      → not (eqb (judge (checks enc room (put table id r) s store)) done) ≡ (leb maxHeld (length (held s store)) || ltb (length store) (octetsTogether (held s store) + length r))
   due-putting table id r t m v b =
       rw (due-put table id r, t, m, v, le-ltb maxRecordOctets (length r) b)
-      (go (leb maxHeld (length (held s store))) (ltb (length store) (octetsIn (held s store) + length r)))
+      (go (leb maxHeld (length (held s store))) (ltb (length store) (octetsTogether (held s store) + length r)))
     where
       go : (x y : Bool) → not (eqb (cond x 18 (cond y 19 0)) 0) ≡ x || y
       go true y = refl

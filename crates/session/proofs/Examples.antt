@@ -1,6 +1,6 @@
 -- The starred boundary examples hold: each row is shown by computing the definitions on it.
 use mathlib.Core.Path.{refl}
-use Rattle.octets.specs.Numbers.{numberOf, uintAt, octetsOf}
+use Rattle.octets.specs.Numbers.{numberOf, uintIn, octetsIn}
 use Rattle.octets.specs.Each.{every, firstFrom}
 use Rattle.wire.specs.FieldTypes.{isType, widthOf}
 use Rattle.wire.specs.Messages.{isMessage, bodyFits, messageOf, layoutOf, readAnswer, dataHeadOf, meaningOf, readOf, partAt, partOf}
@@ -13,7 +13,7 @@ use Rattle.session.specs.Steps.{ackCount, answer, checks, after, settled
 use Rattle.session.specs.Examples.{stars, AllHold}
 
 pub examples : AllHold stars
-unfolding numberOf uintAt octetsOf every firstFrom isType widthOf isMessage bodyFits messageOf layoutOf readAnswer dataHeadOf meaningOf readOf partAt partOf keySound blockEnd headSound paddingSound blockSound blockAt tableSound templateIndex templateAt fixedLength fieldLength fieldAt recordValid recordAnswer choose changed settle acknowledged sumOf has dropFront settingsSound numbersSound sound ackCount answer checks after settled storeAfter written step
+unfolding numberOf uintIn octetsIn every firstFrom isType widthOf isMessage bodyFits messageOf layoutOf readAnswer dataHeadOf meaningOf readOf partAt partOf keySound blockEnd headSound paddingSound blockSound blockAt tableSound templateIndex templateAt fixedLength fieldLength fieldAt recordValid recordAnswer choose changed settle acknowledged sumOf has dropFront settingsSound numbersSound sound ackCount answer checks after settled storeAfter written step
 examples = (
   (refl, (refl, refl)),
   (

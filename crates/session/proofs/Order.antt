@@ -1,6 +1,6 @@
 -- The refusals come in the paper's order: each turn's answer is computed.
 use mathlib.Core.Path.{refl}
-use Rattle.octets.specs.Numbers.{numberOf, uintAt, octetsOf}
+use Rattle.octets.specs.Numbers.{numberOf, uintIn, octetsIn}
 use Rattle.octets.specs.Each.{every, firstFrom}
 use Rattle.wire.specs.FieldTypes.{isType, widthOf}
 use Rattle.wire.specs.Messages.{isMessage, bodyFits, messageOf, layoutOf, readAnswer, meaningOf, writeAnswer, headWriteAnswer}
@@ -13,7 +13,7 @@ use Rattle.session.specs.Steps.{ackCount, formAnswer, callOfMessage, rec
 use Rattle.session.specs.Order.{numbersWhere, RefusalOrder}
 
 pub refusal-order : RefusalOrder
-unfolding numberOf uintAt octetsOf every firstFrom isType widthOf isMessage bodyFits messageOf layoutOf readAnswer meaningOf writeAnswer headWriteAnswer keySound blockEnd headSound paddingSound blockSound blockAt tableSound templateIndex templateAt fixedLength fieldLength fieldAt recordValid choose ringRead sumOf recordAt has hasOther settingsSound numbersSound sound ackCount formAnswer callOfMessage received headOf written checks answer step setUp numbersWhere
+unfolding numberOf uintIn octetsIn every firstFrom isType widthOf isMessage bodyFits messageOf layoutOf readAnswer meaningOf writeAnswer headWriteAnswer keySound blockEnd headSound paddingSound blockSound blockAt tableSound templateIndex templateAt fixedLength fieldLength fieldAt recordValid choose ringRead sumOf recordAt has hasOther settingsSound numbersSound sound ackCount formAnswer callOfMessage received headOf written checks answer step setUp numbersWhere
 refusal-order =
     record {
       setUps = (refl, (refl, (refl, refl)));

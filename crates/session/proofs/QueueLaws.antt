@@ -18,7 +18,7 @@ use borrow.Author.Tests.{eqb-true, eqb-false, eq-eqb, ne-eqb, not-true}
 use Rattle.octets.proofs.Each.{and-left, and-right}
 use Rattle.session.specs.Queue.{Entry, sumOf, has, with, hasOther, shifted, recordAt, heldFrom}
 use Rattle.session.specs.History.{Writing, anyWriting}
-use Rattle.session.specs.Claim.{writtenToOther, octetsIn}
+use Rattle.session.specs.Claim.{writtenToOther, octetsTogether}
 use Rattle.session.specs.declared.state.State.{State}
 use Rattle.session.proofs.Arrays.{sum-append, sum-more}
 use Rattle.session.proofs.Rings.{read-length}
@@ -217,12 +217,12 @@ held-at s store i (suc n) (suc j) h =
     rw (← e) (held-at s store (i + 1) n j (omega arith))
 
 pub held-octets : (s : State) (store : List ℕ) (i n : ℕ) → i + n ≤ length (s .queue .lengths)
-    → sumOf (take i (s .queue .lengths)) + octetsIn (heldFrom s store i n) ≡ sumOf (take (i + n) (s .queue .lengths))
-unfolding heldFrom octetsIn recordAt
+    → sumOf (take i (s .queue .lengths)) + octetsTogether (heldFrom s store i n) ≡ sumOf (take (i + n) (s .queue .lengths))
+unfolding heldFrom octetsTogether recordAt
 held-octets s store i zero h = rw (add-zero i) (omega arith)
 held-octets s store i (suc n) h =
     let xs = s .queue .lengths in
     let e : i + 1 + n ≡ i + suc n = omega arith in
-    let o : ℕ = octetsIn (heldFrom s store (i + 1) n) in
+    let o : ℕ = octetsTogether (heldFrom s store (i + 1) n) in
     rw (read-length, ← e, ← held-octets s store (i + 1) n (omega arith))
     (omega (arith, sum-more xs i (omega arith)))

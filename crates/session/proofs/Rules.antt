@@ -9,7 +9,7 @@ use native.Mathlib.Omega.{arith}
 use lib.ListN.{set}
 use lib.Seq.{getD-set-other}
 use Rattle.octets.specs.Answers.{done, settingsOutsideLimits}
-use Rattle.octets.specs.Numbers.{numberOf, uintAt, octetsOf}
+use Rattle.octets.specs.Numbers.{numberOf, uintIn, octetsIn}
 use Rattle.octets.specs.Each.{every, firstFrom}
 use Rattle.wire.specs.FieldTypes.{isType, widthOf}
 use Rattle.wire.specs.Messages.{isMessage, bodyFits, messageOf, layoutOf, meaningOf}
@@ -75,7 +75,7 @@ fresh-holds p octets e = go (settingsSound p octets) refl
         })
 
 pub server-rules : ServerRules
-unfolding numberOf uintAt octetsOf every firstFrom isType widthOf isMessage bodyFits messageOf layoutOf meaningOf keySound blockEnd headSound paddingSound blockSound blockAt tableSound choose changed settle transition otherAgreed expired ticked sumOf has settingsSound numbersSound sound formAnswer callOfMessage received written checks answer after settled storeAfter step
+unfolding numberOf uintIn octetsIn every firstFrom isType widthOf isMessage bodyFits messageOf layoutOf meaningOf keySound blockEnd headSound paddingSound blockSound blockAt tableSound choose changed settle transition otherAgreed expired ticked sumOf has settingsSound numbersSound sound formAnswer callOfMessage received written checks answer after settled storeAfter step
 server-rules =
     record {
       first = (refl, (refl, (refl, (refl, (refl, (refl, tt))))));

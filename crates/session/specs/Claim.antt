@@ -157,9 +157,9 @@ abbrev pub isReached : Session → History → ℕ → Bool
 isReached z h d = eqb (dsnOf (dsnBits z) (z .settings) (placeOf (dsnBits z) (z .settings) (h .delivery .reached) (h .ledger .released) d)) d
 
 -- How many octets records have together.
-unfoldable pub octetsIn : List Entry → ℕ
-octetsIn [] = 0
-octetsIn (x ∷ xs) = length (x .octets) + octetsIn xs
+unfoldable pub octetsTogether : List Entry → ℕ
+octetsTogether [] = 0
+octetsTogether (x ∷ xs) = length (x .octets) + octetsTogether xs
 
 -- The refusals that are due, by the history, the records held and the lengths of store and output. Answer 1 is not among them, since the
 -- state is always sound.
@@ -170,7 +170,7 @@ dueChecks z capacity room h hs (put table id r) =
     ∷ (recordTooLong when ltb maxRecordOctets (length r))
     ∷ (recordInvalid when not (recordValid table (templateOf table id) r))
     ∷ (queueFull when leb maxHeld (length hs))
-    ∷ (storeFull when ltb capacity (octetsIn hs + length r))
+    ∷ (storeFull when ltb capacity (octetsTogether hs + length r))
     ∷ []
 dueChecks z capacity room h hs nextData =
     (noActiveServer when isNobody (h .delivery .active))
@@ -237,7 +237,7 @@ pub record CallClaim (z : Session) (capacity room : ℕ) (h : History) (hs : Lis
   pub putting : (table : List ℕ) (id : ℕ) (r : List ℕ) → c ≡ put table id r
       → isSessions (z .settings) table ≡ true → isMissing table id ≡ false → recordValid table (templateOf table id) r ≡ true
       → length r ≤ maxRecordOctets
-      → not (eqb (o .answer) done) ≡ (leb maxHeld (length hs) || ltb capacity (octetsIn hs + length r))
+      → not (eqb (o .answer) done) ≡ (leb maxHeld (length hs) || ltb capacity (octetsTogether hs + length r))
 
 -- ---- what is claimed of a list
 

@@ -13,7 +13,7 @@ use lib.ListN.{length}
 use Rattle.octets.specs.Answers.{Check, _when_, judge, done, unsoundTable, templateNotFound}
 use Rattle.octets.proofs.Judging.{kept}
 use Rattle.octets.specs.Each.{every, absent, differ}
-use Rattle.tables.specs.Table.{keyOctets, blockHeadOctets, maxKeys, maxTableOctets, maxTemplates, bigEndianFlags, keyCount, blockFlags, blockLength, blockOctets, blockEnd, headSound, blockSound, blockAt, blocksSound, templatesDiffer, tableFlags, templateCount, tableSound, isMissing, templateIndex, templateAt, templateOf, templateChecks, findAnswer, findOf, locateOf, foundAnswer}
+use Rattle.tables.specs.Table.{keyOctets, blockHeadOctets, maxKeys, maxTableOctets, maxTemplates, tableHeadOctets, flagsSound, keyCount, blockFlags, blockLength, blockOctets, blockEnd, headSound, blockSound, blockAt, blocksSound, templatesDiffer, tableFlags, templateCount, tableSound, isMissing, templateIndex, templateAt, templateOf, templateChecks, findAnswer, findOf, locateOf, foundAnswer}
 use Rattle.tables.specs.declared.table.Template.{Template}
 use Rattle.tables.specs.declared.table.Found.the-variants.{At, Refused}
 use Rattle.octets.proofs.Each.{clause-first, clause-rest, every-at, every-step, every-intro, and-left, and-right}
@@ -103,7 +103,7 @@ pub table-facts : (t : List ℕ) → tableSound t ≡ true → TableFacts t
 unfolding tableSound
 table-facts t e =
     let e₁ = clause-rest (leb (length t) maxTableOctets) _ e in
-    let e₂ = clause-rest (eqb (tableFlags t) bigEndianFlags) _ e₁ in
+    let e₂ = clause-rest (flagsSound (tableFlags t)) _ e₁ in
     let e₃ = clause-rest (leb 1 (templateCount t)) _ e₂ in
     let e₄ = clause-rest (leb (templateCount t) maxTemplates) _ e₃ in
     let e₅ = clause-rest (blocksSound t (templateCount t)) _ e₄ in
@@ -116,6 +116,11 @@ table-facts t e =
       differ = clause-first (templatesDiffer t (templateCount t)) _ e₅;
       ends = eqb-true (blockAt t (templateCount t)) (length t) (clause-first (eqb (blockAt t (templateCount t)) (length t)) _ e₆);
     }
+
+-- it has its head, since its first block lies behind that
+pub table-long : (t : List ℕ) → tableSound t ≡ true → tableHeadOctets ≤ length t
+unfolding blockAt
+table-long t e = let f = table-facts t e in omega (arith, block-in t (templateCount t) (f .blocks) 0 (f .some))
 
 -- a template that is found has a sound head
 found-head : (t : List ℕ) (id : ℕ) → tableSound t ≡ true → isMissing t id ≡ false → HeadFacts t (blockAt t (templateIndex t id))

@@ -1,4 +1,5 @@
--- The template table: its layout, which octets are a sound one, and the template with an ID (01, "Template table").
+-- The template table: its layout, which octets are a sound one, the octet order of its record data, and the template with an ID (01,
+-- "Template table"; 02, ask 6).
 use Prim.Native.Nat.{ℕ, zero, suc, _+_, _-_, _*_, _/_}
 use mathlib.Core.Bool.{Bool, cond, not, _&&_}
 use mathlib.Core.List.{List, [], _∷_}
@@ -7,6 +8,8 @@ use lib.ListN.{length, getD}
 use Rattle.octets.specs.Answers.{Check, _when_, judge, done, unsoundTable, templateNotFound}
 use Rattle.octets.specs.Numbers.{uintAt}
 use Rattle.octets.specs.Each.{every, firstFrom, differ, allOf}
+use Rattle.numbers.specs.declared.OctetOrder.{OctetOrder}
+use Rattle.numbers.specs.declared.OctetOrder.the-variants.{BigEndian, LittleEndian}
 use Rattle.field_types.specs.FieldTypes.{isType}
 use Rattle.tables.specs.declared.table.Template.{Template}
 use Rattle.tables.specs.declared.table.Found.{Found}
@@ -139,9 +142,17 @@ maxTableOctets = 16384
 abbrev pub maxTemplates : ℕ
 maxTemplates = 8
 
--- The flags that a table has: its numbers are big-endian.
+-- The flags of a table whose record data is big-endian.
 abbrev pub bigEndianFlags : ℕ
 bigEndianFlags = 1
+
+-- A table has these flags or 0, whose record data is little-endian.
+abbrev pub flagsSound : ℕ → Bool
+flagsSound flags = leb flags bigEndianFlags
+
+-- The octet order of record data under flags: big-endian under 1, little-endian under all others, of which a sound table has only 0.
+unfoldable pub orderOf : ℕ → OctetOrder
+orderOf flags = cond (eqb flags bigEndianFlags) BigEndian LittleEndian
 
 -- Octets of a table in front of its first block.
 abbrev pub tableHeadOctets : ℕ
@@ -154,6 +165,10 @@ configurationId t = uintAt t 0 1
 -- Octet 1: the flags.
 abbrev pub tableFlags : List ℕ → ℕ
 tableFlags t = uintAt t 1 1
+
+-- The octet order of the table's record data; the table's own numbers are big-endian under either flags.
+abbrev pub tableOrder : List ℕ → OctetOrder
+tableOrder t = orderOf (tableFlags t)
 
 -- Octets 2 and 3: how many templates follow.
 abbrev pub templateCount : List ℕ → ℕ
@@ -176,12 +191,12 @@ blocksSound t n = every n (λ i. blockSound t (blockAt t i))
 abbrev pub templatesDiffer : List ℕ → ℕ → Bool
 templatesDiffer t n = differ (idAt t) n
 
--- At most 16,384 octets, flags 1, 1 to 8 sound blocks with different IDs, and nothing after the last.
+-- At most 16,384 octets, flags 0 or 1, 1 to 8 sound blocks with different IDs, and nothing after the last.
 unfoldable pub tableSound : List ℕ → Bool
 tableSound t =
     allOf
     (leb (length t) maxTableOctets
-    ∷ eqb (tableFlags t) bigEndianFlags
+    ∷ flagsSound (tableFlags t)
     ∷ leb 1 (templateCount t)
     ∷ leb (templateCount t) maxTemplates
     ∷ blocksSound t (templateCount t)

@@ -7,9 +7,10 @@ ghost use lib.Dec.{eqb};
 ghost use lib.ListN.{length, getD};
 ghost use Rattle.octets.specs.Answers.{Answered};
 ghost use Rattle.octets.specs.Each.{every, absent, allOf};
-ghost use Rattle.tables.specs.Table.{maxTableOctets, maxKeys, keyOctets, blockHeadOctets, configurationId, keyId, keyAt, keySound, keysSound, keysDiffer, keysAt, padded, blockEnd, headSound, paddingSound, blockSound, blockAt, idAt, blocksSound, templatesDiffer, tableSound, templateAt, locateOf, findAnswer, findOf, foundAnswer};
+ghost use Rattle.tables.specs.Table.{maxTableOctets, maxKeys, keyOctets, blockHeadOctets, configurationId, keyId, keyAt, keySound, keysSound, keysDiffer, keysAt, padded, blockEnd, headSound, paddingSound, blockSound, blockAt, idAt, blocksSound, templatesDiffer, flagsSound, orderOf, tableOrder, tableSound, templateAt, locateOf, findAnswer, findOf, foundAnswer};
 use field_types::field_type::FieldType;
 use octets::Answer;
+use octets::OctetOrder;
 
 // The most octets that a table has.
 pub const MAX_TABLE_OCTETS: usize = 16384;
@@ -20,8 +21,11 @@ pub const MAX_TEMPLATES: usize = 8;
 // The most keys that a template has.
 pub const MAX_KEYS: u16 = 32;
 
-// The flags of a table, which say that its numbers are big-endian.
-const BIG_ENDIAN: u8 = 1;
+// The flags of a table whose record data is big-endian. The only others of a table are 0, for little-endian record data.
+pub const BIG_ENDIAN: u8 = 1;
+
+// Where a table's flags stand: behind the Configuration ID.
+pub const FLAGS_AT: usize = 1;
 
 // The octets of a table in front of its first block: Configuration ID, flags, template count.
 const TABLE_HEAD_OCTETS: usize = 4;
@@ -55,6 +59,30 @@ pub fn configuration_id(t: &[u8]) -> u8
     ensures { λ r. ⌜ r ≡ configurationId (now (t .entry)) ⌝ }
 {
     octets::get_u8(t, 0)
+}
+
+// Whether a table has such flags: 0 or 1.
+pub fn flags_sound(flags: u8) -> bool
+    ensures { λ r. ⌜ r ≡ flagsSound flags ⌝ }
+{
+    flags <= BIG_ENDIAN
+}
+
+// The octet order of record data under flags: big-endian under 1, little-endian under all others.
+pub fn order_of(flags: u8) -> OctetOrder
+    ensures { λ r. ⌜ r ≡ orderOf flags ⌝ }
+{
+    if flags == BIG_ENDIAN {
+        return OctetOrder::BigEndian;
+    }
+    OctetOrder::LittleEndian
+}
+
+// The octet order of a table's record data; the table's own numbers are big-endian under either flags.
+pub fn table_order(t: &[u8]) -> OctetOrder
+    ensures { λ r. ⌜ r ≡ tableOrder (now (t .entry)) ⌝ }
+{
+    order_of(octets::get_u8(t, FLAGS_AT))
 }
 
 // Whether the key block at a place is sound by itself.
@@ -277,7 +305,7 @@ pub fn table_sound(t: &[u8]) -> bool
     if MAX_TABLE_OCTETS < t.len() {
         return false;
     }
-    if octets::get_u8(t, 1) != BIG_ENDIAN {
+    if !flags_sound(octets::get_u8(t, FLAGS_AT)) {
         return false;
     }
     let count = octets::get_u16(t, 2) as usize;
@@ -295,7 +323,7 @@ fn locate(t: &[u8], id: u16) -> Found
     requires { ⌜ tableSound (now t) ≡ true ⌝ }
     ensures { λ r. ⌜ r ≡ locateOf (now (t .entry)) id ⌝ }
 {
-    let count = octets::get_u16(t, 2) as usize;
+    let count = crate::within::u16_at(t, 2) as usize;
     let mut at = TABLE_HEAD_OCTETS;
     let mut i: usize = 0;
     while i < count {

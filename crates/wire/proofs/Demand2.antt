@@ -1,7 +1,6 @@
 -- What is written reads back. Messages: the law of round trips. Fields: the law of reading back gives length and value, and what was stored
 -- at a place stands there. Records: the laws of whole records.
 use borrow.Author.Tests.{eq-eqb}
-use lib.ListN.{length}
 use Rattle.octets.specs.Answers.{done}
 use Rattle.appending.specs.Append.{fieldOctets, appendAnswer, appendOut}
 use Rattle.appending.proofs.ExactFields.{append-exact}
@@ -12,14 +11,14 @@ use Rattle.wire.proofs.WholeRecords.{stored-part, records-made, records
 
 fields-read-back : FieldsReadBack
 unfolding appendOut
-fields-read-back type value octets out at h =
-    let b = append-reads-back type value octets out at h in
-    let d = append-done type value octets out at h in
+fields-read-back order type value octets out at h =
+    let b = append-reads-back order type value octets out at h in
+    let d = append-done order type value octets out at h in
     record {
       len = b .len;
       same = b .same;
-      exact = append-exact type value octets out at h;
-      stands = rw (eq-eqb (appendAnswer type value octets out at) done h) (stored-part out (fieldOctets type value octets) at (d .1));
+      exact = append-exact order type value octets out at h;
+      stands = rw (eq-eqb (appendAnswer order type value octets out at) done h) (stored-part out (fieldOctets order type value octets) at (d .1));
       content = b .stands;
     }
 

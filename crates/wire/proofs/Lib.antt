@@ -2,6 +2,7 @@
 pub mod Demand2
 pub mod WholeRecords
 pub mod Refusals
+pub mod OrderExamples
 pub use Rattle.field_types.proofs.FieldTypes
 pub use Rattle.field_types.proofs.TypeFacts
 pub use Rattle.tables.proofs.Tables

@@ -9,7 +9,7 @@ use lib.Dec.{eqb, ltb}
 use lib.ListN.{length}
 use lib.Seq.{sets, sets-eq}
 use Rattle.octets.specs.Answers.{done, _when_, recordTooLong, outputTooShort}
-use Rattle.octets.specs.Numbers.{octetsOf}
+use Rattle.octets.specs.Numbers.{octetsIn}
 use Rattle.octets.proofs.Judging.{passed}
 use Rattle.appending.specs.Append.{fieldOctets, appendAnswer, appendOf, appendOut}
 use Rattle.appending.specs.declared.append.Appended.the-variants as appended
@@ -33,7 +33,7 @@ kept-or-written number refusal ok at octets out room =
 
 -- a head that is accepted has room, with the record behind it
 head-fits : (h : DataHead) (n room : ℕ) → headWriteAnswer n room ≡ done → length (dataHeadOctets h n) ≤ room
-unfolding headWriteAnswer octetsOf
+unfolding headWriteAnswer octetsIn
 head-fits h n room e =
     let p = passed ((recordTooLong when ltb maxRecordOctets n) ∷ (outputTooShort when ltb room (dataHeadLength + n)) ∷ []) tt e in
     omega (arith, ltb-false room (dataHeadLength + n) (p .1 .0))
@@ -48,7 +48,7 @@ wire-refusals =
       head = λ h n out.
           kept-or-written (headWriteAnswer n (length out)) written.Refused (written.Octets (dataHeadLength + n)) 0 (dataHeadOctets h n) out
           (λ e. omega (arith, head-fits h n (length out) e));
-      field = λ type value octets out at.
-          kept-or-written (appendAnswer type value octets out at) appended.Refused (appended.Next (at + length (fieldOctets type value octets)))
-          at (fieldOctets type value octets) out (λ e. append-done type value octets out at e .1);
+      field = λ order type value octets out at.
+          kept-or-written (appendAnswer order type value octets out at) appended.Refused (appended.Next (at + length (fieldOctets order type value octets)))
+          at (fieldOctets order type value octets) out (λ e. append-done order type value octets out at e .1);
     }

@@ -15,7 +15,8 @@ use Rattle.octets.specs.Answers.{done}
 use Rattle.octets.specs.Each.{allOf}
 use Rattle.octets.proofs.Stores.{sets-append}
 use Rattle.octets.proofs.Each.{clause-first, clause-rest, every-intro}
-use Rattle.tables.specs.Table.{keyAt, keyType, isEnabled, templateOf, findAnswer}
+use Rattle.numbers.specs.declared.OctetOrder.{OctetOrder}
+use Rattle.tables.specs.Table.{tableOrder, keyAt, keyType, isEnabled, templateOf, findAnswer}
 use Rattle.tables.specs.declared.table.Template.{Template}
 use Rattle.records.specs.Record.{fieldAt, fieldValid, recordValid}
 use Rattle.records.specs.Walk.{stepOf, walkStart, visited, laidOut, enabledFrom, fieldUnder}
@@ -41,25 +42,25 @@ stored-part l vs i h =
     ∙ take-append-seam vs rest
 
 -- values from a place on
-append-all : (values : List TypedValue) (at : ℕ) (out : List ℕ) → allOf (map fits values) ≡ true → at + length (recordOctets values) ≤ length out
-    → appendAll values (appended.Next at) out ≡ record { answer = appended.Next (at + length (recordOctets values)); out = sets out at (recordOctets values) }
+append-all : (order : OctetOrder) (values : List TypedValue) (at : ℕ) (out : List ℕ) → allOf (map fits values) ≡ true → at + length (recordOctets order values) ≤ length out
+    → appendAll order values (appended.Next at) out ≡ record { answer = appended.Next (at + length (recordOctets order values)); out = sets out at (recordOctets order values) }
 unfolding appendAll recordOctets
-append-all [] at out h room = ap (λ (k : ℕ). record { answer = appended.Next k; out = out }) (sym (add-zero at))
-append-all (v ∷ values) at out h room =
-    let field = octetsFor v in
-    let rest = recordOctets values in
+append-all order [] at out h room = ap (λ (k : ℕ). record { answer = appended.Next k; out = out }) (sym (add-zero at))
+append-all order (v ∷ values) at out h room =
+    let field = octetsFor order v in
+    let rest = recordOctets order values in
     let n = length-append field rest in
-    let a = append-accepts (v .type) (v .value) (v .octets) out at (clause-first (fits v) (allOf (map fits values)) h) (omega arith) in
+    let a = append-accepts order (v .type) (v .value) (v .octets) out at (clause-first (fits v) (allOf (map fits values)) h) (omega arith) in
     let l = length-sets out at field in
     rw (a .0, a .1)
-    (append-all values (at + length field) (sets out at field) (clause-rest (fits v) (allOf (map fits values)) h) (omega arith)
+    (append-all order values (at + length field) (sets out at field) (clause-rest (fits v) (allOf (map fits values)) h) (omega arith)
     ∙ ap (λ (k : ℕ). record { answer = appended.Next k; out = sets (sets out at field) (at + length field) rest }) (omega arith)
     ∙ ap (λ (s : List ℕ). record { answer = appended.Next (at + length (field ++ rest)); out = s }) (sets-append field out at rest))
 
 pub records-made : RecordsMade
-records-made values at out h room =
-    let r = recordOctets values in
-    append-all values at out h room
+records-made order values at out h room =
+    let r = recordOctets order values in
+    append-all order values at out h room
     ∙ ap (λ (s : List ℕ). record { answer = appended.Next (at + length r); out = s }) (sets-eq r out at room)
 
 -- ---- read back
@@ -73,7 +74,7 @@ behind-field r at field rest e =
 record LaidFrom (t : List ℕ) (m : Template) (r : List ℕ) (k l : ℕ) (values : List TypedValue) (at : ℕ) : Type 0 where
   valid : (i : ℕ) → k ≤ i → i < m .count → fieldValid t m r i ≡ true
   ends : fieldAt t m r (m .count) ≡ length r
-  fields : map (fieldUnder t m r) (enabledFrom t m k l) ≡ fieldsOf values at
+  fields : map (fieldUnder t m r) (enabledFrom t m k l) ≡ fieldsOf (tableOrder t) values at
 
 -- what holds of k and of each number above it
 first-or-later : (k n : ℕ) (p : ℕ → Bool) → p k ≡ true → ((i : ℕ) → k + 1 ≤ i → i < n → p i ≡ true) → (i : ℕ) → k ≤ i → i < n → p i ≡ true
@@ -90,13 +91,13 @@ typeAt t m k = keyType t (keyAt (m .keys) k)
 module _ (t : List ℕ) (m : Template) (r : List ℕ) where
   -- an enabled key at whose place the field of a value of its type stands: its field is valid, is the value's, and the next one follows it
   value-stands : (k at : ℕ) (v : TypedValue) (rest : List ℕ) → isEnabled t (keyAt (m .keys) k) ≡ true → v .type ≡ typeAt t m k → fits v ≡ true
-      → fieldAt t m r k ≡ at → at ≤ length r → drop at r ≡ octetsFor v ++ rest
+      → fieldAt t m r k ≡ at → at ≤ length r → drop at r ≡ octetsFor (tableOrder t) v ++ rest
       → (fieldValid t m r k ≡ true)
-      × ((fieldUnder t m r k ≡ record { kind = v .type; at = at; len = length (octetsFor v); value = v .value })
-      × (fieldAt t m r (k + 1) ≡ at + length (octetsFor v)))
+      × ((fieldUnder t m r k ≡ record { kind = v .type; at = at; len = length (octetsFor (tableOrder t) v); value = v .value })
+      × (fieldAt t m r (k + 1) ≡ at + length (octetsFor (tableOrder t) v)))
   value-stands k at v rest on type fit place h e =
-      let b = reads-back (v .type) (v .value) (v .octets) r at fit (front-holds r at (octetsFor v) rest h e) in (
-        rw (on, place, ← type, b .len) (lt-ltb 0 (length (octetsFor v)) (b .some)),
+      let b = reads-back (tableOrder t) (v .type) (v .value) (v .octets) r at fit (front-holds r at (octetsFor (tableOrder t) v) rest h e) in (
+        rw (on, place, ← type, b .len) (lt-ltb 0 (length (octetsFor (tableOrder t) v)) (b .some)),
         (
           rw (place, ← type, b .len, b .same),
           field-at-more t m r k ∙ rw (on, place, ← type, b .len),
@@ -104,7 +105,7 @@ module _ (t : List ℕ) (m : Template) (r : List ℕ) where
       )
 
   -- From key k on, where the octets from its field's place on are the record of values for the l keys that are left.
-  laid-from : (l k at : ℕ) (values : List TypedValue) → k + l ≡ m .count → fieldAt t m r k ≡ at → at ≤ length r → drop at r ≡ recordOctets values
+  laid-from : (l k at : ℕ) (values : List TypedValue) → k + l ≡ m .count → fieldAt t m r k ≡ at → at ≤ length r → drop at r ≡ recordOctets (tableOrder t) values
       → map (λ v. v .type) values ≡ map (typeAt t m) (enabledFrom t m k l) → allOf (map fits values) ≡ true → LaidFrom t m r k l values at
   unfolding enabledFrom recordOctets fieldsOf
   laid-from zero k at [] e place h octets types fit =
@@ -123,18 +124,18 @@ module _ (t : List ℕ) (m : Template) (r : List ℕ) where
       keys : List ℕ
       keys = enabledFrom t m (k + 1) l
 
-      go : (b : Bool) → isEnabled t (keyAt (m .keys) k) ≡ b → (values : List TypedValue) → drop at r ≡ recordOctets values
+      go : (b : Bool) → isEnabled t (keyAt (m .keys) k) ≡ b → (values : List TypedValue) → drop at r ≡ recordOctets (tableOrder t) values
           → map (λ v. v .type) values ≡ map (typeAt t m) (cond b (k ∷ keys) keys) → allOf (map fits values) ≡ true
-          → ((at : ℕ) (vs : List TypedValue) → fieldAt t m r (k + 1) ≡ at → at ≤ length r → drop at r ≡ recordOctets vs
+          → ((at : ℕ) (vs : List TypedValue) → fieldAt t m r (k + 1) ≡ at → at ≤ length r → drop at r ≡ recordOctets (tableOrder t) vs
           → map (λ v. v .type) vs ≡ map (typeAt t m) keys → allOf (map fits vs) ≡ true → LaidFrom t m r (k + 1) l vs at)
           → LaidFrom t m r k (suc l) values at
       go true on [] octets types fit rest = let y : _≡_ {A = ℕ} 0 1 = cc in absurd (omega arith)
       go true on (v ∷ values) octets types fit rest =
-          let field = octetsFor v in
-          let s = value-stands k at v (recordOctets values) on (cc) (clause-first (fits v) (allOf (map fits values)) fit) place h octets in
-          let w = front-holds r at field (recordOctets values) h octets .within in
+          let field = octetsFor (tableOrder t) v in
+          let s = value-stands k at v (recordOctets (tableOrder t) values) on (cc) (clause-first (fits v) (allOf (map fits values)) fit) place h octets in
+          let w = front-holds r at field (recordOctets (tableOrder t) values) h octets .within in
           let x =
-          rest (at + length field) values (s .1 .1) w (behind-field r at field (recordOctets values) octets) (cc)
+          rest (at + length field) values (s .1 .1) w (behind-field r at field (recordOctets (tableOrder t) values) octets) (cc)
           (clause-rest (fits v) (allOf (map fits values)) fit) in
           record {
             valid = first-or-later k (m .count) (fieldValid t m r) (s .0) (x .valid);
@@ -151,36 +152,36 @@ module _ (t : List ℕ) (m : Template) (r : List ℕ) where
           }
 
 -- a value whose field stands in front of others from a place on is the field there
-pub field-of : (v : TypedValue) (r : List ℕ) (at : ℕ) (rest : List ℕ) → fits v ≡ true → at ≤ length r → drop at r ≡ octetsFor v ++ rest
-    → FieldOf (v .type) (v .value) (v .octets) r at
-field-of v r at rest h inside e =
-    let holds = front-holds r at (octetsFor v) rest inside e in
-    let b = reads-back (v .type) (v .value) (v .octets) r at h holds in
+pub field-of : (order : OctetOrder) (v : TypedValue) (r : List ℕ) (at : ℕ) (rest : List ℕ) → fits v ≡ true → at ≤ length r → drop at r ≡ octetsFor order v ++ rest
+    → FieldOf order (v .type) (v .value) (v .octets) r at
+field-of order v r at rest h inside e =
+    let holds = front-holds r at (octetsFor order v) rest inside e in
+    let b = reads-back order (v .type) (v .value) (v .octets) r at h holds in
     record {
       len = b .len;
       same = b .same;
-      exact = field-exact (v .type) (v .value) (v .octets) r at h holds;
-      stands = ap (take (length (octetsFor v))) e ∙ take-append-seam (octetsFor v) rest;
+      exact = field-exact order (v .type) (v .value) (v .octets) r at h holds;
+      stands = ap (take (length (octetsFor order v))) e ∙ take-append-seam (octetsFor order v) rest;
       content = b .stands;
     }
 
 -- so is each of the values whose fields are what is left from a place on
-each-field : (values : List TypedValue) (r : List ℕ) (at : ℕ) → allOf (map fits values) ≡ true → at ≤ length r → drop at r ≡ recordOctets values
-    → EachField values at r
+each-field : (order : OctetOrder) (values : List TypedValue) (r : List ℕ) (at : ℕ) → allOf (map fits values) ≡ true → at ≤ length r → drop at r ≡ recordOctets order values
+    → EachField order values at r
 unfolding recordOctets
-each-field [] r at h inside e = tt
-each-field (v ∷ values) r at h inside e =
-    let field = octetsFor v in
-    let rest = recordOctets values in
+each-field order [] r at h inside e = tt
+each-field order (v ∷ values) r at h inside e =
+    let field = octetsFor order v in
+    let rest = recordOctets order values in
     let long : length r - at ≡ length field + length rest = sym (length-drop at r) ∙ ap length e ∙ length-append field rest in (
-      field-of v r at rest (clause-first (fits v) (allOf (map fits values)) h) inside e,
-      each-field values r (at + length field) (clause-rest (fits v) (allOf (map fits values)) h) (omega arith) (behind-field r at field rest e),
+      field-of order v r at rest (clause-first (fits v) (allOf (map fits values)) h) inside e,
+      each-field order values r (at + length field) (clause-rest (fits v) (allOf (map fits values)) h) (omega arith) (behind-field r at field rest e),
     )
 
-fields-length : (values : List TypedValue) (at : ℕ) → length (fieldsOf values at) ≡ length values
+fields-length : (order : OctetOrder) (values : List TypedValue) (at : ℕ) → length (fieldsOf order values at) ≡ length values
 unfolding fieldsOf
-fields-length [] at = refl
-fields-length (v ∷ values) at = ap suc (fields-length values (at + length (octetsFor v)))
+fields-length order [] at = refl
+fields-length order (v ∷ values) at = ap suc (fields-length order values (at + length (octetsFor order v)))
 
 -- ---- the theorems
 
@@ -191,28 +192,28 @@ all-valid t m r values laid =
     rw (every-intro (m .count) (fieldValid t m r) (λ i l. laid .valid i (omega arith) l), eq-eqb (fieldAt t m r (m .count)) (length r) (laid .ends))
 
 -- the record of the values reads back
-record-of : (t : List ℕ) (id : ℕ) (values : List TypedValue) → findAnswer t id ≡ done → ValuesFor t id values → RecordOf t id values (recordOctets values)
+record-of : (t : List ℕ) (id : ℕ) (values : List TypedValue) → findAnswer t id ≡ done → ValuesFor t id values → RecordOf t id values (recordOctets (tableOrder t) values)
 unfolding fieldAt
 record-of t id values found given =
     let m = templateOf t id in
-    let r = recordOctets values in
+    let r = recordOctets (tableOrder t) values in
     let laid = laid-from t m r (m .count) 0 0 values (omega arith) refl (omega arith) refl (given .types) (given .fit) in
     let valid = found-valid t id r found (all-valid t m r values laid) in
     let opens = valid-opens t id r valid in
     let w = walk-opened t id r walkStart opens (suc (m .count)) (omega arith) in
-    let all : visited (stepOf t id r) (suc (m .count)) walkStart ≡ fieldsOf values 0 = w .visits ∙ laid .fields in
-    let long = ap length all ∙ fields-length values 0 in
+    let all : visited (stepOf t id r) (suc (m .count)) walkStart ≡ fieldsOf (tableOrder t) values 0 = w .visits ∙ laid .fields in
+    let long = ap length all ∙ fields-length (tableOrder t) values 0 in
     record {
       valid = valid;
       opens = opens;
       visits = λ n h. ends-with-enough (stepOf t id r) (suc (m .count)) n walkStart (w .ends) (omega arith) .0 ∙ all;
       ends = λ n h. ends-with-enough (stepOf t id r) (suc (m .count)) n walkStart (w .ends) (omega arith) .1;
-      each = each-field values r 0 (given .fit) (omega arith) refl;
+      each = each-field (tableOrder t) values r 0 (given .fit) (omega arith) refl;
     }
 
 pub records-read-back : RecordsReadBack
 records-read-back t id values at out found given room =
-    rw (append-all values at out (given .fit) room, stored-part out (recordOctets values) at room) (record-of t id values found given)
+    rw (append-all (tableOrder t) values at out (given .fit) room, stored-part out (recordOctets (tableOrder t) values) at room) (record-of t id values found given)
 
 -- no fields have no octets
 none-laid : (r : List ℕ) (fields : List Field) → map (λ f. f .kind) fields ≡ [] → laidOut r fields ≡ []

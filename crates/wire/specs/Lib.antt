@@ -9,3 +9,4 @@ pub use Rattle.messages.specs.Messages
 pub use Rattle.messages.specs.Replies
 pub mod Demand2
 pub mod Refusals
+pub mod OrderExamples

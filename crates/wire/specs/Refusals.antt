@@ -5,6 +5,7 @@ use mathlib.Core.Logic.{_≢_}
 use mathlib.Core.List.{List, _++_}
 use lib.ListN.{length, take, drop}
 use Rattle.octets.specs.Answers.{done}
+use Rattle.numbers.specs.declared.OctetOrder.{OctetOrder}
 use Rattle.records.specs.declared.walk.Value.{Value}
 use Rattle.appending.specs.Append.{fieldOctets, appendAnswer, appendOf, appendOut}
 use Rattle.appending.specs.declared.append.Appended.the-variants as appended
@@ -30,6 +31,7 @@ pub record WireRefusals : Type 0 where
   pub head : (h : DataHead) (n : ℕ) (out : List ℕ)
       → KeptOrWritten (headWriteAnswer n (length out)) written.Refused (written.Octets (dataHeadLength + n)) (headWriteOf n (length out))
       0 (dataHeadOctets h n) out (headWriteOut h n out)
-  pub field : (type : ℕ) (value : Value) (octets out : List ℕ) (at : ℕ)
-      → KeptOrWritten (appendAnswer type value octets out at) appended.Refused (appended.Next (at + length (fieldOctets type value octets)))
-      (appendOf type value octets out at) at (fieldOctets type value octets) out (appendOut type value octets out at)
+  pub field : (order : OctetOrder) (type : ℕ) (value : Value) (octets out : List ℕ) (at : ℕ)
+      → let stored = fieldOctets order type value octets in
+      KeptOrWritten (appendAnswer order type value octets out at) appended.Refused (appended.Next (at + length stored))
+      (appendOf order type value octets out at) at stored out (appendOut order type value octets out at)

@@ -1,25 +1,29 @@
--- `get_uint` meets its contract. The loop's invariant: the octets read so far make v, modulo 2 to the 64.
-use mathlib.Core.Path.{_≡_}
-use Prim.Native.Nat.{_-_, _%_, _^_, _≤_}
+-- `get_uint` meets its contract. The loop's invariant: the digits read so far, the most significant first, make v, modulo 2 to the 64.
+use mathlib.Core.Path.{_≡_, ap, _∙_}
+use lib.ListN.{getD}
+use Prim.Native.Nat.{ℕ, _+_, _-_, _%_, _^_, _≤_}
 use native.Mathlib.Omega.{arith}
-use Rattle.numbers.specs.Numbers.{uintAt, numberOf}
-use Rattle.numbers.proofs.Numbers.{uint-more}
+use Rattle.numbers.specs.Numbers.{numberOf, placeIn, uintIn}
+use Rattle.numbers.proofs.Numbers.{number-more}
 use borrow.Author.Needs.{needs}
 use Rattle.number_reading.proofs.get_uint.Statement.{statement}
 use Rattle.number_reading.proofs.get_uint.Tie as tie
 
 abbrev Inv-loop : tie.InvT-loop
-Inv-loop s at w v₀ i₀ v i = (i ≤ w) × (v ≡ uintAt s at i % 256 ^ 8)
+Inv-loop order s at w v₀ i₀ v i = (i ≤ w) × (v ≡ numberOf (λ k. getD s (at + placeIn order w k) 0) i % 256 ^ 8)
 
 abbrev μ-loop : tie.MeasureT-loop
-μ-loop s at w v₀ i₀ v i = w - i
+μ-loop order s at w v₀ i₀ v i = w - i
 
 loop-holds : tie.Need-loop-holds Inv-loop μ-loop
-unfolding uintAt numberOf
+unfolding numberOf
 loop-holds c = search needs
 
 mul-v : tie.Need-mul-v Inv-loop μ-loop
 mul-v c = search needs
+
+place-in-requires : tie.Need-place-in-requires Inv-loop μ-loop
+place-in-requires c κs = search needs
 
 octet-requires : tie.Need-octet-requires Inv-loop μ-loop
 octet-requires c κs = search needs
@@ -38,11 +42,13 @@ loop-less c = search needs
 
 loop-again : tie.Need-loop-again Inv-loop μ-loop
 loop-again c =
-    let a = c .before .before .before .before .args in
-    let l = c .before .before .loop in
-    (omega arith, omega (arith, uint-more (a .s .now) (a .at) (l .i)))
+    let a = c .before .before .before .before .before .args in
+    let l = c .before .before .before .loop in
+    let digit = c .octet .ensures ∙ ap (λ (k : ℕ). getD (a .s .now) (a .at + k) 0) (c .before .place-in .ensures) in
+    (omega arith, omega (arith, digit, number-more (λ k. getD (a .s .now) (a .at + placeIn (a .order) (a .w) k) 0) (l .i)))
 
 returns : tie.Need-returns Inv-loop μ-loop
+unfolding uintIn
 returns c =
     let l = c .before .loop in
     let e : l .i ≡ c .before .before .before .args .w = omega arith in
@@ -56,6 +62,7 @@ get-uint-spec =
     μ-loop
     loop-holds
     mul-v
+    place-in-requires
     octet-requires
     cast-v
     add-v

@@ -1,5 +1,5 @@
 -- `u16_of` meets its contract: the definition, written out for two octets, is the same sum.
-use Rattle.numbers.specs.Numbers.{uintAt, numberOf}
+use Rattle.numbers.specs.Numbers.{uintIn, numberOf}
 use native.Mathlib.Omega.{arith}
 use borrow.Author.Needs.{needs}
 use Rattle.number_reading.proofs.u16_of.Statement.{statement}
@@ -12,7 +12,7 @@ add-result : tie.Need-add-result
 add-result c = search needs
 
 returns : tie.Need-returns
-unfolding uintAt numberOf
+unfolding uintIn numberOf
 returns c = omega arith
 
 pub u16-of-spec : {M : Type 1} → statement M

@@ -1,5 +1,5 @@
 -- `u32_of` meets its contract: the definition, written out for four octets, is the same sum.
-use Rattle.numbers.specs.Numbers.{uintAt, numberOf}
+use Rattle.numbers.specs.Numbers.{uintIn, numberOf}
 use native.Mathlib.Omega.{arith}
 use borrow.Author.Needs.{needs}
 use Rattle.number_reading.proofs.u32_of.Statement.{statement}
@@ -24,7 +24,7 @@ add-result-3 : tie.Need-add-result-3
 add-result-3 c = search needs
 
 returns : tie.Need-returns
-unfolding uintAt numberOf
+unfolding uintIn numberOf
 returns c = omega arith
 
 pub u32-of-spec : {M : Type 1} → statement M

@@ -5,7 +5,7 @@ use Prim.Native.Nat.{_%_}
 use native.Mathlib.Nat.{mod-eq-of-lt}
 use lib.ListN.{set}
 use native.Mathlib.Omega.{arith}
-use Rattle.numbers.specs.Numbers.{octetsOf}
+use Rattle.numbers.specs.Numbers.{octetsIn}
 use Rattle.numbers.proofs.Numbers.{octets-length}
 use Rattle.numbers.proofs.Stores.{put-short, put-fits}
 use borrow.Author.Needs.{needs}
@@ -19,7 +19,7 @@ same-length : tie.Need-same-length
 same-length c = search needs
 
 returns : tie.Need-returns
-unfolding octetsOf
+unfolding octetsIn
 returns c =
     let a = c .before .args in
     ap (set (a .out .now) (a .at)) (sym (mod-eq-of-lt (search needs))) ∙ sym (put-fits (a .out .now) (a .at) (a .v % 256 ∷ []) (omega arith))

@@ -4,8 +4,8 @@ use mathlib.Core.List.{List}
 use Prim.Native.Nat.{ℕ, _+_}
 use native.Mathlib.Omega.{arith}
 use lib.ListN.{length}
-use Rattle.octets.specs.Numbers.{octetsOf, putAt}
-use Rattle.octets.proofs.Numbers.{octets-length}
+use Rattle.octets.specs.Numbers.{octetsIn, putAt}
+use Rattle.octets.proofs.Numbers.{octets-in-length}
 use Rattle.appending.proofs.Appends.{joined-short, joined-fits}
 use borrow.Author.Needs.{needs}
 use Rattle.appending.proofs.append.store_counted.Statement.{statement}
@@ -17,7 +17,7 @@ saturating-sub-requires c κs = search needs
 returns : tie.Need-returns
 returns c =
     let a = c .before .before .before .before .args in
-    joined-short (octetsOf 4 (length (a .octets .now))) (a .octets .now) _ _ (omega (arith, octets-length 4 (length (a .octets .now))))
+    joined-short (octetsIn (a .order) 4 (length (a .octets .now))) (a .octets .now) _ _ (omega (arith, octets-in-length (a .order) 4 (length (a .octets .now))))
 
 add-start : tie.Need-add-start
 add-start c = search needs
@@ -28,19 +28,16 @@ saturating-sub-requires-2 c κs = search needs
 returns-2 : tie.Need-returns-2
 returns-2 c =
     let a = c .before .before .before .before .before .before .args in
-    joined-short (octetsOf 4 (length (a .octets .now))) (a .octets .now) _ _ (omega (arith, octets-length 4 (length (a .octets .now))))
+    joined-short (octetsIn (a .order) 4 (length (a .octets .now))) (a .octets .now) _ _ (omega (arith, octets-in-length (a .order) 4 (length (a .octets .now))))
 
-cast-put-u32 : tie.Need-cast-put-u32
-cast-put-u32 c = search needs
-
-put-u32-requires : tie.Need-put-u32-requires
-put-u32-requires c κs = search needs
+put-uint-requires : tie.Need-put-uint-requires
+put-uint-requires c κs = search needs
 
 copy-requires : tie.Need-copy-requires
 copy-requires c κs = search needs
 
-add-t8 : tie.Need-add-t8
-add-t8 c = search needs
+add-t9 : tie.Need-add-t9
+add-t9 c = search needs
 
 same-length : tie.Need-same-length
 same-length c = search needs
@@ -48,10 +45,10 @@ same-length c = search needs
 returns-3 : tie.Need-returns-3
 returns-3 c =
     let a = c .before .before .before .before .before .before .before .before .before .before .before .before .before .before .args in
-    let front = octetsOf 4 (length (a .octets .now)) in
-    let n : length front ≡ 4 = octets-length 4 (length (a .octets .now)) in
+    let front = octetsIn (a .order) 4 (length (a .octets .now)) in
+    let n : length front ≡ 4 = octets-in-length (a .order) 4 (length (a .octets .now)) in
     joined-fits front (a .octets .now) (a .out .now) _ _ _ (omega arith) (omega arith)
-    (rw n (c .before .before .copy .ensures ∙ ap (λ (o : List ℕ). putAt o (a .at + 4) (a .octets .now)) (c .before .before .before .before .before .before .put-u32 .ensures)))
+    (rw n (c .before .before .copy .ensures ∙ ap (λ (o : List ℕ). putAt o (a .at + 4) (a .octets .now)) (c .before .before .before .before .before .before .put-uint .ensures)))
 
 pub store-counted-spec : {M : Type 1} → statement M
 store-counted-spec =
@@ -62,9 +59,8 @@ store-counted-spec =
     add-start
     saturating-sub-requires-2
     returns-2
-    cast-put-u32
-    put-u32-requires
+    put-uint-requires
     copy-requires
-    add-t8
+    add-t9
     same-length
     returns-3)

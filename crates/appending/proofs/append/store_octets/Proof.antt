@@ -1,10 +1,7 @@
--- `store_octets` meets its contract: each kind of type has its own store, and only strings and blobs come to the last, whose length is a 32-bit one.
-use Prim.Native.Nat.{_-_}
-use native.Mathlib.Omega.{arith}
+-- `store_octets` meets its contract: each kind of type has its own store.
 use borrow.Author.Tests.{eq-eqb, ne-eqb, lt-ltb, le-ltb}
 use Rattle.field_types.specs.FieldTypes.{terminatedType}
 use Rattle.appending.specs.Append.{octetsField}
-use Rattle.appending.proofs.Appends.{octets-cases}
 use borrow.Author.Needs.{needs}
 use Rattle.appending.proofs.append.store_octets.Statement.{statement}
 use Rattle.appending.proofs.append.store_octets.Tie as tie
@@ -33,10 +30,7 @@ unfolding octetsField
 returns-2 c = rw (ne-eqb _ terminatedType (c .before .before .before .before .before .before .if1 .left), ← (c .before .before .before .before .before .width .ensures), lt-ltb 0 _ (c .before .before .before .before .if2 .taken)) (c .before .before .store-plain .ensures)
 
 store-counted-requires : tie.Need-store-counted-requires
-store-counted-requires c κs =
-    let a = c .before .before .before .before .before .before .args in
-    octets-cases (a .kind) (a .octets .now) (c .before .before .before .before .before .before .pre) _
-    (λ e l s. l) (λ e z. absurd (c .before .before .before .if1 .left e)) (λ e l. l) (λ w n l. absurd (omega (arith, c .before .before .width .ensures)))
+store-counted-requires c κs = search needs
 
 same-length-3 : tie.Need-same-length-3
 same-length-3 c = search needs

@@ -4,7 +4,7 @@ use mathlib.Core.List.{List, [], _∷_}
 use Prim.Native.Nat.{ℕ, _+_}
 use native.Mathlib.Omega.{arith}
 use lib.ListN.{length}
-use Rattle.octets.specs.Numbers.{octetsOf, putAt}
+use Rattle.octets.specs.Numbers.{octetsIn, putAt}
 use Rattle.appending.proofs.Appends.{joined-short, joined-fits}
 use borrow.Author.Needs.{needs}
 use Rattle.appending.proofs.append.store_terminated.Statement.{statement}
@@ -32,7 +32,7 @@ same-length : tie.Need-same-length
 same-length c = search needs
 
 returns-2 : tie.Need-returns-2
-unfolding octetsOf
+unfolding octetsIn
 returns-2 c =
     let a = c .before .before .before .before .before .before .before .before .before .before .before .before .args in
     joined-fits (a .octets .now) (0 ∷ []) (a .out .now) _ _ _ (omega arith) refl

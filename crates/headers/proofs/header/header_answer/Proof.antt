@@ -1,7 +1,8 @@
 -- `header_answer` meets its contract: each way out is the first check that holds, and octets read one by one make the numbers tested.
+use mathlib.Core.List.{[], _∷_}
 use mathlib.Core.Path.{refl, _∙_}
 use borrow.Author.Tests.{lt-ltb, le-ltb, eq-eqb, ne-eqb}
-use Rattle.octets.proofs.Numbers.{uint-one, uint-four}
+use Rattle.octets.proofs.Numbers.{uint-one, uint-read}
 use borrow.Author.Needs.{needs}
 use Rattle.headers.specs.Headers.{headerAnswerFor}
 use Rattle.headers.proofs.header.header_answer.Statement.{statement}
@@ -44,7 +45,7 @@ returns-3 c =
       le-ltb _ _ (c .before .before .before .before .before .before .before .before .if1 .left),
       uint-one m 0,
       eq-eqb _ _ (c .before .before .before .before .before .before .if2 .left),
-      ← (c .before .u32-of .ensures ∙ uint-four m 4 4 5 6 7 refl refl refl refl),
+      ← (c .before .u32-of .ensures ∙ uint-read m 4 4 (4 ∷ 5 ∷ 6 ∷ 7 ∷ []) refl (refl, (refl, (refl, (refl, tt))))),
       ne-eqb _ _ (c .if3 .taken),
     )
 
@@ -56,7 +57,7 @@ returns-4 c =
       le-ltb _ _ (c .before .before .before .before .before .before .before .before .if1 .left),
       uint-one m 0,
       eq-eqb _ _ (c .before .before .before .before .before .before .if2 .left),
-      ← (c .before .u32-of .ensures ∙ uint-four m 4 4 5 6 7 refl refl refl refl),
+      ← (c .before .u32-of .ensures ∙ uint-read m 4 4 (4 ∷ 5 ∷ 6 ∷ 7 ∷ []) refl (refl, (refl, (refl, (refl, tt))))),
       eq-eqb _ _ (c .if3 .left),
     )
 

@@ -6,13 +6,13 @@ use borrow.Author.Needs.{needs}
 use lib.ListN.{length-set}
 use Rattle.octets.proofs.Stores.{put-fits, put-short}
 use Rattle.octets.proofs.Numbers.{octets-length}
-use Rattle.octets.specs.Numbers.{octetsOf}
+use Rattle.octets.specs.Numbers.{octetsIn, octetsOf}
 use Rattle.headers.specs.Headers.{headerFor}
 use Rattle.headers.proofs.header.put_header.Statement.{statement}
 use Rattle.headers.proofs.header.put_header.Tie as tie
 
 returns : tie.Need-returns
-unfolding octetsOf
+unfolding octetsIn
 returns c =
     let a = c .before .before .args in
     sym (put-short (a .out .now) 0 (headerFor (a .version) (a .number) (a .session) (a .len)) (c .if1 .taken))

@@ -1,10 +1,11 @@
 -- `counted_fits` meets its contract: with fewer than four octets left there is no length; else it is compared with the octets behind it.
+use mathlib.Core.List.{[], _∷_}
 use mathlib.Core.Path.{refl, _∙_}
 use Prim.Native.Nat.{_+_}
 use native.Mathlib.Omega.{arith}
 use borrow.Author.Tests.{le-leb, lt-leb}
 use lib.ListN.{length}
-use Rattle.octets.proofs.Numbers.{uint-four}
+use Rattle.octets.proofs.Numbers.{uint-read}
 use Rattle.ipdr.specs.Fields.{countedFits}
 use borrow.Author.Needs.{needs}
 use Rattle.ipdr_reading.proofs.read.counted_fits.Statement.{statement}
@@ -60,7 +61,7 @@ returns-2 c =
     let at = a .at in
     rw (
       le-leb (at + 4) (length m) (omega (arith, c .before .before .before .before .before .before .saturating-sub .ensures)),
-      ← (c .u32-of .ensures ∙ uint-four m at at (at + 1) (at + 2) (at + 3) refl refl refl refl),
+      ← (c .u32-of .ensures ∙ uint-read m at 4 (at ∷ (at + 1) ∷ (at + 2) ∷ (at + 3) ∷ []) refl (omega arith, (refl, (refl, (refl, tt))))),
     )
 
 pub counted-fits-spec : {M : Type 1} → statement M

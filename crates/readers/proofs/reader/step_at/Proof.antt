@@ -131,7 +131,7 @@ module _ {M : Type 1} (𝓤 : URA M) (H : Heap 𝓤) (A : Atoms 𝓤) (W : Given
 
   abbrev Is-step : Step → Type 0
   Is-step s =
-      Answered stepAnswer s (stepFrom (now t) id (now r) (opened.At c)) (stepFromJudged (now t) id (now r) (opened.At c)) × Exact (now r) s
+      Answered stepAnswer s (stepFrom (now t) id (now r) (opened.At c)) (stepFromJudged (now t) id (now r) (opened.At c)) × Exact (now t) (now r) s
 
   said : (s : Step) → ent 𝓤 (ensured 𝓤 H A callee.ended (callee.clauses 𝓤 H A mem run) κs′ (d, (t, (id, tt))) tt s) (fact 𝓤 (Is-step s))
   said s = exE 𝓤 _ (λ ws. snd∗ 𝓤 (sem 𝓤 H A (lasts callee.ended κs′ (d, (t, (id, tt))) ws)) (fact 𝓤 (Is-step s)))

@@ -1,6 +1,7 @@
 -- `data_head` meets its contract: each field is read at its place, octet by octet.
+use mathlib.Core.List.{[], _∷_}
 use mathlib.Core.Path.{refl, _∙_}
-use Rattle.octets.proofs.Numbers.{uint-one, uint-two, uint-four}
+use Rattle.octets.proofs.Numbers.{uint-one, uint-read}
 use Rattle.messages.specs.Messages.{dataHeadOf}
 use borrow.Author.Needs.{needs}
 use Rattle.reading.proofs.read.data_head.Statement.{statement}
@@ -47,8 +48,8 @@ returns c =
       uint-one m 2,
       uint-one m 10,
       uint-one m 11,
-      ← (c .before .before .before .before .before .before .u16-of .ensures ∙ uint-two m 8 8 9 refl refl),
-      ← (c .u32-of .ensures ∙ uint-four m 12 12 13 14 15 refl refl refl refl),
+      ← (c .before .before .before .before .before .before .u16-of .ensures ∙ uint-read m 8 2 (8 ∷ 9 ∷ []) refl (refl, (refl, tt))),
+      ← (c .u32-of .ensures ∙ uint-read m 12 4 (12 ∷ 13 ∷ 14 ∷ 15 ∷ []) refl (refl, (refl, (refl, (refl, tt))))),
     )
 
 pub data-head-spec : {M : Type 1} → statement M

@@ -1,7 +1,8 @@
 -- `read_data_ack` meets its contract: where the length fits, the octets read one by one are the DSN and the Configuration ID.
+use mathlib.Core.List.{[], _∷_}
 use mathlib.Core.Path.{refl, _∙_}
 use borrow.Author.Tests.{eq-eqb, ne-eqb}
-use Rattle.octets.proofs.Numbers.{uint-one, uint-four}
+use Rattle.octets.proofs.Numbers.{uint-one, uint-read}
 use borrow.Author.Needs.{needs}
 use Rattle.reading.proofs.read.read_data_ack.Statement.{statement}
 use Rattle.reading.proofs.read.read_data_ack.Tie as tie
@@ -40,7 +41,7 @@ returns-2 c =
       eq-eqb _ _ (c .before .before .before .before .before .before .before .if1 .left),
       uint-one m 2,
       uint-one m 12,
-      ← (c .before .u32-of .ensures ∙ uint-four m 8 8 9 10 11 refl refl refl refl),
+      ← (c .before .u32-of .ensures ∙ uint-read m 8 4 (8 ∷ 9 ∷ 10 ∷ 11 ∷ []) refl (refl, (refl, (refl, (refl, tt))))),
     )
 
 pub read-data-ack-spec : {M : Type 1} → statement M

@@ -1,7 +1,8 @@
 -- `read_start_ack` meets its contract: where the length fits, the octets read one by one are the boot time.
+use mathlib.Core.List.{[], _∷_}
 use mathlib.Core.Path.{refl, _∙_}
 use borrow.Author.Tests.{eq-eqb, ne-eqb}
-use Rattle.octets.proofs.Numbers.{uint-one, uint-four}
+use Rattle.octets.proofs.Numbers.{uint-one, uint-read}
 use borrow.Author.Needs.{needs}
 use Rattle.reading.proofs.read.read_start_ack.Statement.{statement}
 use Rattle.reading.proofs.read.read_start_ack.Tie as tie
@@ -33,7 +34,7 @@ u32-of-requires c κs = search needs
 returns-2 : tie.Need-returns-2
 returns-2 c =
     let m = c .before .before .before .before .before .before .before .before .args .message .now in
-    rw (eq-eqb _ _ (c .before .before .before .before .before .before .if1 .left), uint-one m 2, ← (c .u32-of .ensures ∙ uint-four m 8 8 9 10 11 refl refl refl refl))
+    rw (eq-eqb _ _ (c .before .before .before .before .before .before .if1 .left), uint-one m 2, ← (c .u32-of .ensures ∙ uint-read m 8 4 (8 ∷ 9 ∷ 10 ∷ 11 ∷ []) refl (refl, (refl, (refl, (refl, tt))))))
 
 pub read-start-ack-spec : {M : Type 1} → statement M
 read-start-ack-spec =

@@ -14,8 +14,8 @@ returns : tie.Need-returns
 unfolding blobLength
 returns c = rw (← c .before .saturating-sub .ensures, lt-ltb _ _ (c .if1 .taken))
 
-u32-at-requires : tie.Need-u32-at-requires
-u32-at-requires c κs = search needs
+u32-in-requires : tie.Need-u32-in-requires
+u32-in-requires c κs = search needs
 
 cast-n : tie.Need-cast-n
 cast-n c = search needs
@@ -30,7 +30,7 @@ returns-2 : tie.Need-returns-2
 unfolding blobLength
 returns-2 c =
     let d = c .before .before .before in
-    rw (← d .before .saturating-sub .ensures, le-ltb _ _ (d .if1 .left), ← c .before .saturating-sub2 .ensures, ← c .before .before .u32-at .ensures, lt-ltb _ _ (c .if2 .taken))
+    rw (← d .before .saturating-sub .ensures, le-ltb _ _ (d .if1 .left), ← c .before .saturating-sub2 .ensures, ← c .before .before .u32-in .ensures, lt-ltb _ _ (c .if2 .taken))
 
 add-result : tie.Need-add-result
 add-result c = search needs
@@ -39,7 +39,7 @@ returns-3 : tie.Need-returns-3
 unfolding blobLength
 returns-3 c =
     let d = c .before .before .before in
-    rw (← d .before .saturating-sub .ensures, le-ltb _ _ (d .if1 .left), ← c .before .saturating-sub2 .ensures, ← c .before .before .u32-at .ensures, le-ltb _ _ (c .if2 .left))
+    rw (← d .before .saturating-sub .ensures, le-ltb _ _ (d .if1 .left), ← c .before .saturating-sub2 .ensures, ← c .before .before .u32-in .ensures, le-ltb _ _ (c .if2 .left))
 
 pub blob-length-spec : {M : Type 1} → statement M
 blob-length-spec =
@@ -47,7 +47,7 @@ blob-length-spec =
     (tie.spec
     saturating-sub-requires
     returns
-    u32-at-requires
+    u32-in-requires
     cast-n
     add-saturating-sub
     saturating-sub-requires-2

@@ -1,5 +1,11 @@
 -- `length_under` meets its contract: a disabled key has no field, and the field of any other has the length of its type's.
 use mathlib.Core.Path.{sym, _∙_}
+use Prim.Native.Nat.{_<_}
+use native.Mathlib.Omega.{arith}
+use Rattle.octets.proofs.Numbers.{uint-one}
+use Rattle.field_types.specs.FieldTypes.{widthOf}
+use Rattle.tables.specs.Table.{tableOrder}
+use Rattle.records.proofs.Records.{fixed-length}
 use borrow.Author.Needs.{needs}
 use Rattle.records.proofs.record.length_under.Statement.{statement}
 use Rattle.records.proofs.record.length_under.Tie as tie
@@ -29,13 +35,33 @@ fixed-length-requires : tie.Need-fixed-length-requires
 fixed-length-requires c κs = search needs
 
 returns : tie.Need-returns
-returns c = rw (sym (c .before .before .before .before .before .before .is-enabled .ensures) ∙ c .before .before .before .before .before .if1 .taken, c .fixed-length .ensures, c .before .before .before .u16-at .ensures)
+returns c =
+    let b = c .before .before .before in
+    let a = b .before .before .before .before .before .before .args in
+    let some : 0 < widthOf (b .u16-at .result) = omega (arith, c .before .before .width .ensures) in
+    rw (sym (b .before .before .before .is-enabled .ensures) ∙ b .before .before .if1 .taken, ← b .u16-at .ensures)
+    (c .fixed-length .ensures ∙ fixed-length (tableOrder (a .t .now)) (b .u16-at .result) (a .r .now) (a .at) some)
+
+shared-slice-read-order-of : tie.Need-shared-slice-read-order-of
+shared-slice-read-order-of c = search needs
+
+order-of-requires : tie.Need-order-of-requires
+order-of-requires c κs = search needs
 
 varying-length-requires : tie.Need-varying-length-requires
 varying-length-requires c κs = search needs
 
 returns-2 : tie.Need-returns-2
-returns-2 c = rw (sym (c .before .before .before .before .before .before .is-enabled .ensures) ∙ c .before .before .before .before .before .if1 .taken, c .varying-length .ensures, c .before .before .before .u16-at .ensures)
+returns-2 c =
+    let b = c .before .before .before .before .before in
+    let t = b .before .before .before .before .before .before .args .t .now in
+    rw (
+      sym (b .before .before .before .is-enabled .ensures) ∙ b .before .before .if1 .taken,
+      c .varying-length .ensures,
+      c .before .order-of .ensures,
+      uint-one t 1,
+      b .u16-at .ensures,
+    )
 
 returns-3 : tie.Need-returns-3
 returns-3 c = rw (sym (c .before .is-enabled .ensures) ∙ c .if1 .left)
@@ -53,6 +79,8 @@ length-under-spec =
     cast-width
     fixed-length-requires
     returns
+    shared-slice-read-order-of
+    order-of-requires
     varying-length-requires
     returns-2
     returns-3)

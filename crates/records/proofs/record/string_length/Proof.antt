@@ -19,20 +19,20 @@ returns c = rw (← c .before .blob-length .ensures, c .if1 .taken)
 add-all-ascii : tie.Need-add-all-ascii
 add-all-ascii c =
     let a = c .before .before .before .args in
-    let h : 0 < blobLength (a .r .now) (a .at) = omega arith in
-    omega (arith, blob-within (a .r .now) (a .at), blob-counts (a .r .now) (a .at) h)
+    let h : 0 < blobLength (a .order) (a .r .now) (a .at) = omega arith in
+    omega (arith, blob-within (a .order) (a .r .now) (a .at), blob-counts (a .order) (a .r .now) (a .at) h)
 
 sub-all-ascii : tie.Need-sub-all-ascii
 sub-all-ascii c =
     let a = c .before .before .before .args in
-    let h : 0 < blobLength (a .r .now) (a .at) = omega arith in
-    omega (arith, blob-within (a .r .now) (a .at), blob-counts (a .r .now) (a .at) h)
+    let h : 0 < blobLength (a .order) (a .r .now) (a .at) = omega arith in
+    omega (arith, blob-within (a .order) (a .r .now) (a .at), blob-counts (a .order) (a .r .now) (a .at) h)
 
 all-ascii-requires : tie.Need-all-ascii-requires
 all-ascii-requires c κs =
     let a = c .before .before .before .args in
-    let h : 0 < blobLength (a .r .now) (a .at) = omega arith in
-    omega (arith, blob-within (a .r .now) (a .at), blob-counts (a .r .now) (a .at) h)
+    let h : 0 < blobLength (a .order) (a .r .now) (a .at) = omega arith in
+    omega (arith, blob-within (a .order) (a .r .now) (a .at), blob-counts (a .order) (a .r .now) (a .at) h)
 
 returns-2 : tie.Need-returns-2
 unfolding stringLength

@@ -4,7 +4,7 @@ use Prim.Native.Nat.{_-_, _*_, _^_}
 use native.Mathlib.Omega.{arith}
 use borrow.Author.Needs.{needs}
 use borrow.Author.Tests.{le-ltb, lt-ltb}
-use Rattle.octets.specs.Numbers.{uintAt}
+use Rattle.octets.specs.Numbers.{uintIn}
 use Rattle.octets.proofs.Numbers.{greatest-of}
 use Rattle.records.specs.Walk.{signedAt}
 use Rattle.records.specs.declared.walk.Value.the-variants.{Number, Negative}
@@ -23,30 +23,30 @@ unfolding signedAt
 returns c =
     let a = c .before .before .before .before .args in
     let g = greatest-of (a .w) (omega arith) (c .before .greatest .ensures) in
-    let u = uint-u64 (a .r .now) (λ i. (c .before .before .before .shared-slice-known .given i) .fits) (a .at) (a .w) (omega arith) in
-    let n : c .before .before .get-uint .result ≡ uintAt (a .r .now) (a .at) (a .w) = c .before .before .get-uint .ensures ∙ u .1 in
-    rw (lt-ltb (2 * uintAt (a .r .now) (a .at) (a .w)) (256 ^ a .w) (omega (arith, u .0, g))) (ap Number n)
+    let u = uint-u64 (a .order) (a .r .now) (λ i. (c .before .before .before .shared-slice-known .given i) .fits) (a .at) (a .w) (omega arith) in
+    let n : c .before .before .get-uint .result ≡ uintIn (a .order) (a .r .now) (a .at) (a .w) = c .before .before .get-uint .ensures ∙ u .1 in
+    rw (lt-ltb (2 * uintIn (a .order) (a .r .now) (a .at) (a .w)) (256 ^ a .w) (omega (arith, u .0, g))) (ap Number n)
 
-sub-t6 : tie.Need-sub-t6
-sub-t6 c =
+sub-t7 : tie.Need-sub-t7
+sub-t7 c =
     let a = c .before .before .before .before .args in
     let g = greatest-of (a .w) (omega arith) (c .before .greatest .ensures) in
-    let u = uint-u64 (a .r .now) (λ i. (c .before .before .before .shared-slice-known .given i) .fits) (a .at) (a .w) (omega arith) in
+    let u = uint-u64 (a .order) (a .r .now) (λ i. (c .before .before .before .shared-slice-known .given i) .fits) (a .at) (a .w) (omega arith) in
     omega (arith, u .0, u .1, g, c .before .before .get-uint .ensures)
 
-add-t8 : tie.Need-add-t8
-add-t8 c = search needs
+add-t9 : tie.Need-add-t9
+add-t9 c = search needs
 
 returns-2 : tie.Need-returns-2
 unfolding signedAt
 returns-2 c =
     let a = c .before .before .before .before .args in
     let g = greatest-of (a .w) (omega arith) (c .before .greatest .ensures) in
-    let u = uint-u64 (a .r .now) (λ i. (c .before .before .before .shared-slice-known .given i) .fits) (a .at) (a .w) (omega arith) in
-    let n : c .before .before .get-uint .result ≡ uintAt (a .r .now) (a .at) (a .w) = c .before .before .get-uint .ensures ∙ u .1 in
-    rw (le-ltb (2 * uintAt (a .r .now) (a .at) (a .w)) (256 ^ a .w) (omega (arith, u .0, g)))
+    let u = uint-u64 (a .order) (a .r .now) (λ i. (c .before .before .before .shared-slice-known .given i) .fits) (a .at) (a .w) (omega arith) in
+    let n : c .before .before .get-uint .result ≡ uintIn (a .order) (a .r .now) (a .at) (a .w) = c .before .before .get-uint .ensures ∙ u .1 in
+    rw (le-ltb (2 * uintIn (a .order) (a .r .now) (a .at) (a .w)) (256 ^ a .w) (omega (arith, u .0, g)))
     (ap Negative (omega (arith, u .0, g)))
 
 pub signed-at-spec : {M : Type 1} → statement M
 signed-at-spec =
-    tie.close (tie.spec get-uint-requires greatest-requires returns sub-t6 add-t8 returns-2)
+    tie.close (tie.spec get-uint-requires greatest-requires returns sub-t7 add-t9 returns-2)

@@ -3,6 +3,7 @@
 use native.Mathlib.Omega.{arith}
 use Prim.Native.Nat.{_-_}
 use borrow.Author.Tests.{eq-eqb, ne-eqb, le-leb, lt-leb}
+use Rattle.octets.proofs.Numbers.{uint-one}
 use Rattle.records.specs.Walk.{stepUnder}
 use Rattle.records.proofs.FieldsWithin.{field-within}
 use borrow.Author.Needs.{needs}
@@ -28,31 +29,58 @@ add-u16-at-2 c = search needs
 u16-at-requires : tie.Need-u16-at-requires
 u16-at-requires c κs = search needs
 
+shared-slice-read-order-of : tie.Need-shared-slice-read-order-of
+shared-slice-read-order-of c = search needs
+
+order-of-requires : tie.Need-order-of-requires
+order-of-requires c κs = search needs
+
 field-length-requires : tie.Need-field-length-requires
 field-length-requires c κs = search needs
 
 returns-2 : tie.Need-returns-2
 unfolding stepUnder
 returns-2 c =
-    let d = c .before .before .before .before in
-    rw (← d .before .before .next-key .ensures, lt-leb _ _ (d .if1 .left), ← c .before .before .u16-at .ensures, ← c .before .field-length .ensures, eq-eqb _ _ (c .if2 .taken))
+    let o = c .before .before in
+    let u = o .before .before in
+    let d = u .before .before in
+    rw (
+      ← d .before .before .next-key .ensures,
+      lt-leb _ _ (d .if1 .left),
+      ← u .u16-at .ensures,
+      uint-one (d .before .before .before .before .before .args .t .now) 1,
+      ← o .order-of .ensures,
+      ← c .before .field-length .ensures,
+      eq-eqb _ _ (c .if2 .taken),
+    )
 
 value-at-requires : tie.Need-value-at-requires
 value-at-requires c κs = search needs
 
-add-t13 : tie.Need-add-t13
-add-t13 c = search needs
+add-t12 : tie.Need-add-t12
+add-t12 c = search needs
 
-add-t11 : tie.Need-add-t11
-add-t11 c =
-    let a = c .before .before .before .before .before .before .before .before .before .before .args in
-    omega (arith, field-within (c .before .before .before .u16-at .result) (a .r .now) (a .c .at))
+add-t13 : tie.Need-add-t13
+add-t13 c =
+    let a = c .before .before .before .before .before .before .before .before .before .before .before .before .args in
+    omega (arith, field-within (c .before .before .before .order-of .result) (c .before .before .before .before .before .u16-at .result) (a .r .now) (a .c .at))
 
 returns-3 : tie.Need-returns-3
 unfolding stepUnder
 returns-3 c =
-    let d = c .before .before .before .before .before in
-    rw (← d .before .before .next-key .ensures, lt-leb _ _ (d .if1 .left), ← c .before .before .before .u16-at .ensures, ← c .before .before .field-length .ensures, ne-eqb _ _ (c .before .if2 .left), c .value-at .ensures)
+    let o = c .before .before .before in
+    let u = o .before .before in
+    let d = u .before .before in
+    rw (
+      ← d .before .before .next-key .ensures,
+      lt-leb _ _ (d .if1 .left),
+      ← u .u16-at .ensures,
+      uint-one (d .before .before .before .before .before .args .t .now) 1,
+      ← o .order-of .ensures,
+      ← c .before .before .field-length .ensures,
+      ne-eqb _ _ (c .before .if2 .left),
+      c .value-at .ensures,
+    )
 
 pub step-under-spec : {M : Type 1} → statement M
 step-under-spec =
@@ -64,9 +92,11 @@ step-under-spec =
     add-u16-at
     add-u16-at-2
     u16-at-requires
+    shared-slice-read-order-of
+    order-of-requires
     field-length-requires
     returns-2
     value-at-requires
+    add-t12
     add-t13
-    add-t11
     returns-3)

@@ -1,8 +1,9 @@
 -- `key_sound` meets its contract: octets read one by one make the numbers that the definition tests.
+use mathlib.Core.List.{[], _∷_}
 use mathlib.Core.Path.{refl, _∙_}
 use native.Mathlib.Omega.{arith}
 use Prim.Native.Nat.{_+_, _-_}
-use Rattle.octets.proofs.Numbers.{uint-two, uint-four}
+use Rattle.octets.proofs.Numbers.{uint-read}
 use Rattle.tables.specs.Table.{keySound}
 use borrow.Author.Needs.{needs}
 use Rattle.tables.proofs.table.key_sound.Statement.{statement}
@@ -73,9 +74,9 @@ unfolding keySound
 returns c =
     let a = c .before .before .before .before .before .before .before .before .before .before .before .before .before .args in
     let t = a .t .now in
-    let kind = c .before .before .before .before .before .before .before .before .before .u16-of .ensures ∙ uint-two t (a .at + 4) (a .at + 4) (a .at + 5) refl (omega arith) in
-    let reserved = c .before .before .before .before .before .u16-of2 .ensures ∙ uint-two t (a .at + 6) (a .at + 6) (a .at + 7) refl (omega arith) in
-    let attributes = c .u32-of .ensures ∙ uint-four t (a .at + 8) (a .at + 8) (a .at + 9) (a .at + 10) (a .at + 11) refl (omega arith) (omega arith) (omega arith) in
+    let kind = c .before .before .before .before .before .before .before .before .before .u16-of .ensures ∙ uint-read t (a .at + 4) 2 ((a .at + 4) ∷ (a .at + 5) ∷ []) refl (omega arith, (omega arith, tt)) in
+    let reserved = c .before .before .before .before .before .u16-of2 .ensures ∙ uint-read t (a .at + 6) 2 ((a .at + 6) ∷ (a .at + 7) ∷ []) refl (omega arith, (omega arith, tt)) in
+    let attributes = c .u32-of .ensures ∙ uint-read t (a .at + 8) 4 ((a .at + 8) ∷ (a .at + 9) ∷ (a .at + 10) ∷ (a .at + 11) ∷ []) refl (omega arith, (omega arith, (omega arith, (omega arith, tt)))) in
     rw (attributes, reserved, c .before .before .before .before .before .before .before .before .is-type .ensures, kind)
 
 pub key-sound-spec : {M : Type 1} → statement M

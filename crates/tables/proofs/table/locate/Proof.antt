@@ -8,7 +8,7 @@ use Rattle.octets.specs.Numbers.{uintAt}
 use Rattle.octets.specs.Each.{firstFrom}
 use Rattle.octets.proofs.Each.{first-here, first-on, first-none}
 use Rattle.tables.specs.Table.{blockEnd, blockAt, idAt, templateCount, templateIndex, locateOf}
-use Rattle.tables.proofs.Tables.{block-at-more, block-near, block-in, table-facts}
+use Rattle.tables.proofs.Tables.{block-at-more, block-near, block-in, table-facts, table-long}
 use borrow.Author.Needs.{needs}
 use Rattle.tables.proofs.table.locate.Statement.{statement}
 use Rattle.tables.proofs.table.locate.Tie as tie
@@ -19,8 +19,10 @@ Inv-loop t id count at₀ i₀ at i = (i ≤ count) × ((at ≡ blockAt t i) × 
 abbrev μ-loop : tie.MeasureT-loop
 μ-loop t id count at₀ i₀ at i = count - i
 
-get-u16-requires : tie.Need-get-u16-requires Inv-loop μ-loop
-get-u16-requires c κs = search needs
+u16-at-requires : tie.Need-u16-at-requires Inv-loop μ-loop
+u16-at-requires c κs =
+    let s = c .before in
+    omega (arith, table-long (s .args .t .now) (s .pre))
 
 cast-count : tie.Need-cast-count Inv-loop μ-loop
 cast-count c = search needs
@@ -28,11 +30,11 @@ cast-count c = search needs
 loop-holds : tie.Need-loop-holds Inv-loop μ-loop
 unfolding templateIndex blockAt
 loop-holds c =
-    let e : c .get-u16 .result - 0 ≡ templateCount (c .before .before .args .t .now) = omega arith in
+    let e : c .u16-at .result - 0 ≡ templateCount (c .before .before .args .t .now) = omega arith in
     (search needs, (refl, rw e))
 
-u16-at-requires : tie.Need-u16-at-requires Inv-loop μ-loop
-u16-at-requires c κs =
+u16-at-requires-2 : tie.Need-u16-at-requires-2 Inv-loop μ-loop
+u16-at-requires-2 c κs =
     let s = c .before .before .before .before in
     let f = table-facts (s .args .t .now) (s .pre) in
     omega (arith, block-in (s .args .t .now) (templateCount (s .args .t .now)) (f .blocks) (c .before .loop .i) (omega arith))
@@ -53,7 +55,7 @@ returns c =
     let a = c .before .before .before .before .before .before .before .args in
     let t = a .t .now in
     let e : templateIndex t (a .id) ≡ l .i =
-    sym (l .inv .1 .1) ∙ first-here (l .i) (c .before .before .before .before .before .get-u16 .result - l .i) (λ j. eqb (idAt t j) (a .id)) (omega arith) (eq-eqb _ _ (ap (λ (p : ℕ). uintAt t p 2) (sym (l .inv .1 .0)) ∙ sym (c .before .before .u16-at .ensures) ∙ c .before .if1 .taken)) in
+    sym (l .inv .1 .1) ∙ first-here (l .i) (c .before .before .before .before .before .u16-at .result - l .i) (λ j. eqb (idAt t j) (a .id)) (omega arith) (eq-eqb _ _ (ap (λ (p : ℕ). uintAt t p 2) (sym (l .inv .1 .0)) ∙ sym (c .before .before .u16-at2 .ensures) ∙ c .before .if1 .taken)) in
     let n : l .i < templateCount t = omega arith in
     rw (e, lt-leb (templateCount t) (l .i) n, c .template-at .ensures, l .inv .1 .0)
 
@@ -77,12 +79,12 @@ loop-again c =
     let l = c .before .before .before .before .loop in
     let a = c .before .before .before .before .before .before .before .args in
     let t = a .t .now in
-    let count = c .before .before .before .before .before .get-u16 .result in
+    let count = c .before .before .before .before .before .u16-at .result in
     let k : count - (l .i + 1) ≡ count - l .i - 1 = omega arith in (
       search needs,
       (
         c .block-end .ensures ∙ ap (blockEnd t) (l .inv .1 .0) ∙ sym (block-at-more t (l .i)),
-        rw k (sym (first-on (l .i) (count - l .i) (λ j. eqb (idAt t j) (a .id)) (omega arith) (ne-eqb _ _ (λ e. c .before .if1 .left (c .before .before .u16-at .ensures ∙ ap (λ (p : ℕ). uintAt t p 2) (l .inv .1 .0) ∙ e)))) ∙ l .inv .1 .1),
+        rw k (sym (first-on (l .i) (count - l .i) (λ j. eqb (idAt t j) (a .id)) (omega arith) (ne-eqb _ _ (λ e. c .before .if1 .left (c .before .before .u16-at2 .ensures ∙ ap (λ (p : ℕ). uintAt t p 2) (l .inv .1 .0) ∙ e)))) ∙ l .inv .1 .1),
       ),
     )
 
@@ -92,7 +94,7 @@ returns-2 c =
     let l = c .before .loop in
     let a = c .before .before .before .before .args in
     let t = a .t .now in
-    let e : l .i ≡ templateIndex t (a .id) = sym (first-none (l .i) (c .before .before .get-u16 .result - l .i) (λ j. eqb (idAt t j) (a .id)) (omega arith)) ∙ l .inv .1 .1 in
+    let e : l .i ≡ templateIndex t (a .id) = sym (first-none (l .i) (c .before .before .u16-at .result - l .i) (λ j. eqb (idAt t j) (a .id)) (omega arith)) ∙ l .inv .1 .1 in
     let n : templateCount t ≤ templateIndex t (a .id) = omega arith in
     rw (le-leb (templateCount t) (templateIndex t (a .id)) n)
 
@@ -102,10 +104,10 @@ locate-spec =
     (tie.spec
     Inv-loop
     μ-loop
-    get-u16-requires
+    u16-at-requires
     cast-count
     loop-holds
-    u16-at-requires
+    u16-at-requires-2
     template-at-requires
     returns
     block-end-requires

@@ -6,7 +6,7 @@ use native.Mathlib.Omega.{arith}
 use borrow.Author.Needs.{needs}
 use lib.Seq.{sets}
 use lib.ListN.{length-set}
-use Rattle.octets.specs.Numbers.{octetsOf}
+use Rattle.octets.specs.Numbers.{octetsIn, octetsOf}
 use Rattle.messages.specs.Messages.{headerOctetsOf, dataNumber}
 use Rattle.octets.proofs.Stores.{put-then, sets-then}
 use Rattle.writing.proofs.write.put_data_head.Statement.{statement}
@@ -40,7 +40,7 @@ same-length : tie.Need-same-length
 same-length c = c .before .before .put-u32 .kept .0 ∙ simp length-set (search needs)
 
 returns : tie.Need-returns
-unfolding octetsOf
+unfolding octetsIn
 returns c =
     let a = c .before .before .before .before .before .before .before .before .before .before .before .before .before .before .args in
     let h = a .head in

@@ -2,7 +2,7 @@
 use mathlib.Core.Path.{_∙_}
 use native.Mathlib.Omega.{arith}
 use borrow.Author.Needs.{needs}
-use Rattle.octets.specs.Numbers.{octetsOf}
+use Rattle.octets.specs.Numbers.{octetsIn}
 use Rattle.octets.proofs.Stores.{put-fits}
 use Rattle.messages.specs.Messages.{headerOctetsOf}
 use Rattle.writing.proofs.write.put_header.Statement.{statement}
@@ -15,7 +15,7 @@ same-length : tie.Need-same-length
 same-length c = search needs
 
 returns : tie.Need-returns
-unfolding octetsOf
+unfolding octetsIn
 returns c =
     let a = c .before .before .before .before .before .args in
     c .before .before .put-header .ensures

@@ -7,7 +7,7 @@ use borrow.Author.Needs.{needs}
 use lib.Seq.{sets}
 use lib.ListN.{length}
 use Rattle.octets.specs.Answers.{recordTooLong}
-use Rattle.octets.specs.Numbers.{octetsOf}
+use Rattle.octets.specs.Numbers.{octetsIn}
 use Rattle.messages.specs.Messages.{dataHeadOctets, writeAnswer}
 use Rattle.messages.proofs.Messages.{placed-short, placed, allowed, refused, data-length, data-layout}
 use Rattle.octets.proofs.Stores.{put-then}
@@ -36,7 +36,7 @@ same-length : tie.Need-same-length
 same-length c = search needs
 
 returns-3 : tie.Need-returns-3
-unfolding octetsOf
+unfolding octetsIn
 returns-3 c =
     let a = c .before .before .before .before .before .before .before .before .before .before .before .before .args in
     let part = a .part .now in

@@ -4,7 +4,7 @@ use mathlib.Core.Path.{refl}
 use native.Mathlib.Omega.{arith}
 use borrow.Author.Needs.{needs}
 use lib.ListN.{length-set}
-use Rattle.octets.specs.Numbers.{octetsOf}
+use Rattle.octets.specs.Numbers.{octetsIn}
 use Rattle.messages.specs.Messages.{headerOctetsOf, messageOf, finalTmplDataAck}
 use Rattle.messages.proofs.Messages.{placed-short, placed}
 use Rattle.octets.proofs.Stores.{sets-then}
@@ -12,7 +12,7 @@ use Rattle.writing.proofs.write.write_final_tmpl_data_ack.Statement.{st
 use Rattle.writing.proofs.write.write_final_tmpl_data_ack.Tie as tie
 
 returns : tie.Need-returns
-unfolding messageOf octetsOf
+unfolding messageOf octetsIn
 returns c = placed-short _ _ (c .if1 .taken)
 
 cast-put-header : tie.Need-cast-put-header
@@ -37,7 +37,7 @@ same-length : tie.Need-same-length
 same-length c = search needs
 
 returns-2 : tie.Need-returns-2
-unfolding messageOf octetsOf
+unfolding messageOf octetsIn
 returns-2 c =
     let a = c .before .before .before .before .before .before .args in
     placed _ _ _ 12 refl (c .before .before .before .before .if1 .left)

@@ -1,7 +1,7 @@
 -- `write_start_ack` meets its contract: the boot time follows the header.
 use mathlib.Core.Path.{refl, _∙_}
 use borrow.Author.Needs.{needs}
-use Rattle.octets.specs.Numbers.{octetsOf}
+use Rattle.octets.specs.Numbers.{octetsIn, octetsOf}
 use Rattle.messages.specs.Messages.{headerOctetsOf, messageOf, startAck}
 use Rattle.messages.proofs.Messages.{placed-short, placed}
 use Rattle.octets.proofs.Stores.{put-then}
@@ -9,7 +9,7 @@ use Rattle.writing.proofs.write.write_start_ack.Statement.{statement}
 use Rattle.writing.proofs.write.write_start_ack.Tie as tie
 
 returns : tie.Need-returns
-unfolding messageOf octetsOf
+unfolding messageOf octetsIn
 returns c = placed-short _ _ (c .if1 .taken)
 
 cast-put-header : tie.Need-cast-put-header
@@ -25,7 +25,7 @@ same-length : tie.Need-same-length
 same-length c = search needs
 
 returns-2 : tie.Need-returns-2
-unfolding messageOf octetsOf
+unfolding messageOf octetsIn
 returns-2 c =
     let a = c .before .before .before .before .before .before .before .before .before .before .args in
     let room = c .before .before .before .before .before .before .before .before .if1 .left in

@@ -7,7 +7,7 @@ use borrow.Author.Tests.{not-false}
 use borrow.Author.Needs.{needs}
 use lib.ListN.{length}
 use Rattle.octets.specs.Answers.{unsoundTable}
-use Rattle.octets.specs.Numbers.{octetsOf}
+use Rattle.octets.specs.Numbers.{octetsIn}
 use Rattle.messages.specs.Messages.{headerOctetsOf, messageOf, tmplData, layoutOf, writeAnswer}
 use Rattle.messages.proofs.Messages.{placed-short, placed, allowed, refused, message-length}
 use Rattle.octets.proofs.Stores.{put-then}
@@ -45,7 +45,7 @@ same-length : tie.Need-same-length
 same-length c = search needs
 
 returns-3 : tie.Need-returns-3
-unfolding layoutOf messageOf octetsOf
+unfolding layoutOf messageOf octetsIn
 returns-3 c =
     let a = c .before .before .before .before .before .before .before .before .before .before .before .before .before .args in
     let part = a .part .now in

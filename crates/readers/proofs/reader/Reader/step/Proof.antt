@@ -88,7 +88,7 @@ module _ {M : Type 1} (𝓤 : URA M) (H : Heap 𝓤) (A : Atoms 𝓤) (W : Given
   abbrev Is-step : Step → Type 0
   Is-step s =
       Answered stepAnswer s (stepFrom (now t) id (now (d .«record»)) (d .place)) (stepFromJudged (now t) id (now (d .«record»)) (d .place))
-      × Exact (now (d .«record»)) s
+      × Exact (now t) (now (d .«record»)) s
 
   abbrev Post : Val → SProp 𝓤
   Post = walkOf 𝓤 H A this.ended stayed (this.clauses 𝓤 H A mem run) .post ((κs, (q, (q′, tt)), tt, (d, (t, (id, tt))), at), tt)

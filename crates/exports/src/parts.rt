@@ -1,4 +1,4 @@
-// Answers that are enums, as numbers.
+// Answers that are enums, as numbers: what an accepted one has added, and the part of an answer that has no more.
 ghost use mathlib.Core.Path.{_≡_};
 ghost use mathlib.Core.List.{[], _∷_};
 ghost use lib.ListN.{getD};

@@ -4,8 +4,8 @@ use mathlib.Core.List.{[], _∷_}
 use lib.ListN.{List·getD-eq-default}
 use native.Mathlib.Nat.{pos-of-ne-zero}
 use borrow.Author.Needs.{needs}
-use Rattle.exports.proofs.numbers.sole_part.Statement.{statement}
-use Rattle.exports.proofs.numbers.sole_part.Tie as tie
+use Rattle.exports.proofs.parts.sole_part.Statement.{statement}
+use Rattle.exports.proofs.parts.sole_part.Tie as tie
 
 returns : tie.Need-returns
 returns c = search needs
