@@ -11,13 +11,14 @@ mod faults;
 mod hostile;
 mod layouts;
 mod limits;
+mod little;
 #[cfg(test)]
 mod mistakes;
 pub mod records;
 mod session;
 mod sessions;
 #[cfg(test)]
-mod situations;
+pub mod situations;
 pub mod tables;
 
 use crate::random::Random;
@@ -37,7 +38,7 @@ const fn profile(name: &'static str, weight: u64, what: &'static str, make: fn(u
     Profile { name, weight, what, make }
 }
 
-pub const PROFILES: [Profile; 17] = [
+pub const PROFILES: [Profile; 18] = [
     profile("sessions", 2, "typical sessions with one to eight servers", sessions::sessions),
     profile(
         "takeovers",
@@ -65,10 +66,11 @@ pub const PROFILES: [Profile; 17] = [
     profile("damaged-tapes", 3, "tapes refused for one reason, and near misses", broken::tape),
     profile("hostile", 1, "damaged and random messages", sessions::hostile_tapes),
     profile("largest", 1, "512 events and 32,768 octets", sessions::largest),
+    profile("little", 4, "little-endian tables of every field type, records in the wrong order", little::little),
 ];
 
 /// How many tapes a run has if it is not told.
-pub const DEFAULT_TAPES: u64 = 2_000;
+pub const DEFAULT_TAPES: u64 = 2_300;
 
 /// Seeds that are run together: a run of seed S, which is 1 if it is not told, has the seeds from S times this on.
 pub const SEEDS_APART: u64 = 1_000_000;
@@ -194,6 +196,18 @@ mod tests {
     }
 
     #[test]
+    fn numbers_of_a_table_that_are_turned_make_it_unsound() {
+        for (place, damage) in tables::TURNED_NUMBERS.iter().enumerate() {
+            for seed in 0..200 {
+                let mut random = Random::from_parts(&[place as u64, seed]);
+                let table = tables::sound(&mut random, 1, MAX_TEMPLATES, MAX_KEYS);
+                let octets = (damage.apply)(&mut random, table);
+                assert!(!model::table::is_sound(&octets), "{}, seed {seed}", damage.name);
+            }
+        }
+    }
+
+    #[test]
     fn the_largest_table_is_sound_and_four_octets_more_are_not() {
         for seed in 0..50 {
             let mut random = Random::from_parts(&[seed]);
@@ -211,7 +225,7 @@ mod tests {
             let octets = table.octets();
             for template in &table.templates {
                 let wanted = random.below(1_100);
-                let record = records::valid(&mut random, template, wanted);
+                let record = records::valid(&mut random, table.order, template, wanted);
                 assert_eq!(model::record::judge(&octets, template.id, &record), 0, "seed {seed}");
             }
         }

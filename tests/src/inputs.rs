@@ -7,6 +7,8 @@ mod edition;
 mod make;
 #[cfg(test)]
 mod mistakes;
+#[cfg(test)]
+mod order;
 mod whole;
 
 use crate::library;
@@ -46,7 +48,7 @@ pub const FUNCTIONS: [Function; 9] = [
         answers: &[DONE, TEMPLATE_NOT_FOUND, RECORD_INVALID, UNSOUND_TABLE, library::END],
         make: make::step,
     },
-    Function { name: "append", answers: &[DONE, OUTPUT_TOO_SHORT, RECORD_INVALID], make: make::append },
+    Function { name: "append", answers: &[DONE, OUTPUT_TOO_SHORT, RECORD_INVALID, UNSOUND_TABLE], make: make::append },
     Function { name: "whole", answers: &[DONE, OUTPUT_TOO_SHORT, RECORD_INVALID], make: make::whole },
     Function { name: "edition", answers: MESSAGE_ANSWERS, make: make::edition::edition },
 ];
@@ -73,7 +75,7 @@ pub fn function_number(name: &str) -> Option<usize> {
 }
 
 /// The arguments of one call, or of all that a whole record takes.
-#[derive(Debug)]
+#[derive(Clone, Debug)]
 pub enum Input {
     Table { table: Vec<u8> },
     Find { table: Vec<u8>, id: u16 },
@@ -81,7 +83,7 @@ pub enum Input {
     Message { message: Vec<u8>, out: Vec<u8> },
     Open { table: Vec<u8>, id: u16, record: Vec<u8> },
     Step { table: Vec<u8>, id: u16, record: Vec<u8>, cursor: Cursor },
-    Append { kind: u16, sort: u8, number: u64, octets: Vec<u8>, out: Vec<u8>, at: usize },
+    Append { flags: u8, kind: u16, sort: u8, number: u64, octets: Vec<u8>, out: Vec<u8>, at: usize },
     Whole(Whole),
     Edition(Edition),
 }
@@ -121,9 +123,9 @@ impl Input {
             Input::Step { table, id, record, cursor } => {
                 Outcome::of_list(&step_parts(walk::step(table, *id, record, *cursor)))
             }
-            Input::Append { kind, sort, number, octets, out, at } => {
+            Input::Append { flags, kind, sort, number, octets, out, at } => {
                 let value = value_of(*sort, *number);
-                Outcome::of_output(out, |out| number_of(append::append(*kind, value, octets, out, *at)))
+                Outcome::of_output(out, |out| number_of(append::append_under(*flags, *kind, value, octets, out, *at)))
             }
             Input::Whole(whole) => whole.outcome(Input::of_model),
             Input::Edition(edition) => edition.of_model(),
@@ -149,8 +151,8 @@ impl Input {
             Input::Step { table, id, record, cursor } => {
                 Outcome::of_parts(|part| library::step_part(table, *id, record, cursor.index, cursor.at, part))
             }
-            Input::Append { kind, sort, number, octets, out, at } => {
-                Outcome::of_output(out, |out| library::append(*kind, *sort, *number, octets, out, *at))
+            Input::Append { flags, kind, sort, number, octets, out, at } => {
+                Outcome::of_output(out, |out| library::append(*flags, *kind, *sort, *number, octets, out, *at))
             }
             Input::Whole(whole) => whole.outcome(Input::of_library),
             Input::Edition(edition) => edition.of_library(),
@@ -179,8 +181,8 @@ impl Input {
             Input::Step { table, id, record, cursor: Cursor { index, at } } => {
                 format!("table {}\ntemplate {id}\nrecord {}\nindex {index} place {at}", hex(table), hex(record))
             }
-            Input::Append { kind, sort, number, octets, out, at } => format!(
-                "type {kind:04x} sort {sort} number {number} octets {}\nplace {at} of output of {} octets: {}",
+            Input::Append { flags, kind, sort, number, octets, out, at } => format!(
+                "flags {flags} type {kind:04x} sort {sort} number {number} octets {}\nplace {at} of output of {} octets: {}",
                 hex(octets),
                 out.len(),
                 hex(out)
@@ -249,7 +251,7 @@ fn value_of(sort: u8, number: u64) -> Value {
 /// What finding a template answers: where its key blocks begin and how many there are.
 fn found_parts(table: &[u8], id: u16) -> Vec<u64> {
     match record::find_template(table, id) {
-        Ok(template) => vec![u64::from(DONE), template.keys_at as u64, template.keys.len() as u64],
+        Ok((_, template)) => vec![u64::from(DONE), template.keys_at as u64, template.keys.len() as u64],
         Err(refusal) => vec![u64::from(refusal)],
     }
 }

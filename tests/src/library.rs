@@ -59,6 +59,7 @@ mod linked {
             part: u8,
         ) -> u64;
         pub fn crane_append(
+            flags: u8,
             kind: u16,
             sort: u8,
             number: u64,
@@ -123,7 +124,17 @@ mod linked {
     }
 
     #[allow(clippy::too_many_arguments)]
-    pub unsafe fn crane_append(_: u16, _: u8, _: u64, _: *const u8, _: usize, _: *mut u8, _: usize, _: usize) -> u64 {
+    pub unsafe fn crane_append(
+        _: u8,
+        _: u16,
+        _: u8,
+        _: u64,
+        _: *const u8,
+        _: usize,
+        _: *mut u8,
+        _: usize,
+        _: usize,
+    ) -> u64 {
         panic!("{ABSENT}")
     }
 
@@ -177,9 +188,10 @@ pub fn step_part(table: &[u8], id: u16, record: &[u8], index: usize, at: usize, 
     unsafe { linked::crane_step_part(table.as_ptr(), table.len(), id, record.as_ptr(), record.len(), index, at, part) }
 }
 
-/// Appends a field; the place after it plus 256, or the refusal.
-pub fn append(kind: u16, sort: u8, number: u64, octets: &[u8], out: &mut [u8], at: usize) -> u64 {
-    unsafe { linked::crane_append(kind, sort, number, octets.as_ptr(), octets.len(), out.as_mut_ptr(), out.len(), at) }
+/// Appends a field under a table of given flags; the place after it plus 256, or the refusal.
+pub fn append(flags: u8, kind: u16, sort: u8, number: u64, octets: &[u8], out: &mut [u8], at: usize) -> u64 {
+    let (source, length) = (octets.as_ptr(), octets.len());
+    unsafe { linked::crane_append(flags, kind, sort, number, source, length, out.as_mut_ptr(), out.len(), at) }
 }
 
 /// Reads a message of an edition alone (version 1: CRANE, any other: IPDR/SP) and writes what it says to the output;

@@ -23,6 +23,11 @@ impl Random {
         Random { state }
     }
 
+    /// A source beside this one, determined by where this one stands and by a label; this one stays where it stands.
+    pub fn beside(&self, label: u64) -> Random {
+        Random::from_parts(&[self.state, label])
+    }
+
     /// The next 64 bits.
     pub fn number(&mut self) -> u64 {
         self.state = self.state.wrapping_add(0x9e37_79b9_7f4a_7c15);
@@ -86,6 +91,15 @@ mod tests {
         let (mut a, mut b) = (Random::from_parts(&[1, 2]), Random::from_parts(&[1, 2]));
         assert_eq!(a.octets(100), b.octets(100));
         assert_ne!(Random::from_parts(&[2, 1]).number(), Random::from_parts(&[1, 2]).number());
+    }
+
+    #[test]
+    fn a_source_beside_another_leaves_it_alone() {
+        let (mut a, mut b) = (Random::from_parts(&[1]), Random::from_parts(&[1]));
+        let beside = a.beside(7).octets(20);
+        assert_eq!((b.beside(7).octets(20), b.beside(8).octets(20) == beside), (beside.clone(), false));
+        assert_eq!(a.octets(20), b.octets(20));
+        assert_ne!(a.beside(7).octets(20), beside);
     }
 
     #[test]

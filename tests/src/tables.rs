@@ -57,7 +57,8 @@ pub fn field_type(number: u16) -> Option<&'static FieldType> {
     FIELD_TYPES.iter().find(|kind| kind.number == number)
 }
 
-/// The limits of a sound table are the model's.
+/// The order of a table's records and the limits of a sound table are the model's.
+pub use crate::model::octets::Order;
 pub use crate::model::table::{MAX_KEYS, MAX_TABLE_OCTETS, MAX_TEMPLATES};
 
 /// Where things stand: octets before the first block, in a block before its description, and in a key block.
@@ -82,6 +83,7 @@ pub struct Template {
 #[derive(Clone, Debug, PartialEq, Eq)]
 pub struct Table {
     pub configuration: u8,
+    pub order: Order,
     pub templates: Vec<Template>,
 }
 
@@ -115,7 +117,7 @@ impl Template {
 
 impl Table {
     pub fn octets(&self) -> Vec<u8> {
-        let mut out = vec![self.configuration, 1];
+        let mut out = vec![self.configuration, self.order.flags()];
         out.extend_from_slice(&(self.templates.len() as u16).to_be_bytes());
         for template in &self.templates {
             template.write(&mut out);
@@ -137,7 +139,8 @@ impl Table {
     /// The structure whose octets are exactly these, if there is one.
     pub fn from_octets(octets: &[u8]) -> Option<Table> {
         let count = number16(octets, 2)?;
-        let mut table = Table { configuration: *octets.first()?, templates: Vec::new() };
+        let order = Order::of_flags(octets[1])?;
+        let mut table = Table { configuration: octets[0], order, templates: Vec::new() };
         let mut at = TABLE_HEAD_OCTETS;
         for _ in 0..count {
             let template = template_at(octets, at)?;

@@ -7,6 +7,7 @@
 //!     key 9 type=unsigned16
 //!     key 10 type=string disabled
 //! put template=3 0005
+//! put template=3 unsigned16=5
 //! message server=0 start
 //! message server=0 data-ack dsn=5 configuration=1
 //! message server=0 ff00ff
@@ -16,10 +17,13 @@
 //! tick 5
 //! ```
 //!
+//! `table configuration=1 order=little` begins a little-endian table. A record is given in hex, or field by field: by the
+//! name of its type and its value, in the order that the table states.
+//!
 //! A named message has the session of the settings unless it says `session=`. `times=5` repeats any event (`tick 5`
 //! for short). In hex, `61*20` stands for 20 times the octet 61. An indented line goes on with the line above it: the
-//! parts of a table, or more octets in hex. Whatever has no named form is given in hex, so that every sound tape has
-//! a text.
+//! parts of a table, more fields of a record, or more octets in hex. Whatever has no named form is given in hex, so that
+//! every sound tape has a text.
 
 mod decode;
 mod encode;
@@ -142,6 +146,45 @@ mod tests {
         assert_eq!(&table[16..26], description);
         assert_eq!(table[26..], [0, 0, 0, 0, 0, 9, 0, 4, 0, 0, 0, 0, 0, 0, 0, 0, 0, 10, 0x40, 0x0c, 0, 0, 0, 0, 0, 1]);
         assert_eq!(decode(&octets).and_then(|text| encode(&text)), Ok(octets));
+    }
+
+    /// The table and the records that are put of a text that begins with these words for the table.
+    fn table_and_records(table: &str, text: &str) -> Result<(Vec<u8>, Vec<Vec<u8>>), String> {
+        let octets = encode(&format!("{SETTINGS}\n{table}\n{text}"))?;
+        assert_eq!(decode(&octets).and_then(|text| encode(&text)).as_ref(), Ok(&octets));
+        let events = tape::split(&octets)?;
+        Ok((events[1].body.clone(), events[2..].iter().map(|event| event.body[2..].to_vec()).collect()))
+    }
+
+    #[test]
+    fn records_are_encoded_field_by_field_in_the_order_of_their_table() {
+        let text = "put template=3 unsigned16=258 signed32=-2 float=0x3f800000 string=\"a b\" seconds=3600
+  boolean=1 ipv4=c0000201
+  zero-string=ok blob=\"\\x00\" unsigned64=0x0102030405060708";
+        let big = "0102 fffffffe 3f800000 00000003612062 00000e10 01 c0000201 6f6b00 0000000100 0102030405060708";
+        let little = "0201 feffffff 0000803f 03000000612062 00000e10 01 c0000201 6f6b00 0100000000 0807060504030201";
+        for (order, flags, record) in [("", 1, big), (" order=big", 1, big), (" order=little", 0, little)] {
+            let lines = format!("table configuration=1{order}\n  template 3\n    key 9 type=unsigned16");
+            let (table, records) = table_and_records(&lines, text).expect("a sound tape");
+            assert_eq!(table[..6], [1, flags, 0, 1, 0, 3]);
+            assert_eq!(records, [words::octets_of_hex(&record.replace(' ', "")).expect("hex")]);
+        }
+        let in_hex = "table 01000001 0003 0001 0000 0000 00000018\n  00000009 0004 0000 00000000";
+        assert_eq!(table_and_records(in_hex, "put template=3 unsigned16=5").map(|pair| pair.1), Ok(vec![vec![5, 0]]));
+    }
+
+    #[test]
+    fn what_is_no_record_field_by_field_is_named() {
+        let reason = |text: &str| events(text).expect_err("not a tape");
+        assert_eq!(reason("put template=3 unsigned8=256"), "line 6: '256' is no value of type unsigned8");
+        assert_eq!(reason("put template=3 signed8=-129"), "line 6: '-129' is no value of type signed8");
+        assert_eq!(reason("put template=3 ipv4=0102"), "line 6: '0102' is no value of type ipv4");
+        assert_eq!(
+            reason("put template=3 unsigned8=5 05"),
+            "line 6: a line of a record is in hex or field by field, not both"
+        );
+        assert_eq!(reason("next unsigned8=5"), "line 6: 'unsigned8=' does not belong here");
+        assert_eq!(encode("table configuration=1 order=1"), Err("line 1: 'order=' is big or little".to_string()));
     }
 
     #[test]

@@ -102,7 +102,7 @@ pub fn step(session: &mut Session, mix: &Mix) {
 pub fn put(session: &mut Session, most: usize) {
     let template = session.any_template();
     let wanted = session.random.between(0, most);
-    let record = records::valid(&mut session.random, &template, wanted);
+    let record = records::valid(&mut session.random, session.table.order, &template, wanted);
     session.add(Event::put(template.id, &record));
 }
 
@@ -113,16 +113,16 @@ pub fn odd_put(session: &mut Session, most: usize) {
     match session.random.below(4) {
         0 => {
             let id = session.no_template();
-            let record = records::valid(&mut session.random, &template, wanted);
+            let record = records::valid(&mut session.random, session.table.order, &template, wanted);
             session.add(Event::put(id, &record));
         }
         1 => {
             let wanted = session.random.between(1_020, 1_030);
-            let record = records::valid(&mut session.random, &template, wanted);
+            let record = records::valid(&mut session.random, session.table.order, &template, wanted);
             session.add(Event::put(template.id, &record));
         }
         _ => {
-            let record = records::damaged(&mut session.random, &template, wanted);
+            let record = records::damaged(&mut session.random, session.table.order, &template, wanted);
             session.add(Event::put(template.id, &record));
         }
     }

@@ -2,10 +2,10 @@
 
 use super::actions::{self, Mix, TYPICAL};
 use super::session::Session;
-use super::{random_of, records, settings};
+use super::{random_of, records, settings, tables};
 use crate::model::exporter::MOST_RECORDS;
 use crate::model::message::MAX_RECORD_OCTETS;
-use crate::tables::{Key, Table, Template, BLOB, UNSIGNED16, UNSIGNED8, ZERO_STRING};
+use crate::tables::{Key, Order, Table, Template, BLOB, UNSIGNED16, UNSIGNED8, ZERO_STRING};
 use crate::tape::Event;
 
 /// Store lengths, each in its turn. A tape has too few octets to reach the end of the last.
@@ -21,7 +21,7 @@ pub fn ring_edges(profile: usize, seed: u64) -> Vec<u8> {
     let mut settings = settings(&mut random);
     settings.store = STORES[(seed % STORES.len() as u64) as usize];
     settings.servers = random.between(1, 2) as u8;
-    let table = table_of_lengths(settings.configuration);
+    let table = table_of_lengths(settings.configuration, tables::order(&random, 4));
     let mut session = Session::new(random, settings, table).limit(350);
     session.bring_up(0);
     while session.events_left() > MOST_RECORDS && session.body_octets_left() > MAX_RECORD_OCTETS {
@@ -32,11 +32,11 @@ pub fn ring_edges(profile: usize, seed: u64) -> Vec<u8> {
 }
 
 /// Templates whose records have no octets, one, two, any number from one on, and any number from four on.
-fn table_of_lengths(configuration: u8) -> Table {
+fn table_of_lengths(configuration: u8, order: Order) -> Table {
     let kinds = [(BLOB, true), (UNSIGNED8, false), (UNSIGNED16, false), (ZERO_STRING, false), (BLOB, false)];
     let template =
         |(id, (kind, disabled))| Template { id, description: Vec::new(), keys: vec![Key { id: 1, kind, disabled }] };
-    Table { configuration, templates: (1..).zip(kinds).map(template).collect() }
+    Table { configuration, order, templates: (1..).zip(kinds).map(template).collect() }
 }
 
 /// A put near the end of the store. Where it finds no room, room is made, at times after one octet too many is put.
@@ -79,7 +79,7 @@ fn record_octets(session: &mut Session) -> usize {
 /// A put of a record of that many octets; four or more are a string or a blob.
 fn put(session: &mut Session, octets: usize) {
     let template = session.table.templates[octets.min(session.random.between(3, 4))].clone();
-    let record = records::valid(&mut session.random, &template, octets);
+    let record = records::valid(&mut session.random, session.table.order, &template, octets);
     session.add(Event::put(template.id, &record));
 }
 

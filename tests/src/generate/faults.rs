@@ -186,11 +186,11 @@ pub const PUT_FAULTS: [&[PutFault]; 8] = [
 pub fn faulty_put(session: &mut Session, faults: &[PutFault], octets: usize) {
     let template = if faults.contains(&PutFault::Long) { long_template(session) } else { session.any_template() };
     let wanted = if faults.contains(&PutFault::Long) { session.random.between(1_025, 1_100) } else { octets };
-    let random = &mut session.random;
+    let (random, order) = (&mut session.random, session.table.order);
     let record = if faults.contains(&PutFault::Invalid) {
-        records::damaged(random, &template, wanted + 9)
+        records::damaged(random, order, &template, wanted + 9)
     } else {
-        records::valid(random, &template, wanted)
+        records::valid(random, order, &template, wanted)
     };
     let id = if faults.contains(&PutFault::Template) { session.no_template() } else { template.id };
     session.add(Event::put(id, &record));

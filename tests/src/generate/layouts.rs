@@ -56,18 +56,19 @@ pub fn types(profile: usize, seed: u64) -> Vec<u8> {
     let kind = kinds[(seed % kinds.len() as u64) as usize];
     let key = Key { id: random.number() as u32, kind, disabled: random.once_in(8) };
     let template = Template { id: random.number() as u16, description: Vec::new(), keys: vec![key] };
-    let table = Table { configuration: settings.configuration, templates: vec![template.clone()] };
+    let order = tables::order(&random, 2);
+    let table = Table { configuration: settings.configuration, order, templates: vec![template.clone()] };
     let mut events = vec![Event::settings(&settings), Event::table(table.octets())];
     for _ in 0..12 {
         let wanted = random.below(12);
         let record = if random.once_in(3) || field_type(kind).is_none() {
             random.octets(wanted)
         } else {
-            records::damaged(&mut random, &template, wanted)
+            records::damaged(&mut random, order, &template, wanted)
         };
         events.push(Event::put(template.id, &record));
         if field_type(kind).is_some() {
-            events.push(Event::put(template.id, &records::valid(&mut random, &template, wanted)));
+            events.push(Event::put(template.id, &records::valid(&mut random, order, &template, wanted)));
         }
     }
     tape::build(&events)
@@ -91,8 +92,8 @@ pub fn record_tapes(profile: usize, seed: u64) -> Vec<u8> {
         let template = session.any_template();
         let wanted = session.random.below(60);
         let record = match session.random.below(3) {
-            0 => records::valid(&mut session.random, &template, wanted),
-            _ => records::damaged(&mut session.random, &template, wanted),
+            0 => records::valid(&mut session.random, session.table.order, &template, wanted),
+            _ => records::damaged(&mut session.random, session.table.order, &template, wanted),
         };
         session.add(Event::put(template.id, &record));
     }

@@ -1,11 +1,16 @@
-//! A test that the tapes of a default run tell programs with one mistake from the right one.
+//! Tests that the tapes of a default run tell programs with one mistake from the right one.
 
-use super::situations::sessions;
+use super::records;
+use super::situations::{fields, sessions, set_up};
+use super::tables::all_turned;
 use crate::messages::{DATA_ACK, FINAL_TMPL_DATA_ACK, START, START_NEGOTIATE, STOP};
-use crate::model::answer::{DONE, DSN_NOT_ACKNOWLEDGEABLE};
+use crate::model::answer::{DONE, DSN_NOT_ACKNOWLEDGEABLE, QUEUE_FULL, RECORD_INVALID, STORE_FULL};
 use crate::model::exporter::{Exporter, ServerState, LARGEST_STORE};
+use crate::model::record::{field_length, find_template};
 use crate::model::replay::{Outcome, Replay};
-use crate::tape::{Event, MESSAGE, NEXT, PUT, TICK};
+use crate::model::table::is_sound;
+use crate::tables::{Order, Table, BLOB, BOOLEAN, STRING, ZERO_STRING};
+use crate::tape::{Event, MESSAGE, NEXT, OFFER, PUT, TICK};
 use std::collections::BTreeSet;
 use std::ops::Range;
 
@@ -30,7 +35,7 @@ const fn mistake(name: &'static str, event: fn(&mut Program, &Event) -> Outcome)
     Mistake { name, begin: |_| {}, event }
 }
 
-const MISTAKES: [Mistake; 23] = [
+const MISTAKES: [Mistake; 38] = [
     mistake("STOP starts a closed server", |program, event| program.stop_from(ServerState::Closed, event)),
     mistake("STOP leaves a started server started", |program, event| program.stop_from(ServerState::Started, event)),
     mistake("STOP starts an offered server", |program, event| program.stop_from(ServerState::Offered, event)),
@@ -66,7 +71,96 @@ const MISTAKES: [Mistake; 23] = [
     mistake("the octet of place 0 is left out", |program, event| {
         program.copies(event, |right| Runs { second_place: 1, ..right.with_first(|octets| octets + 1) })
     }),
+    mistake("the length of a string is not turned", |program, event| {
+        program.judges(event, |order, kind, rest| field_length(big_if(kind == STRING, order), kind, rest))
+    }),
+    mistake("the length of a blob is not turned", |program, event| {
+        program.judges(event, |order, kind, rest| field_length(big_if(kind == BLOB, order), kind, rest))
+    }),
+    mistake("every length is turned", |program, event| {
+        program.judges(event, |_, kind, rest| field_length(Order::Little, kind, rest))
+    }),
+    mistake("a length is turned as two halves", |program, event| program.judges(event, turned_in_halves)),
+    mistake("a Boolean is turned bit by bit", |program, event| program.judges(event, turned_boolean)),
+    mistake("every octet is a little-endian Boolean", |program, event| program.judges(event, any_boolean)),
+    mistake("the zero of a little-endian 400d comes first", |program, event| program.judges(event, zero_first)),
+    mistake("a 400d has a length under a little-endian table", |program, event| {
+        program.judges(event, |order, kind, rest| {
+            let counted = order == Order::Little && kind == ZERO_STRING;
+            field_length(order, if counted { BLOB } else { kind }, rest)
+        })
+    }),
+    mistake("flags 0 and 1 are exchanged", Program::exchanged_orders),
+    mistake("a little-endian table's template IDs are turned", Program::turned_template_id),
+    mistake("the DSN of DATA is turned under a little-endian table", |program, event| {
+        program.writes(event, NEXT, |_, written| written[12..16].reverse())
+    }),
+    mistake("the template ID of DATA is turned under a little-endian table", |program, event| {
+        program.writes(event, NEXT, |_, written| written[8..10].reverse())
+    }),
+    mistake("the length of DATA is turned under a little-endian table", |program, event| {
+        program.writes(event, NEXT, |_, written| written[4..8].reverse())
+    }),
+    mistake("little-endian records are sent big-endian", |program, event| program.writes(event, NEXT, record_turned)),
+    mistake("a little-endian table is offered with flags 1", |program, event| {
+        program.writes(event, OFFER, |_, written| written[9] = 1)
+    }),
 ];
+
+/// Big-endian if so, else the given order.
+fn big_if(is_so: bool, order: Order) -> Order {
+    if is_so {
+        Order::Big
+    } else {
+        order
+    }
+}
+
+/// A little-endian length is read in two halves of 16 bits, each of them turned.
+fn turned_in_halves(order: Order, kind: u16, rest: &[u8]) -> Option<usize> {
+    match rest {
+        [a, b, c, d, content @ ..] if order == Order::Little && [STRING, BLOB].contains(&kind) => {
+            field_length(Order::Big, kind, &[&[*b, *a, *d, *c], content].concat())
+        }
+        _ => field_length(order, kind, rest),
+    }
+}
+
+/// A little-endian Boolean is 0 or 128.
+fn turned_boolean(order: Order, kind: u16, rest: &[u8]) -> Option<usize> {
+    match rest.first() {
+        Some(octet) if order == Order::Little && kind == BOOLEAN => [0, 128].contains(octet).then_some(1),
+        _ => field_length(order, kind, rest),
+    }
+}
+
+fn any_boolean(order: Order, kind: u16, rest: &[u8]) -> Option<usize> {
+    match rest.first() {
+        Some(_) if order == Order::Little && kind == BOOLEAN => Some(1),
+        _ => field_length(order, kind, rest),
+    }
+}
+
+/// A little-endian 400d begins with its zero and ends before the next one.
+fn zero_first(order: Order, kind: u16, rest: &[u8]) -> Option<usize> {
+    match rest {
+        [0, content @ ..] if order == Order::Little && kind == ZERO_STRING => {
+            Some(1 + content.iter().position(|octet| *octet == 0).unwrap_or(content.len()))
+        }
+        [_, ..] if order == Order::Little && kind == ZERO_STRING => None,
+        _ => field_length(order, kind, rest),
+    }
+}
+
+/// The record of a DATA message with its numbers put into the other order.
+fn record_turned(table: &[u8], written: &mut [u8]) {
+    let id = u16::from_be_bytes([written[8], written[9]]);
+    for field in fields(table, id, &written[16..]) {
+        let place = 16 + field.at..16 + field.at + field.len;
+        let turned = records::in_order(Order::Little, field.kind, &written[place.clone()]);
+        written[place].copy_from_slice(&turned);
+    }
+}
 
 /// How a record that reaches the end of the store is copied into it: how many octets go up to the end, which octets
 /// follow, and at which place they begin.
@@ -222,6 +316,51 @@ impl Program {
         outcome
     }
 
+    /// Takes an event, and if it is a put that comes to the record's validity, judges the record with other lengths of
+    /// its fields.
+    fn judges(&mut self, event: &Event, length: fn(Order, u16, &[u8]) -> Option<usize>) -> Outcome {
+        let mut outcome = self.right(event);
+        if event.kind != PUT || ![DONE, RECORD_INVALID, QUEUE_FULL, STORE_FULL].contains(&outcome.answer) {
+            return outcome;
+        }
+        let id = u16::from_be_bytes([event.body[0], event.body[1]]);
+        let (order, template) = find_template(&self.replay.table, id).expect("a template in a sound table");
+        let mut enabled = template.keys.iter().filter(|key| !key.disabled);
+        let rest = enabled.try_fold(&event.body[2..], |rest, key| rest.get(length(order, key.kind, rest)?..));
+        let valid = rest.is_some_and(<[u8]>::is_empty);
+        if valid == (outcome.answer == RECORD_INVALID) {
+            outcome.answer = if valid { DONE } else { RECORD_INVALID };
+        }
+        outcome
+    }
+
+    /// Each put is judged under the table with the other flags.
+    fn exchanged_orders(&mut self, event: &Event) -> Outcome {
+        let exchanged = u8::from(event.kind == PUT);
+        self.replay.table[1] ^= exchanged;
+        let outcome = self.right(event);
+        self.replay.table[1] ^= exchanged;
+        outcome
+    }
+
+    /// Under a little-endian table, a put finds its template by the ID with its octets turned.
+    fn turned_template_id(&mut self, event: &Event) -> Outcome {
+        let mut event = event.clone();
+        if event.kind == PUT && self.replay.table[1] == 0 {
+            event.body[..2].reverse();
+        }
+        self.right(&event)
+    }
+
+    /// Takes an event, and if it is an accepted one of that kind under a little-endian table, changes what it wrote.
+    fn writes(&mut self, event: &Event, kind: u8, change: fn(&[u8], &mut [u8])) -> Outcome {
+        let mut outcome = self.right(event);
+        if event.kind == kind && outcome.answer == DONE && self.replay.table[1] == 0 {
+            change(&self.replay.table, &mut outcome.written);
+        }
+        outcome
+    }
+
     /// Takes an event, and if it is a tick by which a server turns late, changes the state by the one before and the
     /// server.
     fn at_failover(&mut self, event: &Event, change: fn(&mut Exporter, &Exporter, u8)) -> Outcome {
@@ -278,5 +417,51 @@ fn every_mistake_is_told() {
     for (count, mistake) in counts.iter().zip(&MISTAKES) {
         println!("{}: {count}", mistake.name);
         assert!(*count >= LEAST, "'{}' was told by {count} tapes", mistake.name);
+    }
+}
+
+/// A mistake about tables: its name, and whether a program with it finds these octets sound.
+type TableMistake = (&'static str, fn(&[u8]) -> bool);
+
+const TABLE_MISTAKES: [TableMistake; 8] = [
+    ("flags 2 are accepted", |table| is_sound(&with_flags(table, |flags| if flags == 2 { 1 } else { flags }))),
+    ("flags 255 are accepted", |table| is_sound(&with_flags(table, |flags| if flags == 255 { 1 } else { flags }))),
+    ("the lowest bit of the flags decides", |table| is_sound(&with_flags(table, |flags| flags & 1))),
+    ("all flags but 1 are little-endian", |table| is_sound(&with_flags(table, |flags| u8::from(flags == 1)))),
+    ("flags 0 are refused", |table| table.get(1) != Some(&0) && is_sound(table)),
+    ("flags 1 are refused", |table| table.get(1) != Some(&1) && is_sound(table)),
+    ("the template count of a little-endian table is turned", |table| {
+        let mut table = table.to_vec();
+        if let [_, 0, first, second, ..] = &mut table[..] {
+            std::mem::swap(first, second);
+        }
+        is_sound(&table)
+    }),
+    ("the numbers of a little-endian table are turned", |table| match Table::from_octets(table) {
+        Some(table) if table.order == Order::Little => is_sound(&all_turned(&table)),
+        _ => is_sound(table),
+    }),
+];
+
+/// A table with other flags, if it has such an octet.
+fn with_flags(table: &[u8], change: fn(u8) -> u8) -> Vec<u8> {
+    let mut table = table.to_vec();
+    table.iter_mut().skip(1).take(1).for_each(|flags| *flags = change(*flags));
+    table
+}
+
+#[test]
+fn every_mistake_about_tables_is_told() {
+    let mut counts = [0; TABLE_MISTAKES.len()];
+    for (events, replay) in set_up() {
+        let table = &events[0].body;
+        let is_sessions = table.first() == Some(&replay.exporter.settings.configuration_id);
+        for (count, (_, finds_sound)) in counts.iter_mut().zip(&TABLE_MISTAKES).filter(|_| is_sessions) {
+            *count += usize::from(finds_sound(table) != is_sound(table));
+        }
+    }
+    for (count, (name, _)) in counts.iter().zip(&TABLE_MISTAKES) {
+        println!("{name}: {count}");
+        assert!(*count >= LEAST, "'{name}' was told by {count} tapes");
     }
 }

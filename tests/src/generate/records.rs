@@ -1,30 +1,63 @@
-//! Seeded records: valid ones under a template, and ones with a single damage.
+//! Seeded records: valid ones under a template, in the order of its table, and ones with a single damage.
 
 use crate::random::Random;
-use crate::tables::{field_type, Template, BLOB, BOOLEAN, STRING, ZERO_STRING};
+use crate::tables::{field_type, Order, Template, BLOB, BOOLEAN, STRING, ZERO_STRING};
 
-/// The fields of a record, in order, with their types.
+/// The fields of a record one after the other, with their types, their numbers most significant octet first.
 pub type Fields = Vec<(u16, Vec<u8>)>;
 
 /// A valid record under the template, of about `wanted` octets if the template lets its length vary.
-pub fn valid(random: &mut Random, template: &Template, wanted: usize) -> Vec<u8> {
-    join(&fields(random, template, wanted))
+pub fn valid(random: &mut Random, order: Order, template: &Template, wanted: usize) -> Vec<u8> {
+    join(order, &fields(random, template, wanted))
 }
 
 /// A record under the template with one thing wrong. By chance it may be valid all the same.
-pub fn damaged(random: &mut Random, template: &Template, wanted: usize) -> Vec<u8> {
+pub fn damaged(random: &mut Random, order: Order, template: &Template, wanted: usize) -> Vec<u8> {
     let mut fields = fields(random, template, wanted);
     if fields.is_empty() || random.once_in(3) {
-        return damaged_whole(random, join(&fields));
+        return damaged_whole(random, join(order, &fields));
     }
     let place = random.below(fields.len());
     let (kind, octets) = &mut fields[place];
     damage_field(random, *kind, octets);
-    join(&fields)
+    join(order, &fields)
 }
 
-fn join(fields: &Fields) -> Vec<u8> {
-    fields.iter().flat_map(|(_, octets)| octets.clone()).collect()
+/// A record with fields in the other order: one of them, or all. Where these are numbers or empty strings it is valid
+/// all the same.
+pub fn wrong_order(random: &mut Random, order: Order, fields: &Fields) -> Vec<u8> {
+    if fields.is_empty() || random.once_in(2) {
+        return join(order.other(), fields);
+    }
+    let turned = random.below(fields.len());
+    let order_at = |place: usize| if place == turned { order.other() } else { order };
+    let octets = |(place, (kind, octets)): (usize, &(u16, Vec<u8>))| in_order(order_at(place), *kind, octets);
+    fields.iter().enumerate().flat_map(octets).collect()
+}
+
+/// The record of some fields in that order.
+pub fn join(order: Order, fields: &Fields) -> Vec<u8> {
+    fields.iter().flat_map(|(kind, octets)| in_order(order, *kind, octets)).collect()
+}
+
+/// A field whose numbers are most significant octet first, put into that order. Turning it again brings it back.
+pub fn in_order(order: Order, kind: u16, octets: &[u8]) -> Vec<u8> {
+    let mut octets = octets.to_vec();
+    if order == Order::Little {
+        let turned = turned_octets(kind, octets.len());
+        octets[..turned].reverse();
+    }
+    octets
+}
+
+/// How many octets at the start of a field of `length` octets are turned in a little-endian record: of an integer or a
+/// float all, of a string or a blob its own length. Booleans, addresses, times and 400d are the same in both orders.
+pub fn turned_octets(kind: u16, length: usize) -> usize {
+    match kind {
+        0x0002..=0x000b => length,
+        STRING | BLOB => length.min(4),
+        _ => 0,
+    }
 }
 
 /// One field for each enabled key; the room that fixed widths leave is shared by the fields of varying length.
@@ -91,6 +124,24 @@ fn number(random: &mut Random, width: usize) -> Vec<u8> {
     let mut octets = vec![rest; width];
     octets[0] = first;
     octets
+}
+
+/// Integers of a record set to their limits and beside 0, and floats to 1 and other plain numbers; about half of
+/// them.
+pub fn set_to_limits(random: &mut Random, fields: &mut Fields) {
+    for (kind, octets) in fields {
+        let width = octets.len();
+        let half = 1u64 << (8 * width.clamp(1, 8) - 1);
+        let choices = match *kind {
+            0x0002..=0x0009 => [0, 1, 2, half - 1, half, half - 1 + half, half - 2 + half],
+            0x000a => [0x3f80_0000, 0xbf80_0000, 0x4000_0000, 1, 0x7f80_0000, 0xff7f_ffff, 0],
+            0x000b => [0x3ff0 << 48, 0xbff0 << 48, 0x4000 << 48, 1, 0x7ff0 << 48, 0xffef << 48, 0],
+            _ => continue,
+        };
+        if random.once_in(2) {
+            *octets = random.pick(&choices).to_be_bytes()[8 - width..].to_vec();
+        }
+    }
 }
 
 /// Octets lost or added at the end or the start, or other octets of the same length.

@@ -3,7 +3,7 @@
 use super::actions::{self, Mix, TYPICAL};
 use super::session::Session;
 use super::{everyday_session, faults, hostile, random_of, records, settings, tables};
-use crate::tables::{Key, Table, Template, BLOB, MAX_KEYS, MAX_TEMPLATES};
+use crate::tables::{Key, Order, Table, Template, BLOB, MAX_KEYS, MAX_TEMPLATES};
 use crate::tape::{Event, MAX_EVENTS};
 
 /// Takes steps until the tape is full.
@@ -68,7 +68,7 @@ pub fn ring(profile: usize, seed: u64) -> Vec<u8> {
     settings.store =
         *random.pick(&[1_024, 1_024, 1_025, 1_027, 1_500, 2_048, 3_000, 4_096, 8_192, 16_384, 65_535, 65_536, any]);
     settings.servers = random.between(1, 3) as u8;
-    let table = blob_table(settings.configuration);
+    let table = blob_table(settings.configuration, tables::order(&random, 4));
     let octets = *random.pick(&[40, 200, 200, 600, 1_024]);
     let mut session = Session::new(random, settings, table);
     session.bring_up(0);
@@ -79,11 +79,12 @@ pub fn ring(profile: usize, seed: u64) -> Vec<u8> {
 }
 
 /// Three templates with a blob, and one whose only record is the empty one.
-fn blob_table(configuration: u8) -> Table {
+fn blob_table(configuration: u8, order: Order) -> Table {
     let template =
         |id, disabled| Template { id, description: Vec::new(), keys: vec![Key { id: 1, kind: BLOB, disabled }] };
     Table {
         configuration,
+        order,
         templates: vec![template(1, false), template(2, false), template(3, false), template(4, true)],
     }
 }
@@ -106,14 +107,15 @@ pub fn full(profile: usize, seed: u64) -> Vec<u8> {
     // 64 records of 16 octets fill the smallest store exactly; other lengths fill one limit first.
     settings.store = *random.pick(&[1_024, 1_024, 1_030, 2_000, 4_096]);
     settings.threshold = *random.pick(&[1, 2, 32, 63, 64]);
-    let table = blob_table(settings.configuration);
+    let table = blob_table(settings.configuration, tables::order(&random, 4));
     let octets = *random.pick(&[16, 16, 4, 20, 31, 64, 200, 1_024]);
     let mut session = Session::new(random, settings, table);
     session.bring_up(0);
     while session.exporter().queue.len() < 64
         && session.exporter().held_octets() + octets <= session.exporter().store_length
     {
-        let record = records::valid(&mut session.random, &session.table.templates[0].clone(), octets);
+        let (order, template) = (session.table.order, session.table.templates[0].clone());
+        let record = records::valid(&mut session.random, order, &template, octets);
         session.add(Event::put(1, &record));
         if session.random.once_in(2) {
             session.add(Event::next());
@@ -145,7 +147,7 @@ fn full_step(session: &mut Session, octets: usize) {
 /// A put of a blob record of that many octets; at least its length, at most what a put may have.
 fn put_blob(session: &mut Session, octets: usize) {
     let template = session.table.templates[0].clone();
-    let record = records::valid(&mut session.random, &template, octets.clamp(4, 1_024));
+    let record = records::valid(&mut session.random, session.table.order, &template, octets.clamp(4, 1_024));
     session.add(Event::put(template.id, &record));
 }
 

@@ -1,11 +1,14 @@
-//! A test that the tapes of a default run meet every situation in which the rules differ.
+//! Tests that the tapes of a default run meet every situation in which the rules differ.
 
 use super::{in_turn, tape, DEFAULT_TAPES, SEEDS_APART};
 use crate::messages::{DATA_ACK, FINAL_TMPL_DATA_ACK, START, START_NEGOTIATE, STOP};
-use crate::model::answer::{DONE, OUT_OF_TURN, STORE_FULL};
+use crate::model::answer::{DONE, OUT_OF_TURN, RECORD_INVALID, RECORD_TOO_LONG, STORE_FULL, UNSOUND_TABLE};
 use crate::model::exporter::{Exporter, ServerState, LARGEST_STORE};
+use crate::model::record::judge;
 use crate::model::replay::{Outcome, Replay};
-use crate::tape::{split, Event, MESSAGE, NEXT, PUT, TICK};
+use crate::model::walk::{self, Cursor, Field, Value};
+use crate::tables::{BLOB, FIELD_TYPES, STRING};
+use crate::tape::{split, Event, MESSAGE, NEXT, OFFER, PUT, TICK};
 use std::collections::BTreeMap;
 
 /// How often each situation must be met.
@@ -13,16 +16,33 @@ const LEAST: u64 = 20;
 
 type Counts = BTreeMap<&'static str, u64>;
 
-/// The sound tapes of a default run whose settings and table are taken: the events after these, and the replay before
-/// them.
-pub fn sessions() -> impl Iterator<Item = (Vec<Event>, Replay)> {
+/// The sound tapes of a default run whose settings are taken: the events after these, and the replay before them.
+pub fn set_up() -> impl Iterator<Item = (Vec<Event>, Replay)> {
     (0..DEFAULT_TAPES).filter_map(|index| {
         let (profile, seed) = in_turn(index);
         let mut events = split(&tape(profile, SEEDS_APART + seed)).ok()?;
-        let mut replay = Replay::set_up(&events[0].body).ok()?;
-        let taken = replay.take_table(&events[1].body) == DONE;
-        taken.then(|| (events.split_off(2), replay))
+        let replay = Replay::set_up(&events[0].body).ok()?;
+        Some((events.split_off(1), replay))
     })
+}
+
+/// Those whose table is taken too: the events after it.
+pub fn sessions() -> impl Iterator<Item = (Vec<Event>, Replay)> {
+    set_up().filter_map(|(mut events, mut replay)| {
+        let taken = replay.take_table(&events[0].body) == DONE;
+        taken.then(|| (events.split_off(1), replay))
+    })
+}
+
+/// The fields of a valid record, walked to its end.
+pub fn fields(table: &[u8], id: u16, record: &[u8]) -> Vec<Field> {
+    let mut fields = Vec::new();
+    let mut cursor = Cursor::default();
+    while let walk::Step::Next(field, after) = walk::step(table, id, record, cursor) {
+        fields.push(field);
+        cursor = after;
+    }
+    fields
 }
 
 #[test]
@@ -38,6 +58,67 @@ fn every_situation_is_met() {
     }
 }
 
+#[test]
+fn every_type_is_put_under_a_little_endian_table() {
+    let mut counts: BTreeMap<u16, u64> = BTreeMap::new();
+    let mut values: BTreeMap<(u16, Value), u64> = BTreeMap::new();
+    for field in little_fields() {
+        *counts.entry(field.kind).or_default() += 1;
+        *values.entry((field.kind, field.value)).or_default() += 1;
+    }
+    for kind in &FIELD_TYPES {
+        assert!(counts.get(&kind.number).is_some_and(|count| *count >= LEAST), "{}: {counts:?}", kind.name);
+    }
+    for (kind, value) in limits() {
+        let times = values.get(&(kind, value)).copied().unwrap_or(0);
+        assert!(times >= LEAST, "type {kind}: {value:?} was met {times} times");
+    }
+}
+
+/// The fields of the records that are put under little-endian tables.
+fn little_fields() -> Vec<Field> {
+    let mut all = Vec::new();
+    for (events, mut replay) in sessions().filter(|(_, replay)| replay.table[1] == 0) {
+        for event in events {
+            let is_put = replay.event(event.kind, event.server, &event.body).answer == DONE && event.kind == PUT;
+            if is_put {
+                let id = u16::from_be_bytes([event.body[0], event.body[1]]);
+                all.extend(fields(&replay.table, id, &event.body[2..]));
+            }
+        }
+    }
+    all
+}
+
+/// Each integer type with its limits and the numbers beside 0.
+pub fn limits() -> Vec<(u16, Value)> {
+    let mut limits = Vec::new();
+    for (unsigned, width) in [(2u16, 1u32), (4, 2), (6, 4), (8, 8)] {
+        let half = 1u64 << (8 * width - 1);
+        let last = half - 1 + half;
+        limits.extend([0, 1, half - 1, half, last].map(|number| (unsigned, Value::Number(number))));
+        limits.extend([0, 1, half - 1].map(|number| (unsigned + 1, Value::Number(number))));
+        limits.extend([1, half].map(|size| (unsigned + 1, Value::Negative(size))));
+    }
+    limits
+}
+
+#[test]
+fn every_kind_of_flags_is_met() {
+    let mut counts: BTreeMap<(u8, u8), u64> = BTreeMap::new();
+    for (events, mut replay) in set_up() {
+        let table = &events[0].body;
+        let mut sound = table.clone();
+        sound.iter_mut().skip(1).take(1).for_each(|flags| *flags = 1);
+        if replay.exporter.accepts_table(&sound) {
+            *counts.entry((table[1], replay.take_table(table))).or_default() += 1;
+        }
+    }
+    assert!([(0, DONE), (1, DONE)].iter().all(|met| counts[met] >= 300), "{counts:?}");
+    assert!([(2, UNSOUND_TABLE), (255, UNSOUND_TABLE)].iter().all(|met| counts[met] >= LEAST), "{counts:?}");
+    assert!(counts.keys().all(|(flags, answer)| (*flags > 1) == (*answer == UNSOUND_TABLE)), "{counts:?}");
+}
+
 /// Runs a session and counts what each of its events meets.
 fn count_session(counts: &mut Counts, events: &[Event], mut replay: Replay) {
     let mut stopped = BTreeMap::new();
@@ -46,7 +127,8 @@ fn count_session(counts: &mut Counts, events: &[Event], mut replay: Replay) {
         let before = replay.exporter.clone();
         let outcome = replay.event(event.kind, event.server, &event.body);
         let after = &replay.exporter;
-        let step = Step { event, before: &before, after, outcome: &outcome, stopped: &stopped, octets_put };
+        let table = &replay.table;
+        let step = Step { event, before: &before, after, table, outcome: &outcome, stopped: &stopped, octets_put };
         for (name, _) in SITUATIONS.iter().filter(|(_, holds)| holds(&step)) {
             *counts.entry(name).or_default() += 1;
         }
@@ -65,6 +147,7 @@ struct Step<'a> {
     event: &'a Event,
     before: &'a Exporter,
     after: &'a Exporter,
+    table: &'a [u8],
     outcome: &'a Outcome,
     /// The servers that have not started since their last STOP, with their states before it.
     stopped: &'a BTreeMap<u8, ServerState>,
@@ -154,6 +237,35 @@ impl Step<'_> {
         (self.is(TICK) && self.before.active.is_some()).then_some(counts)
     }
 
+    /// The table is little-endian.
+    fn is_little(&self) -> bool {
+        self.table[1] == 0
+    }
+
+    /// An accepted event of that kind under a little-endian table.
+    fn is_under_little(&self, kind: u8) -> bool {
+        self.is(kind) && self.is_little()
+    }
+
+    /// The record of a put, judged in the order that is not its table's.
+    fn judged_in_the_other_order(&self) -> u8 {
+        let mut table = self.table.to_vec();
+        table[1] ^= 1;
+        judge(&table, u16::from_be_bytes([self.event.body[0], self.event.body[1]]), &self.event.body[2..])
+    }
+
+    /// A put that is refused though its record is valid in the other order.
+    fn is_in_the_wrong_order(&self) -> bool {
+        self.event.kind == PUT && self.outcome.answer == RECORD_INVALID && self.judged_in_the_other_order() == DONE
+    }
+
+    /// An accepted put under a little-endian table with a string or blob of at least so many octets.
+    fn puts_counted(&self, kind: u16, octets: usize) -> bool {
+        let counted = |field: &Field| field.kind == kind && field.len >= 4 + octets;
+        let id = || u16::from_be_bytes([self.event.body[0], self.event.body[1]]);
+        self.is_under_little(PUT) && fields(self.table, id(), &self.event.body[2..]).iter().any(counted)
+    }
+
     /// A put that is refused for this store and would be taken by the largest.
     fn fills_a_small_store(&self) -> bool {
         let octets = self.before.held_octets() + self.record_octets();
@@ -164,7 +276,7 @@ impl Step<'_> {
 /// A situation: its name, and whether a step is in it.
 type Situation = (&'static str, fn(&Step) -> bool);
 
-const SITUATIONS: [Situation; 53] = [
+const SITUATIONS: [Situation; 66] = [
     ("a first DATA without D", |step| step.is(NEXT) && step.flags() == 1),
     ("a first DATA with D", |step| step.is(NEXT) && step.flags() == 3),
     ("a later DATA with D", |step| step.is(NEXT) && step.flags() == 2),
@@ -273,4 +385,25 @@ const SITUATIONS: [Situation; 53] = [
     }),
     ("the ring has gone round three times", |step| step.rounds().0 < 3 && step.rounds().1 >= 3),
     ("a put of one octet more than is free", |step| step.lacks_one_octet()),
+    ("a record under a little-endian table", |step| step.is_under_little(PUT) && step.record_octets() > 0),
+    ("a string under a little-endian table", |step| step.puts_counted(STRING, 1)),
+    ("a blob under a little-endian table", |step| step.puts_counted(BLOB, 1)),
+    ("a string of 256 octets or more under a little-endian table", |step| step.puts_counted(STRING, 256)),
+    ("a blob of 256 octets or more under a little-endian table", |step| step.puts_counted(BLOB, 256)),
+    ("a big-endian record under a little-endian table", |step| step.is_little() && step.is_in_the_wrong_order()),
+    ("a little-endian record under a big-endian table", |step| !step.is_little() && step.is_in_the_wrong_order()),
+    ("a record under a little-endian table that is valid in both orders", |step| {
+        step.is_under_little(PUT) && step.record_octets() > 0 && step.judged_in_the_other_order() == DONE
+    }),
+    ("a record of 1,024 octets under a little-endian table", |step| {
+        step.is_little() && step.puts(|_, octets, _| octets == 1_024)
+    }),
+    ("a record over 1,024 octets under a little-endian table", |step| {
+        step.is_little() && step.event.kind == PUT && step.outcome.answer == RECORD_TOO_LONG
+    }),
+    ("a record under a little-endian table that crosses the end", |step| {
+        step.is_little() && step.puts(|place, octets, store| place + octets > store)
+    }),
+    ("a little-endian table is offered", |step| step.is_under_little(OFFER)),
+    ("DATA under a little-endian table", |step| step.is_under_little(NEXT)),
 ];

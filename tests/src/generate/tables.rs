@@ -2,13 +2,27 @@
 
 use crate::random::Random;
 use crate::tables::{
-    padded, Key, Table, Template, BLOB, BLOCK_HEAD_OCTETS, BOOLEAN, FIELD_TYPES, KEY_OCTETS, MAX_KEYS,
+    padded, Key, Order, Table, Template, BLOB, BLOCK_HEAD_OCTETS, BOOLEAN, FIELD_TYPES, KEY_OCTETS, MAX_KEYS,
     MAX_TABLE_OCTETS, MAX_TEMPLATES, STRING, TABLE_HEAD_OCTETS, ZERO_STRING,
 };
+
+/// The order of a made table: little-endian once in `times`. It is drawn beside the source, so that everything else about
+/// the table and all that follows it do not depend on it.
+pub fn order(random: &Random, times: usize) -> Order {
+    if random.beside(0x0de2).once_in(times) {
+        Order::Little
+    } else {
+        Order::Big
+    }
+}
+
+/// How often the tables of tapes are little-endian: once in so many times.
+const LITTLE_ONCE_IN: usize = 4;
 
 /// A table that suits a session: an unsigned number, a blob of any length, a template with all keys disabled, and a
 /// mixed one.
 pub fn everyday(random: &mut Random, configuration: u8) -> Table {
+    let order = order(random, LITTLE_ONCE_IN);
     let ids = template_ids(random, 4);
     let mixed = [BOOLEAN, STRING, 0x0010, ZERO_STRING, 0x0009];
     let kinds: [&[u16]; 4] = [&[0x0004], &[BLOB], &[0x0006, STRING], &mixed];
@@ -17,11 +31,12 @@ pub fn everyday(random: &mut Random, configuration: u8) -> Table {
         let keys = (0..).zip(kinds[place]).map(|(id, kind)| Key { id: id + 9, kind: *kind, disabled }).collect();
         Template { id: ids[place], description: b"use"[..random.between(0, 3)].to_vec(), keys }
     });
-    Table { configuration, templates: templates.collect() }
+    Table { configuration, order, templates: templates.collect() }
 }
 
 /// A sound table with up to that many templates, and keys in each.
 pub fn sound(random: &mut Random, configuration: u8, most_templates: usize, most_keys: usize) -> Table {
+    let order = order(random, LITTLE_ONCE_IN);
     let count = random.between(1, most_templates);
     let ids = template_ids(random, count);
     let templates = ids.into_iter().map(|id| {
@@ -29,11 +44,12 @@ pub fn sound(random: &mut Random, configuration: u8, most_templates: usize, most
         let octets = if random.once_in(2) { random.below(12) } else { 0 };
         Template { id, description: random.octets(octets), keys: keys(random, count) }
     });
-    Table { configuration, templates: templates.collect() }
+    Table { configuration, order, templates: templates.collect() }
 }
 
 /// A sound table whose octets are exactly `total`, a multiple of 4: eight templates of 32 keys, or fewer.
 pub fn filled(random: &mut Random, configuration: u8, total: usize) -> Table {
+    let order = order(random, LITTLE_ONCE_IN);
     let (count, key_count) =
         *random.pick(&[(MAX_TEMPLATES, MAX_KEYS), (MAX_TEMPLATES, MAX_KEYS), (1, MAX_KEYS), (3, 7), (1, 1)]);
     let ids = template_ids(random, count);
@@ -45,7 +61,7 @@ pub fn filled(random: &mut Random, configuration: u8, total: usize) -> Table {
         let unpadded = share - random.below(4.min(share + 1));
         templates.push(Template { id, description: random.octets(unpadded), keys: keys(random, key_count) });
     }
-    Table { configuration, templates }
+    Table { configuration, order, templates }
 }
 
 /// The largest table: 16,384 octets.
@@ -93,8 +109,8 @@ pub struct Damage {
 pub const DAMAGES: [Damage; 26] = [
     Damage { name: "no room for the head", apply: |random, table| table.octets()[..random.below(4)].to_vec() },
     Damage { name: "over 16,384 octets", apply: |random, table| too_long(random, table) },
-    Damage { name: "flags not 1", apply: |random, table| patched(table, 1, &[*random.pick(&[0, 2, 3, 129, 255])]) },
-    Damage { name: "template count 0", apply: |_, table| vec![table.configuration, 1, 0, 0] },
+    Damage { name: "flags above 1", apply: |random, table| patched(table, 1, &[*random.pick(&[128, 2, 3, 129, 255])]) },
+    Damage { name: "template count 0", apply: |_, table| vec![table.configuration, table.order.flags(), 0, 0] },
     Damage { name: "nine templates", apply: |random, table| nine_templates(random, table) },
     Damage { name: "template count too large", apply: |random, table| template_count(random, table, 1) },
     Damage { name: "template count too small", apply: |random, table| template_count(random, table, -1) },
@@ -139,6 +155,44 @@ pub const DAMAGES: [Damage; 26] = [
     Damage { name: "an octet moved in", apply: |random, table| moved(random, table) },
 ];
 
+/// A table's own numbers stand most significant octet first under all flags; each of them turned alone, and all.
+pub const TURNED_NUMBERS: [Damage; 5] = [
+    Damage { name: "template count turned", apply: |_, table| turned_at(&table, &[(2, 2)]) },
+    Damage { name: "key counts turned", apply: |_, table| turned_at(&table, &in_blocks(&table, &[(2, 2)], &[])) },
+    Damage { name: "block lengths turned", apply: |_, table| turned_at(&table, &in_blocks(&table, &[(8, 4)], &[])) },
+    Damage { name: "types turned", apply: |_, table| turned_at(&table, &in_blocks(&table, &[], &[(4, 2)])) },
+    Damage { name: "all numbers turned", apply: |_, table| all_turned(&table) },
+];
+
+/// A table with the octets of some numbers, each given by place and width, turned round.
+fn turned_at(table: &Table, numbers: &[(usize, usize)]) -> Vec<u8> {
+    let mut octets = table.octets();
+    for (at, width) in numbers {
+        octets[*at..at + width].reverse();
+    }
+    octets
+}
+
+/// The places of numbers that stand so far behind the start of a block, and behind that of a key block.
+fn in_blocks(table: &Table, of_block: &[(usize, usize)], of_key: &[(usize, usize)]) -> Vec<(usize, usize)> {
+    let mut numbers = Vec::new();
+    for (template, block) in table.templates.iter().zip(table.block_places()) {
+        numbers.extend(of_block.iter().map(|(at, width)| (block + at, *width)));
+        let first_key = block + BLOCK_HEAD_OCTETS + padded(template.description.len());
+        for key in (0..template.keys.len()).map(|place| first_key + KEY_OCTETS * place) {
+            numbers.extend(of_key.iter().map(|(at, width)| (key + at, *width)));
+        }
+    }
+    numbers
+}
+
+/// Every number of a table turned: the template count, those of the blocks and those of the key blocks.
+pub fn all_turned(table: &Table) -> Vec<u8> {
+    let of_block = [(0, 2), (2, 2), (4, 2), (6, 2), (8, 4)];
+    let of_key = [(0, 4), (4, 2), (6, 2), (8, 4)];
+    turned_at(table, &[vec![(2, 2)], in_blocks(table, &of_block, &of_key)].concat())
+}
+
 /// A table with some octets overwritten.
 fn patched(table: Table, at: usize, octets: &[u8]) -> Vec<u8> {
     let mut whole = table.octets();
@@ -155,7 +209,8 @@ fn change(random: &mut Random, mut table: Table, change: fn(&mut Random, &mut Te
 
 fn too_long(random: &mut Random, table: Table) -> Vec<u8> {
     let more = *random.pick(&[4, 4, 8, 100]);
-    filled(random, table.configuration, MAX_TABLE_OCTETS + more).octets()
+    let filled = filled(random, table.configuration, MAX_TABLE_OCTETS + more);
+    Table { order: table.order, ..filled }.octets()
 }
 
 fn nine_templates(random: &mut Random, mut table: Table) -> Vec<u8> {
@@ -285,7 +340,8 @@ fn uncounted_block(random: &mut Random, table: Table) -> Vec<u8> {
     let mut octets = table.octets();
     let unlike_all = (0..).find(|id| table.templates.iter().all(|template| template.id != *id)).unwrap_or(0);
     let more = Template { id: unlike_all, description: Vec::new(), keys: keys(random, 1) };
-    octets.extend_from_slice(&Table { configuration: 0, templates: vec![more] }.octets()[TABLE_HEAD_OCTETS..]);
+    let alone = Table { configuration: 0, order: table.order, templates: vec![more] };
+    octets.extend_from_slice(&alone.octets()[TABLE_HEAD_OCTETS..]);
     octets
 }
 

@@ -11,23 +11,27 @@ use crate::model::answer::{OUTPUT_TOO_SHORT, RECORD_INVALID};
 use crate::model::walk::{self, Cursor, Step};
 use crate::random::Random;
 use crate::tables::{
-    field_type, Table, Template, BLOB, BOOLEAN, FIELD_TYPES, IPV4, IPV6, MAX_KEYS, MAX_TEMPLATES, STRING, ZERO_STRING,
+    field_type, Order, Table, Template, BLOB, BOOLEAN, FIELD_TYPES, IPV4, IPV6, MAX_KEYS, MAX_TEMPLATES, STRING,
+    ZERO_STRING,
 };
 
-/// A sound table: mostly small, now and then as large as can be.
+/// A sound table of either order: mostly small, now and then as large as can be.
 fn sound_table(random: &mut Random) -> Table {
     let configuration = random.octet();
-    match random.below(40) {
+    let order = tables::order(random, 2);
+    let table = match random.below(40) {
         0 => tables::largest(random, configuration),
         1 | 2 => tables::sound(random, configuration, MAX_TEMPLATES, MAX_KEYS),
         3..=20 => tables::sound(random, configuration, 2, 3),
         _ => tables::sound(random, configuration, 3, 8),
-    }
+    };
+    Table { order, ..table }
 }
 
-/// The octets of a table with one damage.
+/// The octets of a table with one damage; its own numbers turned are one.
 fn damaged_table(random: &mut Random, table: Table) -> Vec<u8> {
-    let damage = random.pick(&tables::DAMAGES);
+    let place = random.below(tables::DAMAGES.len() + tables::TURNED_NUMBERS.len());
+    let damage = tables::DAMAGES.iter().chain(&tables::TURNED_NUMBERS).nth(place).expect("a damage");
     (damage.apply)(random, table)
 }
 
@@ -59,7 +63,7 @@ fn table_and_record(random: &mut Random) -> (Vec<u8>, u16, Vec<u8>) {
     let table = sound_table(random);
     let template = random.pick(&table.templates).clone();
     let wanted = wanted_octets(random);
-    let record = record_of(random, &template, wanted);
+    let record = record_of(random, table.order, &template, wanted);
     let id = if random.once_in(12) { template.id ^ (1 << random.below(16)) } else { template.id };
     let octets = if random.once_in(12) { damaged_table(random, table) } else { table.octets() };
     (octets, id, record)
@@ -74,14 +78,24 @@ fn wanted_octets(random: &mut Random) -> usize {
     }
 }
 
-fn record_of(random: &mut Random, template: &Template, wanted: usize) -> Vec<u8> {
-    match random.below(5) {
-        0 | 1 => records::valid(random, template, wanted),
+/// A record under the template: valid, with some numbers at their limits, or flipped in a bit, in the wrong order, or
+/// damaged.
+fn record_of(random: &mut Random, order: Order, template: &Template, wanted: usize) -> Vec<u8> {
+    match random.below(6) {
+        0 | 1 => {
+            let mut fields = records::fields(random, template, wanted);
+            records::set_to_limits(random, &mut fields);
+            records::join(order, &fields)
+        }
         2 => {
-            let valid = records::valid(random, template, wanted);
+            let valid = records::valid(random, order, template, wanted);
             flipped(random, valid)
         }
-        _ => records::damaged(random, template, wanted),
+        3 => {
+            let fields = records::fields(random, template, wanted);
+            records::wrong_order(random, order, &fields)
+        }
+        _ => records::damaged(random, order, template, wanted),
     }
 }
 
@@ -211,7 +225,8 @@ pub fn append(random: &mut Random) -> Input {
         1 => random.below(out.len() + 3),
         _ => before,
     };
-    Input::Append { kind, sort, number, octets, out, at }
+    let flags = *random.pick(&[0, 0, 0, 0, 0, 0, 1, 1, 1, 1, 1, 1, 2, 3, 128, 255]);
+    Input::Append { flags, kind, sort, number, octets, out, at }
 }
 
 /// Values of the type are octets: addresses, strings and blobs; also types that are not listed.
@@ -270,7 +285,7 @@ fn octets_near(random: &mut Random, kind: u16) -> Vec<u8> {
 pub fn whole(random: &mut Random) -> Input {
     let table = sound_table(random);
     let template = random.pick(&table.templates).clone();
-    let mut pieces = pieces(random, &template);
+    let mut pieces = pieces(random, table.order, &template);
     let needed: usize = pieces.iter().map(|piece| piece.field.len()).sum();
     let at = if random.once_in(3) { 0 } else { random.below(20) };
     let mut length = at + needed + random.below(20);
@@ -293,9 +308,10 @@ pub fn whole(random: &mut Random) -> Input {
 }
 
 /// A value for each enabled key of a template. What append must not look at has any value.
-fn pieces(random: &mut Random, template: &Template) -> Vec<Piece> {
+fn pieces(random: &mut Random, order: Order, template: &Template) -> Vec<Piece> {
     let wanted = wanted_octets(random);
-    let fields = records::fields(random, template, wanted);
+    let mut fields = records::fields(random, template, wanted);
+    records::set_to_limits(random, &mut fields);
     let enabled = template.keys.iter().enumerate().filter(|(_, key)| !key.disabled).map(|(place, _)| place);
     let mut pieces = Vec::new();
     for ((kind, field), key) in fields.into_iter().zip(enabled) {
@@ -305,6 +321,7 @@ fn pieces(random: &mut Random, template: &Template) -> Vec<Piece> {
         } else {
             (sort, number) = number_of(kind, &field);
         }
+        let field = records::in_order(order, kind, &field);
         pieces.push(Piece { kind, sort, number, octets, key, field });
     }
     pieces
@@ -319,7 +336,7 @@ fn content_of(kind: u16, field: &[u8]) -> &[u8] {
     }
 }
 
-/// The number that a field holds, in the form that append takes.
+/// The number that a field holds, most significant octet first, in the form that append takes.
 fn number_of(kind: u16, field: &[u8]) -> (u8, u64) {
     let (sort, filling) = if is_signed(kind) && field[0] >= 128 { (NEGATIVE, 255) } else { (NUMBER, 0) };
     let mut whole = [filling; 8];

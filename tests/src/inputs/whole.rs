@@ -15,13 +15,13 @@ pub struct Piece {
     pub octets: Vec<u8>,
     /// The place of its key among all keys of the template.
     pub key: usize,
-    /// The field's octets, prefix or zero included.
+    /// The field's octets in the table's order, prefix or zero included.
     pub field: Vec<u8>,
 }
 
 /// A sound table, a template of it, a value for each of its enabled keys in order, and the output with the record's
 /// place.
-#[derive(Debug)]
+#[derive(Clone, Debug)]
 pub struct Whole {
     pub table: Vec<u8>,
     pub id: u16,
@@ -39,7 +39,7 @@ impl Whole {
     pub fn outcome(&self, call: fn(&Input) -> Outcome) -> Outcome {
         let (mut numbers, mut out, mut end) = (vec![u64::from(DONE)], self.out.clone(), self.at);
         for piece in &self.pieces {
-            let appended = call(&piece.append(out, end));
+            let appended = call(&piece.append(self.flags(), out, end));
             let answer = appended.numbers[0];
             out = appended.out;
             numbers.push(answer);
@@ -51,6 +51,11 @@ impl Whole {
         }
         numbers.extend(self.reading(call, out.get(self.at..end).unwrap_or(&[])));
         Outcome { numbers, out }
+    }
+
+    /// The flags of the table, by which each value is appended.
+    fn flags(&self) -> u8 {
+        self.table[1]
     }
 
     /// What reading a record answers: judging it, opening it, and one step more than it has fields.
@@ -102,10 +107,10 @@ impl Whole {
 }
 
 impl Piece {
-    /// The append of this value at a place of the output.
-    fn append(&self, out: Vec<u8>, at: usize) -> Input {
+    /// The append of this value under a table of these flags at a place of the output.
+    fn append(&self, flags: u8, out: Vec<u8>, at: usize) -> Input {
         let Piece { kind, sort, number, .. } = *self;
-        Input::Append { kind, sort, number, octets: self.octets.clone(), out, at }
+        Input::Append { flags, kind, sort, number, octets: self.octets.clone(), out, at }
     }
 
     /// The parts of the step over the field at a place of the record.

@@ -21,6 +21,8 @@ mod tests_history;
 #[cfg(test)]
 mod tests_ipdr;
 #[cfg(test)]
+mod tests_order;
+#[cfg(test)]
 mod tests_replay;
 #[cfg(test)]
 mod tests_support;

@@ -1,7 +1,7 @@
 //! The field types and the validity of a record under its template.
 
 use super::answer;
-use super::octets::{number, Reader};
+use super::octets::{number_in, Order, Reader};
 use super::table::{parse, Key, Template};
 
 /// How a field of one type is laid out.
@@ -9,17 +9,19 @@ use super::table::{parse, Key, Template};
 pub enum FieldType {
     /// One octet, 0 or 1.
     Boolean,
-    /// An unsigned number of that many octets; times are such, floats are carried as their bits.
+    /// An unsigned number of that many octets, in the table's order; floats are carried as their bits.
     Unsigned(usize),
-    /// A signed number of that many octets, in two's complement.
+    /// A time: an unsigned number of that many octets, most significant first under every table.
+    Time(usize),
+    /// A signed number of that many octets, in two's complement and in the table's order.
     Signed(usize),
-    /// An address of that many octets.
+    /// An address of that many octets, which keep their order under every table.
     Address(usize),
-    /// A 32-bit length, then octets below 128.
+    /// A 32-bit length in the table's order, then octets below 128.
     CountedString,
     /// Octets to the first zero, zero included.
     ZeroEndedString,
-    /// A 32-bit length, then octets.
+    /// A 32-bit length in the table's order, then octets.
     Blob,
 }
 
@@ -39,9 +41,9 @@ pub fn field_type(kind: u16) -> Option<FieldType> {
         0x000b => Some(FieldType::Unsigned(8)),
         0x0010 => Some(FieldType::Address(4)),
         0x0011 => Some(FieldType::Address(16)),
-        0x0012 => Some(FieldType::Unsigned(4)),
-        0x0013 | 0x0014 => Some(FieldType::Unsigned(8)),
-        0x0015 | 0x0016 => Some(FieldType::Unsigned(4)),
+        0x0012 => Some(FieldType::Time(4)),
+        0x0013 | 0x0014 => Some(FieldType::Time(8)),
+        0x0015 | 0x0016 => Some(FieldType::Time(4)),
         0x400c => Some(FieldType::CountedString),
         0x400d => Some(FieldType::ZeroEndedString),
         0x4015 => Some(FieldType::Blob),
@@ -53,24 +55,25 @@ pub fn field_type(kind: u16) -> Option<FieldType> {
 pub fn judge(t: &[u8], id: u16, r: &[u8]) -> u8 {
     match find_template(t, id) {
         Err(refusal) => refusal,
-        Ok(template) if is_valid(&template, r) => answer::DONE,
+        Ok((order, template)) if is_valid(order, &template, r) => answer::DONE,
         Ok(_) => answer::RECORD_INVALID,
     }
 }
 
-/// The template of that ID in the table, or 21, or 15.
-pub fn find_template(t: &[u8], id: u16) -> Result<Template, u8> {
+/// The order of the table's records and its template of that ID, or 21, or 15.
+pub fn find_template(t: &[u8], id: u16) -> Result<(Order, Template), u8> {
     let table = parse(t).ok_or(answer::UNSOUND_TABLE)?;
-    table.template(id).cloned().ok_or(answer::TEMPLATE_NOT_FOUND)
+    let template = table.template(id).cloned().ok_or(answer::TEMPLATE_NOT_FOUND)?;
+    Ok((table.order, template))
 }
 
 /// Whether the enabled keys' fields follow each other through the record without rest; with none
 /// enabled, only no octets do.
-fn is_valid(template: &Template, r: &[u8]) -> bool {
+fn is_valid(order: Order, template: &Template, r: &[u8]) -> bool {
     let mut reader = Reader::new(r);
     let enabled = template.keys.iter().filter(|key: &&Key| !key.disabled);
     for key in enabled {
-        let taken = field_length(key.kind, reader.rest).and_then(|length| reader.take(length));
+        let taken = field_length(order, key.kind, reader.rest).and_then(|length| reader.take(length));
         if taken.is_none() {
             return false;
         }
@@ -80,24 +83,24 @@ fn is_valid(template: &Template, r: &[u8]) -> bool {
 
 /// The whole length (prefix or zero included) of the field of that type at the start of `rest`;
 /// `None` where no such field stands there.
-pub fn field_length(kind: u16, rest: &[u8]) -> Option<usize> {
+pub fn field_length(order: Order, kind: u16, rest: &[u8]) -> Option<usize> {
     let mut reader = Reader::new(rest);
     match field_type(kind)? {
         FieldType::Boolean => (reader.u8()? <= 1).then_some(1),
-        FieldType::Unsigned(width) | FieldType::Signed(width) | FieldType::Address(width) => {
+        FieldType::Unsigned(width) | FieldType::Time(width) | FieldType::Signed(width) | FieldType::Address(width) => {
             Some(reader.take(width)?.len())
         }
         FieldType::CountedString => {
-            let octets = counted_octets(&mut reader)?;
+            let octets = counted_octets(order, &mut reader)?;
             octets.is_ascii().then_some(4 + octets.len())
         }
         FieldType::ZeroEndedString => Some(rest.iter().position(|octet| *octet == 0)? + 1),
-        FieldType::Blob => Some(4 + counted_octets(&mut reader)?.len()),
+        FieldType::Blob => Some(4 + counted_octets(order, &mut reader)?.len()),
     }
 }
 
-/// A 32-bit length, then that many octets.
-fn counted_octets<'a>(reader: &mut Reader<'a>) -> Option<&'a [u8]> {
-    let length = number(reader.take(4)?);
+/// A 32-bit length in that order, then that many octets.
+fn counted_octets<'a>(order: Order, reader: &mut Reader<'a>) -> Option<&'a [u8]> {
+    let length = number_in(order, reader.take(4)?);
     reader.take(usize::try_from(length).ok()?)
 }

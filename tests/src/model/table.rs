@@ -1,6 +1,6 @@
 //! The template table and its soundness.
 
-use super::octets::Reader;
+use super::octets::{Order, Reader};
 use super::record::field_type;
 
 /// The most octets and templates of a table, and the most keys of a template.
@@ -29,6 +29,8 @@ pub struct Template {
 #[derive(Clone, Debug, PartialEq, Eq)]
 pub struct Table {
     pub configuration_id: u8,
+    /// The order of the numbers in records; the table's own are always most significant octet first.
+    pub order: Order,
     pub templates: Vec<Template>,
 }
 
@@ -49,7 +51,7 @@ pub fn configuration_id(t: &[u8]) -> u8 {
     t.first().copied().unwrap_or(0)
 }
 
-/// At most 16,384 octets: Configuration ID, flags 1, a count of 1 to 8, that many blocks with
+/// At most 16,384 octets: Configuration ID, flags 0 or 1, a count of 1 to 8, that many blocks with
 /// differing template IDs, and nothing after the last block.
 pub fn parse(t: &[u8]) -> Option<Table> {
     if t.len() > MAX_TABLE_OCTETS {
@@ -57,9 +59,9 @@ pub fn parse(t: &[u8]) -> Option<Table> {
     }
     let mut reader = Reader::new(t);
     let configuration_id = reader.u8()?;
-    let flags = reader.u8()?;
+    let order = Order::of_flags(reader.u8()?)?;
     let count = usize::from(reader.u16()?);
-    if flags != 1 || !(1..=MAX_TEMPLATES).contains(&count) {
+    if !(1..=MAX_TEMPLATES).contains(&count) {
         return None;
     }
     let mut templates: Vec<Template> = Vec::new();
@@ -73,7 +75,7 @@ pub fn parse(t: &[u8]) -> Option<Table> {
     if !reader.rest.is_empty() {
         return None;
     }
-    Some(Table { configuration_id, templates })
+    Some(Table { configuration_id, order, templates })
 }
 
 /// Block: template ID, key count 1 to 32, flags 0, description length, block length, the

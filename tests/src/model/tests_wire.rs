@@ -2,6 +2,7 @@
 
 use super::append::append;
 use super::message::{read, write, Message};
+use super::octets::Order;
 use super::record::judge;
 use super::table::{configuration_id, is_sound};
 use super::tests_support::{blob, blob_table, block_of, hex, sample_table, table_of};
@@ -33,7 +34,8 @@ fn example_table_is_sound() {
 #[test]
 fn fixed_fields_of_a_table() {
     assert!(is_sound(&altered(0, 0)) && is_sound(&altered(0, 255)));
-    for flags in [0, 2, 3, 129] {
+    assert!(is_sound(&altered(1, 0)));
+    for flags in [2, 3, 128, 129, 255] {
         assert!(!is_sound(&altered(1, flags)));
     }
     for count in [0, 2, 9] {
@@ -125,9 +127,9 @@ fn example_records() {
 
 #[test]
 fn record_refusals_in_order() {
-    assert_eq!(judge(&altered(1, 0), 9, &hex("00")), 21);
+    assert_eq!(judge(&altered(1, 2), 9, &hex("00")), 21);
     assert_eq!(judge(&sample_table(), 9, &hex("00")), 15);
-    assert_eq!(open(&altered(1, 0), 9, &hex("00")), 21);
+    assert_eq!(open(&altered(1, 2), 9, &hex("00")), 21);
     assert_eq!(open(&sample_table(), 9, &hex("00")), 15);
     assert_eq!(open(&sample_table(), 3, &hex("00")), 16);
     assert_eq!(open(&sample_table(), 3, &hex("0005")), 0);
@@ -249,7 +251,7 @@ fn exact_values() {
 /// Appends a value at place 0 and gives back the field's octets.
 fn appended(kind: u16, value: Value, octets: &str) -> Result<Vec<u8>, u8> {
     let mut out = [0xee; 40];
-    let end = append(kind, value, &hex(octets), &mut out, 0)?;
+    let end = append(Order::Big, kind, value, &hex(octets), &mut out, 0)?;
     assert!(out[end..].iter().all(|octet| *octet == 0xee));
     Ok(out[..end].to_vec())
 }
@@ -307,13 +309,13 @@ fn appended_value_must_be_of_its_type() {
 #[test]
 fn append_refuses_short_output_last() {
     let mut out = [0xee; 4];
-    assert_eq!(append(2, Value::Number(256), &[], &mut out, 9), Err(16));
-    assert_eq!(append(4, Value::Number(256), &[], &mut out, 3), Err(12));
-    assert_eq!(append(2, Value::Number(1), &[], &mut out, 4), Err(12));
-    assert_eq!(append(2, Value::Number(1), &[], &mut out, 5), Err(12));
-    assert_eq!(append(2, Value::Number(1), &[], &mut out, usize::MAX), Err(12));
+    assert_eq!(append(Order::Big, 2, Value::Number(256), &[], &mut out, 9), Err(16));
+    assert_eq!(append(Order::Big, 4, Value::Number(256), &[], &mut out, 3), Err(12));
+    assert_eq!(append(Order::Big, 2, Value::Number(1), &[], &mut out, 4), Err(12));
+    assert_eq!(append(Order::Big, 2, Value::Number(1), &[], &mut out, 5), Err(12));
+    assert_eq!(append(Order::Big, 2, Value::Number(1), &[], &mut out, usize::MAX), Err(12));
     assert_eq!(out, [0xee; 4]);
-    assert_eq!(append(4, Value::Number(256), &[], &mut out, 2), Ok(4));
+    assert_eq!(append(Order::Big, 4, Value::Number(256), &[], &mut out, 2), Ok(4));
     assert_eq!(out, [0xee, 0xee, 1, 0]);
 }
 

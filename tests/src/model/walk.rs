@@ -1,12 +1,12 @@
 //! The field walk over a borrowed record.
 
 use super::answer;
-use super::octets::number;
+use super::octets::{number, number_in, Order};
 use super::record::{field_length, field_type, find_template, judge, FieldType};
 
 /// A field's exact value where it is a number; `Negative(m)` is minus `m`. Addresses, strings and
 /// blobs are octets; a float's number is its bits.
-#[derive(Clone, Copy, Debug, PartialEq, Eq)]
+#[derive(Clone, Copy, Debug, PartialEq, Eq, PartialOrd, Ord)]
 pub enum Value {
     Octets,
     Number(u64),
@@ -45,7 +45,7 @@ pub fn open(t: &[u8], id: u16, r: &[u8]) -> u8 {
 /// How many fields a record has, one for each enabled key; judged like opening.
 pub fn count_fields(t: &[u8], id: u16, r: &[u8]) -> Result<usize, u8> {
     match open(t, id, r) {
-        answer::DONE => Ok(find_template(t, id)?.keys.iter().filter(|key| !key.disabled).count()),
+        answer::DONE => Ok(find_template(t, id)?.1.keys.iter().filter(|key| !key.disabled).count()),
         refusal => Err(refusal),
     }
 }
@@ -53,34 +53,35 @@ pub fn count_fields(t: &[u8], id: u16, r: &[u8]) -> Result<usize, u8> {
 /// One step, judged 21 and 15, then 16 for the field of the next enabled key; the end where there
 /// is none.
 pub fn step(t: &[u8], id: u16, r: &[u8], c: Cursor) -> Step {
-    let template = match find_template(t, id) {
-        Ok(template) => template,
+    let (order, template) = match find_template(t, id) {
+        Ok(found) => found,
         Err(refusal) => return Step::Refused(refusal),
     };
     let mut remaining = template.keys.iter().enumerate().skip(c.index);
     let Some((index, key)) = remaining.find(|(_, key)| !key.disabled) else {
         return Step::End;
     };
-    let Some(field) = field_at(key.kind, r, c.at) else {
+    let Some(field) = field_at(order, key.kind, r, c.at) else {
         return Step::Refused(answer::RECORD_INVALID);
     };
     Step::Next(field, Cursor { index: index + 1, at: field.at + field.len })
 }
 
 /// The field of that type at that place of the record; `None` where no such field stands there.
-fn field_at(kind: u16, r: &[u8], at: usize) -> Option<Field> {
+fn field_at(order: Order, kind: u16, r: &[u8], at: usize) -> Option<Field> {
     let rest = r.get(at..)?;
-    let len = field_length(kind, rest)?;
-    let value = value_of(field_type(kind)?, rest.get(..len)?);
+    let len = field_length(order, kind, rest)?;
+    let value = value_of(order, field_type(kind)?, rest.get(..len)?);
     Some(Field { kind, at, len, value })
 }
 
 /// The exact value of a field's octets under its type: Boolean, integers, times and float bits are
-/// numbers, all else is octets.
-fn value_of(layout: FieldType, octets: &[u8]) -> Value {
+/// numbers, all else is octets. Integers and floats stand in the table's order.
+fn value_of(order: Order, layout: FieldType, octets: &[u8]) -> Value {
     match layout {
-        FieldType::Boolean | FieldType::Unsigned(_) => Value::Number(number(octets)),
-        FieldType::Signed(width) => signed_value(width, number(octets)),
+        FieldType::Boolean | FieldType::Time(_) => Value::Number(number(octets)),
+        FieldType::Unsigned(_) => Value::Number(number_in(order, octets)),
+        FieldType::Signed(width) => signed_value(width, number_in(order, octets)),
         _ => Value::Octets,
     }
 }

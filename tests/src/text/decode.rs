@@ -2,7 +2,7 @@
 
 use super::words::{hex, quoted};
 use super::words_of_message;
-use crate::tables::{field_type, Table};
+use crate::tables::{field_type, Order, Table};
 use crate::tape::{self, Event, Settings};
 
 /// Octets in hex on one line; longer bodies go on, indented.
@@ -67,7 +67,8 @@ fn table_lines(octets: &[u8]) -> String {
     let Some(table) = Table::from_octets(octets) else {
         return with_hex("table".to_string(), octets);
     };
-    let mut lines = format!("table configuration={}", table.configuration);
+    let order = if table.order == Order::Little { " order=little" } else { "" };
+    let mut lines = format!("table configuration={}{order}", table.configuration);
     for template in &table.templates {
         lines.push_str(&format!("\n  template {} description={}", template.id, quoted(&template.description)));
         for key in &template.keys {

@@ -1,9 +1,14 @@
 //! From the text form to a tape.
 
 use super::message_of_words;
-use super::words::{number, Words};
-use crate::tables::{Key, Table, Template, FIELD_TYPES};
+use super::words::{number, octets_of_hex, Words};
+use crate::model::append::append;
+use crate::model::walk::Value;
+use crate::tables::{Key, Order, Table, Template, BLOB, FIELD_TYPES, IPV4, IPV6, STRING, ZERO_STRING};
 use crate::tape::{self, Event, Settings};
+
+/// The most octets that a field has beside those of a string, a blob or an address: a number of 64 bits.
+const MOST_OCTETS_BESIDE: usize = 8;
 
 /// The tape that a text gives, or the line that is at fault and why. Only sound tapes have a text.
 pub fn encode(text: &str) -> Result<Vec<u8>, String> {
@@ -46,7 +51,7 @@ impl Encoder {
         let event = match name.as_str() {
             "settings" => self.settings(&mut words)?,
             "table" => self.begin_table(&mut words)?,
-            "put" => Event::put(words.number("template", 65_535)? as u16, &words.take_hex()?),
+            "put" => Event::put(words.number("template", 65_535)? as u16, &record_of_words(self.order(), &mut words)?),
             "message" => {
                 let server = words.number("server", 255)? as u8;
                 Event::message(server, message_of_words(&mut words, self.session)?)
@@ -85,13 +90,21 @@ impl Encoder {
     /// A table in hex, or the first line of one that is given part by part.
     fn begin_table(&mut self, words: &mut Words) -> Result<Event, String> {
         if let Some(configuration) = words.optional("configuration", 255)? {
-            self.table = Some(Table { configuration: configuration as u8, templates: Vec::new() });
+            let order = order_of_words(words)?;
+            self.table = Some(Table { configuration: configuration as u8, order, templates: Vec::new() });
         }
         Ok(Event::table(words.take_hex()?))
     }
 
+    /// The order that the table states for records; big-endian under flags that no table has.
+    fn order(&self) -> Order {
+        let flags = self.events.get(1).and_then(|table| table.body.get(1));
+        flags.and_then(|flags| Order::of_flags(*flags)).unwrap_or(Order::Big)
+    }
+
     /// An indented line: a part of the table, or more octets for the last event's body.
     fn continuation(&mut self, mut words: Words) -> Result<(), String> {
+        let order = self.order();
         let last = self.events.last_mut().ok_or("an indented line goes on with the line above, and there is none")?;
         if self.times != 1 {
             return Err("an indented line cannot go on with a repeated event".to_string());
@@ -103,6 +116,7 @@ impl Encoder {
                 template.keys.push(key_of_words(&mut words)?);
             }
             (_, Some(_)) => return Err("a table goes on with 'template' or 'key'".to_string()),
+            (_, None) if last.kind == tape::PUT => last.body.extend(record_of_words(order, &mut words)?),
             (_, None) => last.body.extend(words.take_hex()?),
         }
         words.end()
@@ -123,6 +137,48 @@ fn times(words: &mut Words) -> Result<u64, String> {
         Some(text) => number(&text, most),
         None => Ok(words.optional("times", most)?.unwrap_or(1)),
     }
+}
+
+/// `order=little` or `order=big`, which may be missing.
+fn order_of_words(words: &mut Words) -> Result<Order, String> {
+    match words.take_named("order").as_deref() {
+        None | Some(b"big") => Ok(Order::Big),
+        Some(b"little") => Ok(Order::Little),
+        Some(_) => Err("'order=' is big or little".to_string()),
+    }
+}
+
+/// The octets of a record, or of a part of one: in hex, or field by field in that order.
+fn record_of_words(order: Order, words: &mut Words) -> Result<Vec<u8>, String> {
+    let fields = words.take_all(|name| FIELD_TYPES.iter().any(|kind| kind.name == name));
+    if fields.is_empty() {
+        return words.take_hex();
+    }
+    if words.first().is_some() {
+        return Err("a line of a record is in hex or field by field, not both".to_string());
+    }
+    let octets: Result<Vec<Vec<u8>>, String> =
+        fields.iter().map(|(name, value)| field_of_words(order, name, value)).collect();
+    Ok(octets?.concat())
+}
+
+/// `unsigned16=5`, `signed8=-1`, `ipv4=c0000201` or `string="text"`: the octets of a field in that order. A float is
+/// given by its bits as a number, and a zero-string without its zero.
+fn field_of_words(order: Order, name: &str, value: &[u8]) -> Result<Vec<u8>, String> {
+    let kind = FIELD_TYPES.iter().find(|kind| kind.name == name).map_or(0, |kind| kind.number);
+    let text = String::from_utf8_lossy(value);
+    let (value, octets) = match kind {
+        IPV4 | IPV6 => (Value::Octets, octets_of_hex(&text)?),
+        STRING | ZERO_STRING | BLOB => (Value::Octets, value.to_vec()),
+        _ => match text.strip_prefix('-') {
+            Some(size) => (Value::Negative(number(size, u64::MAX)?), Vec::new()),
+            None => (Value::Number(number(&text, u64::MAX)?), Vec::new()),
+        },
+    };
+    let mut field = vec![0; octets.len() + MOST_OCTETS_BESIDE];
+    let end = append(order, kind, value, &octets, &mut field, 0);
+    field.truncate(end.map_err(|_| format!("'{text}' is no value of type {name}"))?);
+    Ok(field)
 }
 
 /// `template 3 description="minutes"`; the description may be missing.

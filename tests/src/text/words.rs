@@ -61,6 +61,13 @@ impl Words {
         Some(self.named.remove(place).1)
     }
 
+    /// Takes all names for which something holds, with their values, as they follow each other.
+    pub fn take_all(&mut self, holds: impl Fn(&str) -> bool) -> Vec<(String, Vec<u8>)> {
+        let (taken, left) = std::mem::take(&mut self.named).into_iter().partition(|(name, _)| holds(name));
+        self.named = left;
+        taken
+    }
+
     /// Takes the number of a name, if the line has it.
     pub fn optional(&mut self, name: &str, most: u64) -> Result<Option<u64>, String> {
         match self.take_named(name) {
