@@ -172,7 +172,7 @@ impl State {
         if record.len() > MAX_RECORD_OCTETS {
             return Err(RECORD_TOO_LONG);
         }
-        if !table::fields_valid(keys, record) {
+        if !table::fields_valid(table::order(t), keys, record) {
             return Err(RECORD_INVALID);
         }
         if self.count >= MAX_HELD {

@@ -1,7 +1,7 @@
 //! Tables, records, messages and events to measure with.
 
 use crate::session::{self, Given, CONFIG, SESSION};
-use crate::table::{BLOB, BOOLEAN, STRING, TERMINATED};
+use crate::table::{self, BLOB, BOOLEAN, STRING, TERMINATED};
 use crate::{ipdr, message};
 
 /// A key: its ID, its type, and whether it is enabled.
@@ -175,6 +175,26 @@ impl Valid {
             id: 1,
             record: fixed_record(),
         }
+    }
+
+    /// The same record under a little-endian table: integers, floats and lengths turned.
+    pub fn little(mut self) -> Valid {
+        let keys = table::find(&self.table, self.id).expect("a template");
+        let mut at = 0;
+        for key in keys.chunks_exact(12).filter(|key| table::is_enabled(key)) {
+            let kind = table::u16_at(key, 4);
+            let len = table::field_length(table::Order::Big, kind, &self.record[at..]);
+            let len = len.expect("a valid field");
+            let turned = match kind {
+                0x02..=0x0b => len,
+                STRING | BLOB => 4,
+                _ => 0,
+            };
+            self.record[at..at + turned].reverse();
+            at += len;
+        }
+        self.table[1] = 0;
+        self
     }
 }
 

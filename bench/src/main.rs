@@ -18,6 +18,7 @@ mod session;
 mod table;
 mod timing;
 mod verify;
+mod walk;
 
 use measures::Group;
 use timing::Times;

@@ -2,7 +2,7 @@
 
 use crate::inputs::{self, Events, Valid, OUTPUT_OCTETS};
 use crate::session::session;
-use crate::{edition, ipdr, library, message, replay, table};
+use crate::{edition, ipdr, library, message, replay, table, walk};
 use std::hint::black_box;
 use std::io::Write;
 use std::process::{Command, Stdio};
@@ -95,6 +95,46 @@ impl Group {
                     b.id,
                     black_box(&b.record),
                 ));
+            },
+        );
+    }
+
+    /// A record whose fields are counted again and again.
+    fn count(&mut self, name: &str, v: Valid, calls: usize) {
+        let (a, b) = (v.clone(), v);
+        self.calls(
+            name,
+            calls,
+            move || {
+                let (t, r) = (black_box(&a.table), black_box(&a.record));
+                black_box(library::count_fields(t, a.id, r));
+            },
+            move || {
+                let (t, r) = (black_box(&b.table), black_box(&b.record));
+                black_box(walk::count_fields(t, b.id, r));
+            },
+        );
+    }
+
+    /// Steps over the fields of a record, again and again; of each the size of the field's value is asked.
+    fn steps(&mut self, name: &str, v: Valid, calls: usize) {
+        let (a, b) = (v.clone(), v);
+        let mut cursors = walk::cursors(&a.table, a.id, &a.record);
+        cursors.pop();
+        let mut cursors1 = cursors.into_iter().cycle();
+        let mut cursors2 = cursors1.clone();
+        self.calls(
+            name,
+            calls,
+            move || {
+                let c = cursors1.next().expect("a field");
+                let (t, r) = (black_box(&a.table), black_box(&a.record));
+                black_box(library::step_part(t, a.id, r, c, walk::SIZE));
+            },
+            move || {
+                let c = cursors2.next().expect("a field");
+                let (t, r) = (black_box(&b.table), black_box(&b.record));
+                black_box(walk::step_part(t, b.id, r, c, walk::SIZE));
             },
         );
     }
@@ -247,6 +287,31 @@ fn records() -> Group {
         let name = format!("largest table, 12 of 32 keys, {n} octets");
         g.record(&name, Valid::large(n), 20);
     }
+    for (name, v, calls) in three_records() {
+        g.record(&format!("{name}, little-endian"), v.little(), calls);
+    }
+    g
+}
+
+/// 4 keys, a string and 32 keys of fixed widths, with the calls of a run.
+fn three_records() -> [(&'static str, Valid, usize); 3] {
+    [
+        ("4 keys, 128 octets", Valid::small(128), 500),
+        ("a string of 1,024 octets", Valid::text(table::STRING, 1024), 300),
+        ("32 keys of fixed widths", Valid::fixed(), 96),
+    ]
+}
+
+fn walks() -> Group {
+    let mut g = Group::new("field walk (with the table's soundness)", 150);
+    for (name, v, calls) in three_records() {
+        g.count(&format!("fields counted, {name}"), v.clone(), calls);
+        g.count(&format!("fields counted, {name}, little-endian"), v.little(), calls);
+    }
+    for (name, v, calls) in three_records() {
+        g.steps(&format!("a step, {name}"), v.clone(), calls);
+        g.steps(&format!("a step, {name}, little-endian"), v.little(), calls);
+    }
     g
 }
 
@@ -326,6 +391,6 @@ pub fn groups() -> Vec<Group> {
         let title = format!("exporter, largest table, records of {n} octets");
         all.push(sessions(&title, &Valid::large(n), 60, false));
     }
-    all.extend([tables(), records(), messages(), ipdr_messages()]);
+    all.extend([tables(), records(), walks(), messages(), ipdr_messages()]);
     all
 }

@@ -28,6 +28,27 @@ pub fn u32_at(s: &[u8], at: usize) -> u32 {
     u32::from_be_bytes([s[at], s[at + 1], s[at + 2], s[at + 3]])
 }
 
+/// The order of the numbers in a table's records.
+#[derive(Clone, Copy, PartialEq, Eq)]
+pub enum Order {
+    Big,
+    Little,
+}
+
+/// The order that a sound table states.
+pub fn order(t: &[u8]) -> Order {
+    if t[1] == 1 {
+        Order::Big
+    } else {
+        Order::Little
+    }
+}
+
+/// A key's field stands in the record.
+pub fn is_enabled(key: &[u8]) -> bool {
+    u32_at(key, 8) == 0
+}
+
 fn key_sound(key: &[u8]) -> bool {
     is_type(u16_at(key, 4)) & (u16_at(key, 6) == 0) & (u32_at(key, 8) <= 1)
 }
@@ -72,7 +93,7 @@ fn block(s: &[u8]) -> Option<(u16, usize)> {
 }
 
 pub fn is_sound(t: &[u8]) -> bool {
-    if !(4..=16384).contains(&t.len()) || t[1] != 1 {
+    if !(4..=16384).contains(&t.len()) || t[1] > 1 {
         return false;
     }
     let count = u16_at(t, 2) as usize;
@@ -109,8 +130,9 @@ pub fn find(t: &[u8], id: u16) -> Option<&[u8]> {
     None
 }
 
-/// The length of the field of a type at the start of the octets, if there is a valid one.
-pub fn field_length(kind: u16, s: &[u8]) -> Option<usize> {
+/// The length of the field of a type at the start of the octets, if there is a valid one. Its two callers are faster with it in line.
+#[inline(always)]
+pub fn field_length(order: Order, kind: u16, s: &[u8]) -> Option<usize> {
     let w = width(kind);
     if w > 0 {
         if s.len() < w || (kind == BOOLEAN && s[0] > 1) {
@@ -121,7 +143,10 @@ pub fn field_length(kind: u16, s: &[u8]) -> Option<usize> {
     match kind {
         STRING | BLOB => {
             let head: &[u8; 4] = s.first_chunk()?;
-            let n = u32_at(head, 0) as usize;
+            let n = match order {
+                Order::Big => u32::from_be_bytes(*head),
+                Order::Little => u32::from_le_bytes(*head),
+            } as usize;
             let text = s[4..].get(..n)?;
             if kind == STRING && !text.is_ascii() {
                 return None;
@@ -134,11 +159,11 @@ pub fn field_length(kind: u16, s: &[u8]) -> Option<usize> {
 }
 
 /// Whether the fields of the enabled keys use up exactly the record's octets.
-pub fn fields_valid(keys: &[u8], record: &[u8]) -> bool {
+pub fn fields_valid(order: Order, keys: &[u8], record: &[u8]) -> bool {
     let mut rest = record;
     for key in keys.chunks_exact(12) {
-        if u32_at(key, 8) == 0 {
-            let Some(n) = field_length(u16_at(key, 4), rest) else {
+        if is_enabled(key) {
+            let Some(n) = field_length(order, u16_at(key, 4), rest) else {
                 return false;
             };
             rest = &rest[n..];
@@ -162,7 +187,7 @@ pub fn record_answer(t: &[u8], id: u16, record: &[u8]) -> u8 {
     let Some(keys) = find(t, id) else {
         return TEMPLATE_NOT_FOUND;
     };
-    if fields_valid(keys, record) {
+    if fields_valid(order(t), keys, record) {
         DONE
     } else {
         RECORD_INVALID

@@ -2,7 +2,7 @@
 
 use crate::inputs::{self, Events, Valid, OUTPUT_OCTETS};
 use crate::session::{session, Given, EVENT_OCTETS};
-use crate::{edition, ipdr, library, message, table};
+use crate::{edition, ipdr, library, message, table, walk};
 
 /// A small random number generator with a fixed seed.
 struct Random(u64);
@@ -53,6 +53,24 @@ fn compare_record(t: &[u8], id: u16, r: &[u8]) {
         table::record_answer(t, id, r),
         "record {t:x?} {id} {r:x?}"
     );
+}
+
+/// The count of a record's fields, and every part of every step up to the end or a refusal.
+fn compare_walk(t: &[u8], id: u16, r: &[u8]) {
+    let counted = (
+        library::count_fields(t, id, r),
+        walk::count_fields(t, id, r),
+    );
+    assert_eq!(counted.0, counted.1, "count {t:x?} {id} {r:x?}");
+    for c in walk::cursors(t, id, r) {
+        for part in 0..9 {
+            let step = (
+                library::step_part(t, id, r, c, part),
+                walk::step_part(t, id, r, c, part),
+            );
+            assert_eq!(step.0, step.1, "part {part} of {c:?} {t:x?} {id} {r:x?}");
+        }
+    }
 }
 
 fn compare_message(m: &[u8], room: usize) {
@@ -155,6 +173,7 @@ fn tables(random: &mut Random) -> usize {
         inputs::fixed_table(),
         inputs::large_table(true),
         inputs::large_table(false),
+        Valid::fixed().little().table,
     ];
     for t in &tables {
         compare_table(t);
@@ -172,13 +191,19 @@ fn records(random: &mut Random) -> usize {
         Valid::fixed(),
         Valid::large(16),
     ];
+    let records: Vec<Valid> = records
+        .into_iter()
+        .flat_map(|v| [v.clone(), v.little()])
+        .collect();
     for Valid { table, id, record } in &records {
         assert_eq!(table::record_answer(table, *id, record), 0);
-        compare_record(table, *id, record);
-        compare_record(table, 9, record);
-        (0..COPIES).for_each(|_| compare_record(table, *id, &damaged(record, random)));
+        for compare in [compare_record, compare_walk] {
+            compare(table, *id, record);
+            compare(table, 9, record);
+            (0..COPIES).for_each(|_| compare(table, *id, &damaged(record, random)));
+        }
     }
-    records.len() * COPIES
+    2 * records.len() * COPIES
 }
 
 fn messages(random: &mut Random) -> usize {
@@ -249,6 +274,7 @@ fn measured_sessions() -> usize {
         out: OUTPUT_OCTETS,
     };
     compare_beginnings(inputs::GIVEN, lent, &Valid::small(16), &list)
+        + compare_beginnings(inputs::GIVEN, lent, &Valid::small(16).little(), &list)
         + compare_beginnings(inputs::GIVEN, lent, &Valid::large(128), &list)
 }
 
@@ -280,7 +306,12 @@ fn drawn_session(random: &mut Random) -> usize {
         duration: 1 + random.below(4) as u16,
         initial: inputs::GIVEN.initial,
     };
-    let v = Valid::small(11 + random.below(300));
+    let big = Valid::small(11 + random.below(300));
+    let v = if random.below(2) == 0 {
+        big
+    } else {
+        big.little()
+    };
     let out = if random.below(4) == 0 { 40 } else { 2000 };
     let list = drawn(random, 150);
     let store = 1024 + random.below(100);
