@@ -79,11 +79,11 @@ module _ (r : List ℕ) (at w : ℕ) (octet : (i : ℕ) → i < suc w → getD r
       u : ℕ
       u = uintIn order r at (suc w)
 
-      go : (b : Bool) → leb 128 (high order) ≡ b → integerOf (signedAt order r at (suc w)) ≡ some (twosComplementAt order r at (suc w))
+      go : (b : Bool) → leb 128 (high order) ≡ b → integerOf (signedAt order r at (suc w)) ≡ some (cond b (subℕ u (256 ^ suc w)) (pos u))
       go true e =
           let below = uint-in-within order r at (suc w) octet in
-          rw (e, le-ltb (2 * u) (256 ^ suc w) (half-set order e)) (ap some (minus (256 ^ suc w - u) u (256 ^ suc w) (omega arith) (omega arith)))
-      go false e = rw (e, lt-ltb (2 * u) (256 ^ suc w) (half-clear order e))
+          rw (le-ltb (2 * u) (256 ^ suc w) (half-set order e)) (ap some (minus (256 ^ suc w - u) u (256 ^ suc w) (omega arith) (omega arith)))
+      go false e = rw (lt-ltb (2 * u) (256 ^ suc w) (half-clear order e))
 
 -- THE LAW OF EXACT VALUES, for every type, where the octets of its width are below 256
 pub exact-value : (order : OctetOrder) (type : ℕ) (r : List ℕ) (at : ℕ) → ((i : ℕ) → i < widthOf type → getD r (at + i) 0 < 256)

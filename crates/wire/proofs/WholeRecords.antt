@@ -1,7 +1,7 @@
 -- Whole records: values appended one after the other are their fields end to end; these are a valid record, and the walk over it answers
 -- the fields. From key k on the claim goes by the keys that are left: a disabled key has no field, and at an enabled one the field of the
 -- next value stands and is read back.
-use mathlib.Core.Path.{_≡_, refl, sym, ap, _∙_}
+use mathlib.Core.Path.{_≡_, refl, sym, ap, subst, _∙_}
 use mathlib.Core.Bool.{Bool, true, false, cond}
 use mathlib.Core.List.{List, [], _∷_, _++_, map}
 use Prim.Native.Nat.{ℕ, zero, suc, _+_, _-_, _≤_, _<_}
@@ -26,7 +26,7 @@ use Rattle.records.specs.declared.walk.Field.{Field}
 use Rattle.appending.specs.declared.append.Appended.the-variants as appended
 use Rattle.appending.proofs.ExactFields.{field-exact}
 use Rattle.appending.proofs.ReadBack.{front-holds, reads-back, append-accepts}
-use Rattle.wire.specs.Demand2.{TypedValue, fits, octetsFor, recordOctets, appendAll, fieldsOf}
+use Rattle.wire.specs.Demand2.{TypedValue, Output, fits, octetsFor, recordOctets, appendAll, fieldsOf}
 use Rattle.wire.specs.Demand2.{FieldOf, EachField, ValuesFor, RecordOf, RecordsMade, RecordsReadBack, EmptyRecords}
 
 -- ---- made by appending
@@ -213,7 +213,11 @@ record-of t id values found given =
 
 pub records-read-back : RecordsReadBack
 records-read-back t id values at out found given room =
-    rw (append-all (tableOrder t) values at out (given .fit) room, stored-part out (recordOctets (tableOrder t) values) at room) (record-of t id values found given)
+    let octets = recordOctets (tableOrder t) values in
+    let part : take (length octets) (drop at (appendAll (tableOrder t) values (appended.Next at) out .out)) ≡ octets =
+    ap (λ (o : Output). take (length octets) (drop at (o .out))) (append-all (tableOrder t) values at out (given .fit) room)
+    ∙ stored-part out octets at room in
+    subst (RecordOf t id values) (sym part) (record-of t id values found given)
 
 -- no fields have no octets
 none-laid : (r : List ℕ) (fields : List Field) → map (λ f. f .kind) fields ≡ [] → laidOut r fields ≡ []
