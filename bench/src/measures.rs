@@ -297,7 +297,11 @@ fn records() -> Group {
 fn three_records() -> [(&'static str, Valid, usize); 3] {
     [
         ("4 keys, 128 octets", Valid::small(128), 500),
-        ("a string of 1,024 octets", Valid::text(table::STRING, 1024), 300),
+        (
+            "a string of 1,024 octets",
+            Valid::text(table::STRING, 1024),
+            300,
+        ),
         ("32 keys of fixed widths", Valid::fixed(), 96),
     ]
 }
@@ -306,7 +310,11 @@ fn walks() -> Group {
     let mut g = Group::new("field walk (with the table's soundness)", 150);
     for (name, v, calls) in three_records() {
         g.count(&format!("fields counted, {name}"), v.clone(), calls);
-        g.count(&format!("fields counted, {name}, little-endian"), v.little(), calls);
+        g.count(
+            &format!("fields counted, {name}, little-endian"),
+            v.little(),
+            calls,
+        );
     }
     for (name, v, calls) in three_records() {
         g.steps(&format!("a step, {name}"), v.clone(), calls);
