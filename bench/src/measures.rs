@@ -195,8 +195,8 @@ fn session_run(v: &Valid, events: &Events) -> (Side, Side) {
     (rattle, rust)
 }
 
-/// The exporter's calls with 64 records, and cycles of put, next data and acknowledgement. What releases, ticks and opens a session does not
-/// depend on the records' lengths, so `all` asks for these lines in one group only.
+/// The exporter's calls with 64 records, and cycles of put, next data and acknowledgement. What releases, ticks and opens a session does
+/// not depend on the records' lengths, so `all` asks for these lines in one group only.
 fn sessions(title: &str, v: &Valid, rounds: usize, all: bool) -> Group {
     let mut g = Group::new(title, rounds);
     let opening = Events::opening();

@@ -14,7 +14,8 @@ use Rattle.numbers.specs.declared.OctetOrder.{OctetOrder}
 use Rattle.octets.proofs.Stores.{put-short, put-join}
 use Rattle.octets.specs.Each.{every}
 use Rattle.field_types.specs.FieldTypes.{widthOf, isNumber, isSigned, booleanType, stringType, terminatedType, blobType}
-use Rattle.appending.specs.Append.{valueFits, numberFits, negativeFits, octetsFit, fieldOctets, appendAnswer, appendOf, appendOut, storedOf, Stored}
+use Rattle.appending.specs.Append.{valueFits, numberFits, negativeFits, octetsFit, fieldOctets, appendAnswer, appendOf, appendOut}
+use Rattle.appending.specs.Append.{storedOf, Stored}
 use Rattle.records.specs.declared.walk.Value.{Value}
 use Rattle.appending.specs.declared.append.Appended.{Appended}
 use Rattle.appending.specs.declared.append.Appended.the-variants.{Next, Refused}
@@ -32,11 +33,12 @@ unfolding storedOf
 stored-fits field out at place after h e f = (rw (le-leb (at + length field) (length out) h) (ap Next e), f)
 
 -- a field of two parts, one behind the other, and what does not fit of it
-pub joined-short : (a b out : List ℕ) (at : ℕ) → length out < at + (length a + length b) → Stored (a ++ b) out at (Refused outputTooShort) out
+pub joined-short : (a b out : List ℕ) (at : ℕ) → length out < at + (length a + length b)
+    → Stored (a ++ b) out at (Refused outputTooShort) out
 joined-short a b out at h = stored-short (a ++ b) out at (rw length-append h)
 
-pub joined-fits : (a b out : List ℕ) (at place : ℕ) (after : List ℕ) → at + length a + length b ≤ length out → place ≡ at + length a + length b
-    → after ≡ putAt (putAt out at a) (at + length a) b → Stored (a ++ b) out at (Next place) after
+pub joined-fits : (a b out : List ℕ) (at place : ℕ) (after : List ℕ) → at + length a + length b ≤ length out
+    → place ≡ at + length a + length b → after ≡ putAt (putAt out at a) (at + length a) b → Stored (a ++ b) out at (Next place) after
 joined-fits a b out at place after h e f =
     let n = length-append a b in
     stored-fits (a ++ b) out at place after (omega arith) (omega arith) (f ∙ put-join out at a b h)
@@ -44,14 +46,17 @@ joined-fits a b out at place after h e f =
 -- ---- appending is storing the field of a value that fits, and refusing any other
 
 abbrev pub Appending : OctetOrder → ℕ → Value → List ℕ → List ℕ → ℕ → Appended → List ℕ → Type 0
-Appending order type value octets out at answer after = (answer ≡ appendOf order type value octets out at) × (after ≡ appendOut order type value octets out at)
+Appending order type value octets out at answer after =
+    (answer ≡ appendOf order type value octets out at) × (after ≡ appendOut order type value octets out at)
 
-stored-answer : (field out : List ℕ) (at : ℕ) (b : Bool) → leb (at + length field) (length out) ≡ b → ltb (length out) (at + length field) ≡ not b
+stored-answer : (field out : List ℕ) (at : ℕ) (b : Bool) → leb (at + length field) (length out) ≡ b
+    → ltb (length out) (at + length field) ≡ not b
 stored-answer field out at true e = le-ltb (length out) (at + length field) (leb-true (at + length field) (length out) e)
 stored-answer field out at false e = lt-ltb (length out) (at + length field) (leb-false (at + length field) (length out) e)
 
 pub append-stores : (order : OctetOrder) (type : ℕ) (value : Value) (octets out : List ℕ) (at : ℕ) → valueFits type value octets ≡ true
-    → Appending order type value octets out at (storedOf (fieldOctets order type value octets) out at) (putAt out at (fieldOctets order type value octets))
+    → Appending order type value octets out at (storedOf (fieldOctets order type value octets) out at)
+    (putAt out at (fieldOctets order type value octets))
 unfolding appendOf appendOut appendAnswer storedOf putAt
 append-stores order type value octets out at h = go (leb (at + length field) (length out)) refl
   where
@@ -64,15 +69,16 @@ append-stores order type value octets out at h = go (leb (at + length field) (le
     go false e = (rw (h, stored-answer field out at false e, e), rw (h, stored-answer field out at false e, e))
 
 -- a value v that fits, whose field was stored
-pub append-stored : (order : OctetOrder) (type : ℕ) (value v : Value) (octets out : List ℕ) (at : ℕ) (answer : Appended) (after : List ℕ) → value ≡ v
-    → valueFits type v octets ≡ true → Stored (fieldOctets order type v octets) out at answer after → Appending order type value octets out at answer after
+pub append-stored : (order : OctetOrder) (type : ℕ) (value v : Value) (octets out : List ℕ) (at : ℕ) (answer : Appended) (after : List ℕ)
+    → value ≡ v → valueFits type v octets ≡ true → Stored (fieldOctets order type v octets) out at answer after
+    → Appending order type value octets out at answer after
 append-stored order type value v octets out at answer after e h s =
     let a = append-stores order type v octets out at h in
     rw e (s .0 ∙ a .0, s .1 ∙ a .1)
 
 -- a value v that does not fit
-pub append-refused : (order : OctetOrder) (type : ℕ) (value v : Value) (octets out : List ℕ) (at : ℕ) → value ≡ v → valueFits type v octets ≡ false
-    → Appending order type value octets out at (Refused recordInvalid) out
+pub append-refused : (order : OctetOrder) (type : ℕ) (value v : Value) (octets out : List ℕ) (at : ℕ) → value ≡ v
+    → valueFits type v octets ≡ false → Appending order type value octets out at (Refused recordInvalid) out
 unfolding appendOf appendOut appendAnswer
 append-refused order type value v octets out at e h = rw (e, h) (refl, refl)
 
@@ -124,17 +130,28 @@ unfolding numberFits
 number-range type n h = go (eqb type booleanType) refl (isSigned type) refl h
   where
     go : (b : Bool) → eqb type booleanType ≡ b → (s : Bool) → isSigned type ≡ s
-        → cond b (leb n 1) (cond s (ltb (2 * n) (256 ^ widthOf type)) (isNumber type && ltb n (256 ^ widthOf type))) ≡ true → NumberRange type n
+        → cond b (leb n 1) (cond s (ltb (2 * n) (256 ^ widthOf type)) (isNumber type && ltb n (256 ^ widthOf type))) ≡ true
+        → NumberRange type n
     go true e s f h =
         let b = eqb-true type booleanType e in
         let l = leb-true n 1 h in
-        record { number = boolean-unsigned type b .0; below = rw (boolean-width type b) (omega arith); boolean = λ q. l; half = λ q. absurd (false≢true (sym (boolean-unsigned type b .1) ∙ q)) }
+        record {
+          number = boolean-unsigned type b .0;
+          below = rw (boolean-width type b) (omega arith);
+          boolean = λ q. l;
+          half = λ q. absurd (false≢true (sym (boolean-unsigned type b .1) ∙ q));
+        }
     go false e true f h =
         let l = ltb-true (2 * n) (256 ^ widthOf type) h in
         record { number = signed-number type f; below = omega arith; boolean = λ q. absurd (eqb-false type booleanType e q); half = λ q. l }
     go false e false f h =
         let l = ltb-true n (256 ^ widthOf type) (and-right (isNumber type) (ltb n (256 ^ widthOf type)) h) in
-        record { number = and-left (isNumber type) (ltb n (256 ^ widthOf type)) h; below = l; boolean = λ q. absurd (eqb-false type booleanType e q); half = λ q. absurd (false≢true (sym f ∙ q)) }
+        record {
+          number = and-left (isNumber type) (ltb n (256 ^ widthOf type)) h;
+          below = l;
+          boolean = λ q. absurd (eqb-false type booleanType e q);
+          half = λ q. absurd (false≢true (sym f ∙ q));
+        }
 
 pub negative-signed : (type n : ℕ) → negativeFits type n ≡ true → isSigned type ≡ true
 unfolding negativeFits
@@ -147,5 +164,8 @@ negative-range type n h =
     let s = negative-signed type n h in
     let r = and-right (isSigned type) (leb 1 n && leb (2 * n) (256 ^ widthOf type)) h in (
       leb-true 1 n (and-left (leb 1 n) (leb (2 * n) (256 ^ widthOf type)) r),
-      (leb-true (2 * n) (256 ^ widthOf type) (and-right (leb 1 n) (leb (2 * n) (256 ^ widthOf type)) r), number-width type (signed-number type s)),
+      (
+        leb-true (2 * n) (256 ^ widthOf type) (and-right (leb 1 n) (leb (2 * n) (256 ^ widthOf type)) r),
+        number-width type (signed-number type s),
+      ),
     )

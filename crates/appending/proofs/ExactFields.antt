@@ -20,7 +20,8 @@ use Rattle.appending.specs.Append.{valueFits, fieldOctets, appendAnswer,
 use Rattle.appending.proofs.ReadBack.{Holds, sets-holds, reads-back, append-done}
 
 -- the octets of a number, where they stand
-held-octet : (order : OctetOrder) (w n : ℕ) (r : List ℕ) (at : ℕ) → Holds r at (octetsIn order w n) → (i : ℕ) → i < w → getD r (at + i) 0 < 256
+held-octet : (order : OctetOrder) (w n : ℕ) (r : List ℕ) (at : ℕ) → Holds r at (octetsIn order w n) → (i : ℕ) → i < w
+    → getD r (at + i) 0 < 256
 held-octet order w n r at h i l =
     let size = octets-in-length order w n in
     rw (h .octet i (omega arith)) (octets-in-below order w n i l)
@@ -29,14 +30,16 @@ held-octet order w n r at h i l =
 pub field-exact : (order : OctetOrder) (type : ℕ) (value : Value) (octets r : List ℕ) (at : ℕ) → valueFits type value octets ≡ true
     → Holds r at (fieldOctets order type value octets) → integerAt order type r at ≡ integerOf value
 field-exact order type (Number n) octets r at fits h =
-    sym (exact-value order type r at (held-octet (fieldOrder order type) (widthOf type) n r at h)) ∙ ap integerOf (reads-back order type (Number n) octets r at fits h .same)
+    sym (exact-value order type r at (held-octet (fieldOrder order type) (widthOf type) n r at h))
+    ∙ ap integerOf (reads-back order type (Number n) octets r at fits h .same)
 field-exact order type (Negative n) octets r at fits h =
     sym (exact-value order type r at (held-octet (fieldOrder order type) (widthOf type) (256 ^ widthOf type - n) r at h))
     ∙ ap integerOf (reads-back order type (Negative n) octets r at fits h .same)
 field-exact order type Octets octets r at fits h = no-integer order type r at (reads-back order type Octets octets r at fits h .same)
 
 -- so appending that was done leaves the value's integer at its place
-pub append-exact : (order : OctetOrder) (type : ℕ) (value : Value) (octets out : List ℕ) (at : ℕ) → appendAnswer order type value octets out at ≡ done
+pub append-exact : (order : OctetOrder) (type : ℕ) (value : Value) (octets out : List ℕ) (at : ℕ)
+    → appendAnswer order type value octets out at ≡ done
     → integerAt order type (appendOut order type value octets out at) at ≡ integerOf value
 unfolding appendOut
 append-exact order type value octets out at h =

@@ -21,7 +21,8 @@ use Rattle.field_types.specs.FieldTypes.{widthOf, isNumber, isSigned, fieldOrde
 use Rattle.tables.specs.Table.{tableOrder, keyAt, keyType}
 use Rattle.records.specs.Record.{left, fixedLength, blobLength, stringLength, terminatedLength, fieldLength}
 use Rattle.records.specs.Walk.{signedAt, valueAt, nextKey, stepUnder}
-use Rattle.appending.specs.Append.{numberFits, negativeFits, valueFits, octetsField, fieldOctets, appendAnswer, appendOf, appendOut, appendedAnswer, prefixOctets}
+use Rattle.appending.specs.Append.{numberFits, negativeFits, valueFits, octetsField, fieldOctets, appendAnswer, appendOf, appendOut}
+use Rattle.appending.specs.Append.{appendedAnswer, prefixOctets}
 use Rattle.tables.specs.declared.table.Template.{Template}
 use Rattle.records.specs.declared.walk.Value.{Value}
 use Rattle.records.specs.declared.walk.Value.the-variants.{Octets, Number, Negative}
@@ -81,8 +82,8 @@ fixed-field order type r at some fits boolean =
     test false e = refl
 
 -- the field that holds a number v, at any width and in either order; v is 0 or 1 for a Boolean
-number-field : (order : OctetOrder) (type : ℕ) (r : List ℕ) (at v : ℕ) → isNumber type ≡ true → v < 256 ^ widthOf type → (type ≡ booleanType → v ≤ 1)
-    → Holds r at (octetsIn (fieldOrder order type) (widthOf type) v)
+number-field : (order : OctetOrder) (type : ℕ) (r : List ℕ) (at v : ℕ) → isNumber type ≡ true → v < 256 ^ widthOf type
+    → (type ≡ booleanType → v ≤ 1) → Holds r at (octetsIn (fieldOrder order type) (widthOf type) v)
     → (fieldLength order type r at ≡ widthOf type) × (uintIn (fieldOrder order type) r at (widthOf type) ≡ v)
 number-field order type r at v number below boolean h =
     let w = widthOf type in
@@ -90,15 +91,18 @@ number-field order type r at v number below boolean h =
     let n : length (octetsIn o w v) ≡ w = octets-in-length o w v in
     let u : uintIn o r at w ≡ v = holds-uint o r at (octetsIn o w v) w h (omega arith) ∙ read-back-in o w v below in
     let one : getD r at 0 ≡ uintIn o r at 1 = sym (uint-in-one o r at) in (
-      fixed-field order type r at (omega (arith, number-width type number)) (rw n at (h .within)) (λ e. rw (one ∙ rw (boolean-width type e) at u) (boolean e)),
+      fixed-field order type r at (omega (arith, number-width type number)) (rw n at (h .within))
+          (λ e. rw (one ∙ rw (boolean-width type e) at u) (boolean e)),
       u,
     )
 
 -- ---- strings and blobs, whose length has an order
 
 -- octets behind their length, in their field
-behind-length : (order : OctetOrder) (octets : List ℕ) (i : ℕ) → getD (octetsIn order 4 (length octets) ++ octets) (4 + i) 0 ≡ getD octets i 0
-behind-length order octets i = rw (octets-in-length order 4 (length octets)) at (getD-append-add (octetsIn order 4 (length octets)) octets i 0)
+behind-length : (order : OctetOrder) (octets : List ℕ) (i : ℕ)
+    → getD (octetsIn order 4 (length octets) ++ octets) (4 + i) 0 ≡ getD octets i 0
+behind-length order octets i =
+    rw (octets-in-length order 4 (length octets)) at (getD-append-add (octetsIn order 4 (length octets)) octets i 0)
 
 counted-length : (order : OctetOrder) (octets : List ℕ) → length (octetsIn order 4 (length octets) ++ octets) ≡ 4 + length octets
 counted-length order octets = rw (length-append, octets-in-length)
@@ -162,8 +166,8 @@ pub record ReadsBack (order : OctetOrder) (type : ℕ) (value : Value) (octets r
   pub same : valueAt order type r at ≡ value
   pub stands : value ≡ Octets → take (length octets) (drop (at + prefixOctets type) r) ≡ octets
 
-number-read : (order : OctetOrder) (type n : ℕ) (octets r : List ℕ) (at : ℕ) → numberFits type n ≡ true → Holds r at (octetsIn (fieldOrder order type) (widthOf type) n)
-    → ReadsBack order type (Number n) octets r at
+number-read : (order : OctetOrder) (type n : ℕ) (octets r : List ℕ) (at : ℕ) → numberFits type n ≡ true
+    → Holds r at (octetsIn (fieldOrder order type) (widthOf type) n) → ReadsBack order type (Number n) octets r at
 unfolding valueAt signedAt
 number-read order type n octets r at fits h =
     let q = number-range type n fits in
@@ -176,19 +180,22 @@ number-read order type n octets r at fits h =
       stands = λ e. let y : _≡_ {A = ℕ} 0 1 = cc in absurd (omega arith);
     }
   where
-    value : uintIn (fieldOrder order type) r at (widthOf type) ≡ n → (s : Bool) → isSigned type ≡ s → NumberRange type n → valueAt order type r at ≡ Number n
+    value : uintIn (fieldOrder order type) r at (widthOf type) ≡ n → (s : Bool) → isSigned type ≡ s → NumberRange type n
+        → valueAt order type r at ≡ Number n
     value u true e q = rw (e, u, lt-ltb (2 * n) (256 ^ widthOf type) (q .half e))
     value u false e q = rw (e, q .number, u)
 
-negative-read : (order : OctetOrder) (type n : ℕ) (octets r : List ℕ) (at : ℕ) → negativeFits type n ≡ true → Holds r at (octetsIn (fieldOrder order type) (widthOf type) (256 ^ widthOf type - n))
-    → ReadsBack order type (Negative n) octets r at
+negative-read : (order : OctetOrder) (type n : ℕ) (octets r : List ℕ) (at : ℕ) → negativeFits type n ≡ true
+    → Holds r at (octetsIn (fieldOrder order type) (widthOf type) (256 ^ widthOf type - n)) → ReadsBack order type (Negative n) octets r at
 unfolding valueAt signedAt
 negative-read order type n octets r at fits h =
     let w = widthOf type in
     let v = 256 ^ w - n in
     let q = negative-range type n fits in
     let s = negative-signed type n fits in
-    let f = number-field order type r at v (signed-number type s) (omega (arith, q)) (λ e. absurd (false≢true (sym (boolean-unsigned type e .1) ∙ s))) h in
+    let f =
+    number-field order type r at v (signed-number type s) (omega (arith, q))
+    (λ e. absurd (false≢true (sym (boolean-unsigned type e .1) ∙ s))) h in
     let l = octets-in-length (fieldOrder order type) w v in
     record {
       some = omega (arith, q);
@@ -209,10 +216,13 @@ counted-read order type octets r at field len same front h =
       some = rw field (omega arith);
       len = rw field (len ∙ sym n);
       same = same;
-      stands = λ e. rw front (holds-part r at (octetsIn o 4 (length octets) ++ octets) octets 4 h (omega arith) (λ i l. behind-length o octets i));
+      stands =
+          λ e. rw front (holds-part r at (octetsIn o 4 (length octets) ++ octets) octets 4 h (omega arith)
+          (λ i l. behind-length o octets i));
     }
 
-string-read : (order : OctetOrder) (octets r : List ℕ) (at : ℕ) → length octets < 2 ^ 32 → every (length octets) (λ i. ltb (getD octets i 0) 128) ≡ true
+string-read : (order : OctetOrder) (octets r : List ℕ) (at : ℕ) → length octets < 2 ^ 32
+    → every (length octets) (λ i. ltb (getD octets i 0) 128) ≡ true
     → Holds r at (octetsField (fieldOrder order stringType) stringType octets) → ReadsBack order stringType Octets octets r at
 unfolding octetsField widthOf isNumber isSigned fieldLength valueAt prefixOctets
 string-read order octets r at few low h =
@@ -238,8 +248,8 @@ terminated-read order octets r at nonzero h =
     }
 
 -- octets of a type of a fixed width, which is not one of the other three
-address-read : (order : OctetOrder) (type : ℕ) (octets r : List ℕ) (at : ℕ) → 0 < widthOf type → isNumber type ≡ false → length octets ≡ widthOf type
-    → Holds r at (octetsField (fieldOrder order type) type octets) → ReadsBack order type Octets octets r at
+address-read : (order : OctetOrder) (type : ℕ) (octets r : List ℕ) (at : ℕ) → 0 < widthOf type → isNumber type ≡ false
+    → length octets ≡ widthOf type → Holds r at (octetsField (fieldOrder order type) type octets) → ReadsBack order type Octets octets r at
 unfolding octetsField valueAt prefixOctets
 address-read order type octets r at some number size h =
     let q = no-number type number in
@@ -250,7 +260,8 @@ address-read order type octets r at some number size h =
       some = rw f (omega arith);
       len = rw f (fixed-field order type r at some (rw size at (k .within)) (λ e. absurd (eqb-false type booleanType (q .1) e)) ∙ sym size);
       same = rw (q .0, number);
-      stands = λ e. rw (v .0, v .1 .1) (holds-part r at octets octets 0 k (omega arith) (λ i l. ap (λ (j : ℕ). getD octets j 0) (zero-add i)));
+      stands =
+          λ e. rw (v .0, v .1 .1) (holds-part r at octets octets 0 k (omega arith) (λ i l. ap (λ (j : ℕ). getD octets j 0) (zero-add i)));
     }
 
 -- The theorem: where the field of a value that fits its type stands in a record, whatever follows it, it is read back.
@@ -269,9 +280,11 @@ reads-back order type Octets octets r at fits h =
 
 -- the field is read back from the output it was stored in
 pub stored-reads-back : (order : OctetOrder) (type : ℕ) (value : Value) (octets out : List ℕ) (at : ℕ) → valueFits type value octets ≡ true
-    → at + length (fieldOctets order type value octets) ≤ length out → ReadsBack order type value octets (sets out at (fieldOctets order type value octets)) at
+    → at + length (fieldOctets order type value octets) ≤ length out
+    → ReadsBack order type value octets (sets out at (fieldOctets order type value octets)) at
 stored-reads-back order type value octets out at fits room =
-    reads-back order type value octets (sets out at (fieldOctets order type value octets)) at fits (sets-holds out at (fieldOctets order type value octets) room)
+    reads-back order type value octets (sets out at (fieldOctets order type value octets)) at fits
+    (sets-holds out at (fieldOctets order type value octets) room)
 
 -- the answer number of appending is the number that it is judged by
 pub append-answer : (order : OctetOrder) (type : ℕ) (value : Value) (octets out : List ℕ) (at : ℕ)
@@ -280,21 +293,23 @@ unfolding appendOf
 append-answer order type value octets out at = kept appendedAnswer _ Refused refl (λ a. refl) (appendAnswer order type value octets out at)
 
 -- appending that was done: the value fits and so does its field, and it is read back from the output
-pub append-done : (order : OctetOrder) (type : ℕ) (value : Value) (octets out : List ℕ) (at : ℕ) → appendAnswer order type value octets out at ≡ done
+pub append-done : (order : OctetOrder) (type : ℕ) (value : Value) (octets out : List ℕ) (at : ℕ)
+    → appendAnswer order type value octets out at ≡ done
     → (valueFits type value octets ≡ true) × (at + length (fieldOctets order type value octets) ≤ length out)
 unfolding appendAnswer
 append-done order type value octets out at h =
     go (valueFits type value octets) refl (ltb (length out) (at + length (fieldOctets order type value octets))) refl h
   where
-    go : (v : Bool) → valueFits type value octets ≡ v → (s : Bool) → ltb (length out) (at + length (fieldOctets order type value octets)) ≡ s
+    go : (v : Bool) → valueFits type value octets ≡ v → (s : Bool)
+        → ltb (length out) (at + length (fieldOctets order type value octets)) ≡ s
         → cond (not v) recordInvalid (cond s outputTooShort done) ≡ done
         → (v ≡ true) × (at + length (fieldOctets order type value octets) ≤ length out)
     go true e true f h = absurd (omega arith)
     go true e false f h = (refl, ltb-false (length out) (at + length (fieldOctets order type value octets)) f)
     go false e s f h = absurd (omega arith)
 
-pub append-reads-back : (order : OctetOrder) (type : ℕ) (value : Value) (octets out : List ℕ) (at : ℕ) → appendAnswer order type value octets out at ≡ done
-    → ReadsBack order type value octets (appendOut order type value octets out at) at
+pub append-reads-back : (order : OctetOrder) (type : ℕ) (value : Value) (octets out : List ℕ) (at : ℕ)
+    → appendAnswer order type value octets out at ≡ done → ReadsBack order type value octets (appendOut order type value octets out at) at
 unfolding appendOut
 append-reads-back order type value octets out at h =
     let d = append-done order type value octets out at h in
@@ -311,8 +326,8 @@ append-accepts order type value octets out at h room =
 
 -- a step of a walk whose next enabled key has the value's type, and that stands where the field stands, answers the field and goes past it
 pub step-reads-back : (t : List ℕ) (m : Template) (type : ℕ) (value : Value) (octets r : List ℕ) (c : Cursor)
-    → nextKey t m (c .index) < m .count → keyType t (keyAt (m .keys) (nextKey t m (c .index))) ≡ type → ReadsBack (tableOrder t) type value octets r (c .at)
-    → stepUnder t m r c
+    → nextKey t m (c .index) < m .count → keyType t (keyAt (m .keys) (nextKey t m (c .index))) ≡ type
+    → ReadsBack (tableOrder t) type value octets r (c .at) → stepUnder t m r c
     ≡ step.Next (record { kind = type; at = c .at; len = length (fieldOctets (tableOrder t) type value octets); value = value })
     (record { index = nextKey t m (c .index) + 1; at = c .at + length (fieldOctets (tableOrder t) type value octets) })
 unfolding stepUnder

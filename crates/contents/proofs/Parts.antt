@@ -12,7 +12,8 @@ use Rattle.octets.specs.Answers.{_when_, judge, done, unsoundTape}
 use Rattle.octets.specs.Numbers.{Octets}
 use Rattle.octets.specs.Each.{every}
 use Rattle.octets.proofs.Stores.{take-rest}
-use Rattle.contents.specs.Tape.{eventCount, bodyLength, bodyAt, octetsAt, bodyOf, eventSound, maxTapeOctets, minEvents, maxEvents, tapeSound, tapeAnswer}
+use Rattle.contents.specs.Tape.{eventCount, bodyLength, bodyAt, octetsAt, bodyOf, eventSound, maxTapeOctets, minEvents, maxEvents}
+use Rattle.contents.specs.Tape.{tapeSound, tapeAnswer}
 
 -- from a place past the end on nothing is left
 pub part-past : (s : List ℕ) (at n : ℕ) → length s ≤ at → take (length s - length s) (drop (length s) s) ≡ take n (drop at s)
@@ -36,10 +37,14 @@ pub tape-judged : (t : List ℕ) (n : ℕ) (fit : Bool) (end : ℕ) → n ≡ ev
     ∷ (unsoundTape when not (eqb end (length t)))
     ∷ [])
 unfolding tapeSound
-tape-judged t n fit end e f g = rw (g, f, e) (by-clauses (leb (length t) maxTapeOctets) (leb minEvents (eventCount t)) (leb (eventCount t) maxEvents) (every (eventCount t) (eventSound t)) (eqb (bodyAt t (eventCount t)) (length t)))
+tape-judged t n fit end e f g =
+    rw (g, f, e) (by-clauses (leb (length t) maxTapeOctets) (leb minEvents (eventCount t)) (leb (eventCount t) maxEvents)
+    (every (eventCount t) (eventSound t)) (eqb (bodyAt t (eventCount t)) (length t)))
   where
-    by-clauses : (a b c d e : Bool) → cond (not (cond a (cond b (cond c (cond d (cond e true false) false) false) false) false)) unsoundTape done
-        ≡ cond (not a) unsoundTape (cond (not b) unsoundTape (cond (not c) unsoundTape (cond (not d) unsoundTape (cond (not e) unsoundTape done))))
+    by-clauses : (a b c d e : Bool)
+        → cond (not (cond a (cond b (cond c (cond d (cond e true false) false) false) false) false)) unsoundTape done
+        ≡ cond (not a) unsoundTape
+        (cond (not b) unsoundTape (cond (not c) unsoundTape (cond (not d) unsoundTape (cond (not e) unsoundTape done))))
     by-clauses false b c d e = refl
     by-clauses true false c d e = refl
     by-clauses true true false d e = refl

@@ -3,7 +3,8 @@
 // the end octets read as 0 and parts are empty. `tape` calls these functions to replay a tape, and `replay` takes the size of its input.
 ghost use mathlib.Core.Path.{_≡_};
 ghost use Rattle.octets.specs.Each.{every};
-ghost use Rattle.contents.specs.Tape.{eventCount, contentsAt, kindAt, serverAt, bodyLength, bodyAt, octetsAt, bodyOf, kindFits, serverFits, bodyLengthFits, eventSound, tapeAnswer};
+ghost use Rattle.contents.specs.Tape.{eventCount, contentsAt, kindAt, serverAt, bodyLength, bodyAt, octetsAt, bodyOf, kindFits};
+ghost use Rattle.contents.specs.Tape.{serverFits, bodyLengthFits, eventSound, tapeAnswer};
 use octets::Answer;
 
 // The most octets that a tape has.

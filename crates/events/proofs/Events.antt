@@ -13,7 +13,8 @@ use Rattle.octets.proofs.Numbers.{uint-below}
 use Rattle.exporter.specs.Replies.{Reply, silent, crane, layout}
 use Rattle.session.specs.Limits.{maxStoreOctets}
 use Rattle.session.specs.Servers.{down, offer}
-use Rattle.session.specs.Steps.{put, nextData, tick, move, received, step, written, Outcome, steppedOf, wroteOf, outputAfter, putStep, tickStep, lineDownStep}
+use Rattle.session.specs.Steps.{put, nextData, tick, move, received, step, written, Outcome, steppedOf, wroteOf, outputAfter, putStep}
+use Rattle.session.specs.Steps.{tickStep, lineDownStep}
 use Rattle.session.proofs.Written.{writes-nothing}
 use Rattle.session.specs.InOctets.{Event, Put, NextData, Receive, OfferTemplates, LineDown, Tick}
 use Rattle.session.specs.declared.state.State.{State}
@@ -26,7 +27,8 @@ use Rattle.events.specs.Events.{effect, effectStore, Gives}
 
 -- ---- the call by the kind
 
-pub is-put : (kind server : ℕ) (b out table : List ℕ) (id : ℕ) (r : List ℕ) → kind ≡ putKind → id ≡ uintAt b 0 2 → r ≡ drop 2 b → eventCall kind server b out table ≡ Put table id r
+pub is-put : (kind server : ℕ) (b out table : List ℕ) (id : ℕ) (r : List ℕ) → kind ≡ putKind → id ≡ uintAt b 0 2 → r ≡ drop 2 b
+    → eventCall kind server b out table ≡ Put table id r
 unfolding eventCall
 is-put kind server b out table id r e f g = rw (e, f, g) refl
 
@@ -56,13 +58,18 @@ is-offer kind server b out table p m d t n =
 -- What holds of the calls of each kind, lent one output and another, holds of an event's calls.
 pub by-kind : (R : Event → Event → Type 0) (kind server : ℕ) (b out more table : List ℕ)
     → R (Put table (uintAt b 0 2) (drop 2 b)) (Put table (uintAt b 0 2) (drop 2 b)) → R (Receive server b out) (Receive server b more)
-    → R (LineDown server) (LineDown server) → R Tick Tick → R (NextData out) (NextData more) → R (OfferTemplates server table out) (OfferTemplates server table more)
+    → R (LineDown server) (LineDown server) → R Tick Tick → R (NextData out) (NextData more)
+    → R (OfferTemplates server table out) (OfferTemplates server table more)
     → R (eventCall kind server b out table) (eventCall kind server b more table)
 unfolding eventCall
-by-kind R kind server b out more table p m d k n o = go (eqb kind putKind) (eqb kind messageKind) (eqb kind downKind) (eqb kind tickKind) (eqb kind nextKind)
+by-kind R kind server b out more table p m d k n o =
+    go (eqb kind putKind) (eqb kind messageKind) (eqb kind downKind) (eqb kind tickKind) (eqb kind nextKind)
   where
     of : Bool → Bool → Bool → Bool → Bool → List ℕ → Event
-    of c₁ c₂ c₃ c₄ c₅ lent = cond c₁ (Put table (uintAt b 0 2) (drop 2 b)) (cond c₂ (Receive server b lent) (cond c₃ (LineDown server) (cond c₄ Tick (cond c₅ (NextData lent) (OfferTemplates server table lent)))))
+    of c₁ c₂ c₃ c₄ c₅ lent =
+        cond c₁ (Put table (uintAt b 0 2) (drop 2 b))
+        (cond c₂ (Receive server b lent)
+        (cond c₃ (LineDown server) (cond c₄ Tick (cond c₅ (NextData lent) (OfferTemplates server table lent)))))
 
     go : (c₁ c₂ c₃ c₄ c₅ : Bool) → R (of c₁ c₂ c₃ c₄ c₅ out) (of c₁ c₂ c₃ c₄ c₅ more)
     go true c₂ c₃ c₄ c₅ = p
@@ -94,7 +101,8 @@ stepped o s r e f g = rw (g, f) (ap (λ (l : Reply). record { answer = o .answer
 
 -- ---- each call, by what the exporter ensures of it
 
-pub put-called : (s : State) (store out : List ℕ) (e : Event) (table : List ℕ) (id : ℕ) (r : List ℕ) (st : Stepped) (x : Wrote) (after : List ℕ)
+pub put-called : (s : State) (store out : List ℕ) (e : Event) (table : List ℕ) (id : ℕ) (r : List ℕ) (st : Stepped) (x : Wrote)
+    (after : List ℕ)
     → e ≡ Put table id r → st ≡ steppedOf (putStep s store table id r) → after ≡ putStep s store table id r .store
     → x ≡ record { answer = st .answer; written = 0; state = st .state } → Gives s store out e x after out
 unfolding written

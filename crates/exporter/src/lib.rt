@@ -3,7 +3,8 @@
 // Which calls, and in which order:
 // 1. `set_up::set_up` makes a `state::State` from `state::Settings` and the store that will be lent; once, first. `limits` names what it
 //    allows.
-// 2. `put::put` takes a record into the queue, at any time, also while nobody is connected.
+// 2. `put::put` takes a record into the queue, at any time, also while nobody is connected. Its numbers stand in the octet order that the
+//    table's flags say.
 // 3. `receive::receive` takes each message that arrives from a server and writes the answer, if it has one, to the output.
 // 4. `offer_templates::offer_templates` writes the table for a server that has started (its START was received). When its FINAL TMPL DATA
 //    ACK is received the server is agreed, and the agreed server of highest priority is the active one.

@@ -7,13 +7,15 @@ use lib.ListN.{length, getD}
 use Rattle.octets.specs.Answers.{done, unsoundTable}
 use Rattle.wire.specs.Table.{tableSound, flagsSound, orderOf}
 use Rattle.wire.specs.Append.{appendOf, appendOut}
-use Rattle.wire.specs.Messages.{start, startAck, stop, stopAck, tmplData, finalTmplDataAck, startNegotiate, startNegotiateAck, dataNumber, dataAck, writeOf, writeOut}
+use Rattle.wire.specs.Messages.{start, startAck, stop, stopAck, tmplData, finalTmplDataAck, startNegotiate, startNegotiateAck, dataNumber}
+use Rattle.wire.specs.Messages.{dataAck, writeOf, writeOut}
 use Rattle.tables.specs.declared.table.Template.{Template}
 use Rattle.tables.specs.declared.table.Found.{Found}
 use Rattle.tables.specs.declared.table.Found.the-variants as found
 use Rattle.messages.specs.declared.message.DataHead.{DataHead}
 use Rattle.messages.specs.declared.message.Message.{Message}
-use Rattle.messages.specs.declared.message.Message.the-variants.{Start, StartAck, Stop, StopAck, TmplData, FinalTmplDataAck, StartNegotiate, StartNegotiateAck, Data, DataAck}
+use Rattle.messages.specs.declared.message.Message.the-variants.{Start, StartAck, Stop, StopAck, TmplData, FinalTmplDataAck, StartNegotiate}
+use Rattle.messages.specs.declared.message.Message.the-variants.{StartNegotiateAck, Data, DataAck}
 use Rattle.messages.specs.declared.message.Reading.{Reading}
 use Rattle.messages.specs.declared.message.Reading.the-variants as reading
 use Rattle.messages.specs.declared.message.Written.{Written}

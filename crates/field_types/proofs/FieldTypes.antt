@@ -8,8 +8,10 @@ use borrow.Author.Tests.{ltb-true, ltb-false, eqb-true, ne-eqb, lt-leb}
 use lib.Dec.{ltb, leb, eqb}
 use lib.ListN.{getD, take, drop}
 use Rattle.octets.specs.Each.{every}
-use Rattle.field_types.specs.FieldTypes.{booleanType, unsigned8Type, signed8Type, signed16Type, signed32Type, signed64Type, doubleType, ipv4Type, secondsType, microseconds32Type, stringType, terminatedType, blobType}
-use Rattle.field_types.specs.FieldTypes.{Row, rows, ofRow, widthOf, isType, isSigned, isNumber, isTurned, isSignedClass, isNumberClass}
+use Rattle.field_types.specs.FieldTypes.{booleanType, unsigned8Type, signed8Type, signed16Type, signed32Type, signed64Type}
+use Rattle.field_types.specs.FieldTypes.{doubleType, ipv4Type, secondsType, microseconds32Type, stringType, terminatedType, blobType}
+use Rattle.field_types.specs.FieldTypes.{Row, rows, ofRow, widthOf, isType, isSigned, isNumber, isTurned, isSignedClass}
+use Rattle.field_types.specs.FieldTypes.{isNumberClass}
 use Rattle.octets.proofs.Each.{every-at, and-left, and-right, and-false, same, same-true}
 
 -- every row has a number below b
@@ -34,12 +36,14 @@ abbrev fixedRows : ℕ
 fixedRows = 18
 
 -- past them only the three others are left
-pub past-fixed : {A : Type 0} (f : Row → A) (other : A) (n : ℕ) → fixedEnd ≤ n → ofRow f other rows n ≡ ofRow f other (drop fixedRows rows) n
+pub past-fixed : {A : Type 0} (f : Row → A) (other : A) (n : ℕ) → fixedEnd ≤ n
+    → ofRow f other rows n ≡ ofRow f other (drop fixedRows rows) n
 past-fixed f other n h = skip f other (take fixedRows rows) (drop fixedRows rows) fixedEnd n refl h
 
 -- ---- what the code computes is what the rows say: for numbers that a fixed width may have by a test of each, for others by the law above
 
-split : (code def : ℕ → Bool) → every fixedEnd (λ n. same (code n) (def n)) ≡ true → ((n : ℕ) → fixedEnd ≤ n → code n ≡ def n) → (n : ℕ) → code n ≡ def n
+split : (code def : ℕ → Bool) → every fixedEnd (λ n. same (code n) (def n)) ≡ true → ((n : ℕ) → fixedEnd ≤ n → code n ≡ def n) → (n : ℕ)
+    → code n ≡ def n
 split code def low high n = go (ltb n fixedEnd) refl
   where
     go : (b : Bool) → ltb n fixedEnd ≡ b → code n ≡ def n
@@ -47,7 +51,9 @@ split code def low high n = go (ltb n fixedEnd) refl
     go false t = high n (ltb-false n fixedEnd t)
 
 abbrev typeCode : ℕ → Bool
-typeCode n = (leb booleanType n && leb n doubleType) || (leb ipv4Type n && leb n microseconds32Type) || eqb n stringType || eqb n terminatedType || eqb n blobType
+typeCode n =
+    (leb booleanType n && leb n doubleType) || (leb ipv4Type n && leb n microseconds32Type) || eqb n stringType || eqb n terminatedType
+    || eqb n blobType
 
 any-of : (a b c : Bool) → (a || b || c) ≡ cond a true (cond b true (cond c true false))
 any-of true b c = refl
@@ -59,7 +65,13 @@ pub type-code : (n : ℕ) → typeCode n ≡ isType n
 unfolding every isType
 type-code n =
     split typeCode isType refl
-    (λ n h. rw (lt-leb n doubleType (omega arith), lt-leb n microseconds32Type (omega arith), and-false (leb booleanType n), and-false (leb ipv4Type n)) (any-of (eqb n stringType) (eqb n terminatedType) (eqb n blobType)) ∙ sym (past-fixed (λ r. true) false n h))
+    (λ n h. rw (
+      lt-leb n doubleType (omega arith),
+      lt-leb n microseconds32Type (omega arith),
+      and-false (leb booleanType n),
+      and-false (leb ipv4Type n),
+    ) (any-of (eqb n stringType) (eqb n terminatedType) (eqb n blobType))
+    ∙ sym (past-fixed (λ r. true) false n h))
     n
 
 -- none of the three is a number
@@ -76,7 +88,13 @@ pub number-code : (n : ℕ) → numberCode n ≡ isNumber n
 unfolding every isNumber
 number-code n =
     split numberCode isNumber refl
-    (λ n h. rw (lt-leb n doubleType (omega arith), lt-leb n microseconds32Type (omega arith), and-false (leb booleanType n), and-false (leb secondsType n)) (none-of (eqb n stringType) (eqb n terminatedType) (eqb n blobType) false) ∙ sym (past-fixed (λ r. isNumberClass (r .class)) false n h))
+    (λ n h. rw (
+      lt-leb n doubleType (omega arith),
+      lt-leb n microseconds32Type (omega arith),
+      and-false (leb booleanType n),
+      and-false (leb secondsType n),
+    ) (none-of (eqb n stringType) (eqb n terminatedType) (eqb n blobType) false)
+    ∙ sym (past-fixed (λ r. isNumberClass (r .class)) false n h))
     n
 
 abbrev signedCode : ℕ → Bool
@@ -86,14 +104,21 @@ pub signed-code : (n : ℕ) → signedCode n ≡ isSigned n
 unfolding every isSigned
 signed-code n =
     split signedCode isSigned refl
-    (λ n h. rw (ne-eqb n signed8Type (λ e. omega arith), ne-eqb n signed16Type (λ e. omega arith), ne-eqb n signed32Type (λ e. omega arith), ne-eqb n signed64Type (λ e. omega arith)) (none-of (eqb n stringType) (eqb n terminatedType) (eqb n blobType) false) ∙ sym (past-fixed (λ r. isSignedClass (r .class)) false n h))
+    (λ n h. rw (
+      ne-eqb n signed8Type (λ e. omega arith),
+      ne-eqb n signed16Type (λ e. omega arith),
+      ne-eqb n signed32Type (λ e. omega arith),
+      ne-eqb n signed64Type (λ e. omega arith),
+    ) (none-of (eqb n stringType) (eqb n terminatedType) (eqb n blobType) false)
+    ∙ sym (past-fixed (λ r. isSignedClass (r .class)) false n h))
     n
 
 abbrev turnedCode : ℕ → Bool
 turnedCode n = (leb unsigned8Type n && leb n doubleType) || eqb n stringType || eqb n blobType
 
 -- of the three, the string and the blob are turned
-turned-rest : (n : ℕ) → (eqb n stringType || eqb n blobType) ≡ cond (eqb n stringType) true (cond (eqb n terminatedType) false (cond (eqb n blobType) true false))
+turned-rest : (n : ℕ) → (eqb n stringType || eqb n blobType)
+    ≡ cond (eqb n stringType) true (cond (eqb n terminatedType) false (cond (eqb n blobType) true false))
 turned-rest n = go (eqb n blobType) refl
   where
     string-alone : (a b : Bool) → (a || false) ≡ cond a true (cond b false false)
@@ -101,7 +126,8 @@ turned-rest n = go (eqb n blobType) refl
     string-alone false true = refl
     string-alone false false = refl
 
-    go : (c : Bool) → eqb n blobType ≡ c → (eqb n stringType || c) ≡ cond (eqb n stringType) true (cond (eqb n terminatedType) false (cond c true false))
+    go : (c : Bool) → eqb n blobType ≡ c
+        → (eqb n stringType || c) ≡ cond (eqb n stringType) true (cond (eqb n terminatedType) false (cond c true false))
     go true e = rw (eqb-true n blobType e)
     go false e = string-alone (eqb n stringType) (eqb n terminatedType)
 
@@ -109,7 +135,8 @@ pub turned-code : (n : ℕ) → turnedCode n ≡ isTurned n
 unfolding every isTurned
 turned-code n =
     split turnedCode isTurned refl
-    (λ n h. rw (lt-leb n doubleType (omega arith), and-false (leb unsigned8Type n)) (turned-rest n) ∙ sym (past-fixed (λ r. r .turns) false n h))
+    (λ n h. rw (lt-leb n doubleType (omega arith), and-false (leb unsigned8Type n)) (turned-rest n)
+    ∙ sym (past-fixed (λ r. r .turns) false n h))
     n
 
 -- the widths in the code's order: by number, from 0

@@ -6,7 +6,8 @@ use Prim.Native.Nat.{ℕ, _≤_, _<_}
 use native.Mathlib.Omega.{arith}
 use borrow.Author.Tests.{leb-true, ne-eqb}
 use lib.Dec.{eqb, leb}
-use Rattle.field_types.specs.FieldTypes.{Row, rows, ofRow, widthOf, isNumber, isSigned, isNumberClass, isSignedClass, booleanType, stringType, terminatedType, blobType}
+use Rattle.field_types.specs.FieldTypes.{Row, rows, ofRow, widthOf, isNumber, isSigned, isNumberClass, isSignedClass, booleanType}
+use Rattle.field_types.specs.FieldTypes.{stringType, terminatedType, blobType}
 use Rattle.octets.proofs.Each.{and-left, and-right}
 
 -- every row passes
@@ -14,7 +15,8 @@ abbrev everyRow : (Row → Bool) → List Row → Bool
 everyRow test [] = true
 everyRow test (r ∷ rs) = test r && everyRow test rs
 
-pick : {A B : Type 0} (test : A → B → Bool) (is : Bool) (x y : A) (u v : B) → test x u ≡ true → test y v ≡ true → test (cond is x y) (cond is u v) ≡ true
+pick : {A B : Type 0} (test : A → B → Bool) (is : Bool) (x y : A) (u v : B) → test x u ≡ true → test y v ≡ true
+    → test (cond is x y) (cond is u v) ≡ true
 pick test true x y u v h k = h
 pick test false x y u v h k = k
 
@@ -25,7 +27,8 @@ of-rows test f a g b [] n other all = other
 of-rows test f a g b (r ∷ rs) n other all =
     let first = test (f r) (g r) in
     let others = everyRow (λ q. test (f q) (g q)) rs in
-    pick test (eqb n (r .number)) (f r) (ofRow f a rs n) (g r) (ofRow g b rs n) (and-left first others all) (of-rows test f a g b rs n other (and-right first others all))
+    pick test (eqb n (r .number)) (f r) (ofRow f a rs n) (g r) (ofRow g b rs n) (and-left first others all)
+    (of-rows test f a g b rs n other (and-right first others all))
 
 -- if the first, then the second
 abbrev follows : Bool → Bool → Bool
@@ -59,9 +62,11 @@ boolean-width type e = rw e
 not-varying : (type other : ℕ) → 0 < widthOf type → widthOf other ≡ 0 → eqb type other ≡ false
 not-varying type other some none = ne-eqb type other (λ e. omega (arith, ap widthOf e))
 
-pub fixed-type : (type : ℕ) → 0 < widthOf type → (eqb type stringType ≡ false) × ((eqb type terminatedType ≡ false) × (eqb type blobType ≡ false))
+pub fixed-type : (type : ℕ) → 0 < widthOf type
+    → (eqb type stringType ≡ false) × ((eqb type terminatedType ≡ false) × (eqb type blobType ≡ false))
 unfolding widthOf
-fixed-type type some = (not-varying type stringType some refl, (not-varying type terminatedType some refl, not-varying type blobType some refl))
+fixed-type type some =
+    (not-varying type stringType some refl, (not-varying type terminatedType some refl, not-varying type blobType some refl))
 
 -- what is no number is not signed, and no Boolean
 pub no-number : (type : ℕ) → isNumber type ≡ false → (isSigned type ≡ false) × (eqb type booleanType ≡ false)

@@ -1,4 +1,4 @@
-// The types of a record's fields, for reader and writer: each has one number, width, signedness and order.
+// The types of a record's fields, for reader and writer: number, width, signedness, and whether its number has the table's octet order.
 ghost use mathlib.Core.Path.{_≡_};
 ghost use Rattle.field_types.specs.FieldTypes.{typeNumbers, widthOf, isType, isSigned, isNumber, isTurned, fieldOrder};
 use octets::OctetOrder;

@@ -9,7 +9,8 @@ use Rattle.ipdr.specs.Messages.{partAt, partOf, writeAnswerBy, writeBy, 
 use Rattle.ipdr.specs.Examples.{AllHold, rows}
 
 pub examples : AllHold rows
-unfolding numberOf uintIn octetsIn headerAnswerFor headerReadingFor countedFits isMessage widthsOf isCounted contentBy bodyOf layoutBy bodyFits readAnswer meaningOf readOf partAt partOf writeAnswerBy writeBy writeOutBy
+unfolding numberOf uintIn octetsIn headerAnswerFor headerReadingFor countedFits isMessage widthsOf isCounted contentBy bodyOf layoutBy
+    bodyFits readAnswer meaningOf readOf partAt partOf writeAnswerBy writeBy writeOutBy
 examples =
     (refl, (refl, (refl, refl))) and (refl, (refl, (refl, refl))) and (refl, (refl, (refl, refl))) and (refl, (refl, (refl, refl)))
     and (refl, (refl, (refl, refl))) and (refl, (refl, (refl, refl))) and (refl, (refl, (refl, refl))) and (refl, (refl, (refl, refl)))

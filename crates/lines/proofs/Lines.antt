@@ -12,7 +12,8 @@ use lib.Seq.{sets, length-sets, drop-cons}
 use lib.Dec.{ltb}
 use Rattle.octets.specs.Numbers.{octetsIn, octetsOf, putAt}
 use Rattle.octets.proofs.Stores.{cond-cases, put-fits, sets-then, put-then}
-use Rattle.lines.specs.Lines.{space, newline, digit, decimal, hex, writtenText, lineOf, numberDigits, lineOctets, fitted, Stored, Printed}
+use Rattle.lines.specs.Lines.{space, newline, digit, decimal, hex, writtenText, lineOf, numberDigits, lineOctets, fitted, Stored}
+use Rattle.lines.specs.Lines.{Printed}
 
 -- A number in decimal was stored at a place, and the place behind it answered.
 abbrev pub Spelt : List ℕ → ℕ → ℕ → ℕ → List ℕ → Type 0
@@ -85,7 +86,8 @@ nothing-shown text at [] e = (sym (add-zero at), refl)
 nothing-shown text at (x ∷ octets) e = absurd (omega arith)
 
 pub some-shown : (text : List ℕ) (at : ℕ) (octets first after : List ℕ) → (length octets ≡ 0 → ⊥) → at + 1 ≤ length text
-    → first ≡ putAt text at (octetsOf 1 space) → after ≡ sets first (at + 1) (hex octets) → Shown text at octets (at + 1 + 2 * length octets) after
+    → first ≡ putAt text at (octetsOf 1 space) → after ≡ sets first (at + 1) (hex octets)
+    → Shown text at octets (at + 1 + 2 * length octets) after
 unfolding octetsIn
 some-shown text at [] first after h l f e = absurd (h refl)
 some-shown text at (x ∷ octets) first after h l f e =

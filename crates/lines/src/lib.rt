@@ -5,7 +5,8 @@ ghost use mathlib.Core.Path.{_≡_};
 ghost use Prim.Native.Nat.{_+_, _≤_, _<_};
 ghost use lib.ListN.{length};
 ghost use lib.Seq.{sets};
-ghost use Rattle.lines.specs.Lines.{digit, decimal, hex, writtenText, lineOf, tapeRefused, numberDigits, hexDigits, lineOctets, fitted, Stored, Printed};
+ghost use Rattle.lines.specs.Lines.{digit, decimal, hex, writtenText, lineOf, tapeRefused, numberDigits, hexDigits, lineOctets};
+ghost use Rattle.lines.specs.Lines.{fitted, Stored, Printed};
 
 // The most octets of a line beside hex digits: two numbers of three digits, two spaces and the end of the line.
 pub const FRAME_OCTETS: usize = 9;

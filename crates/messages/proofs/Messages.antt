@@ -11,9 +11,13 @@ use lib.Seq.{sets}
 use Rattle.octets.specs.Answers.{judge, done, messageNotAccepted, bodyLengthWrong, outputTooShort, unsoundTable}
 use Rattle.octets.specs.Numbers.{octetsIn, putAt}
 use Rattle.octets.proofs.Stores.{put-fits, put-short, put-then}
-use Rattle.messages.specs.Messages.{Form, forms, isMessage, bodyFits, messageNumber, versionOf, lengthField, headerChecks, bodyChecks, headerAnswer, headerAnswerFor, readAnswer, sessionOf, meaningOf, readWhere, readTable, readOf, partAt, partOf, tmplData, dataNumber}
+use Rattle.messages.specs.Messages.{Form, forms, isMessage, bodyFits, messageNumber, versionOf, lengthField, headerChecks, bodyChecks}
+use Rattle.messages.specs.Messages.{headerAnswer, headerAnswerFor, readAnswer, sessionOf, meaningOf, readWhere, readTable, readOf}
+use Rattle.messages.specs.Messages.{partAt, partOf, tmplData, dataNumber}
 use Rattle.tables.specs.Table.{tableSound}
-use Rattle.messages.specs.Messages.{headerOctets, protocolVersion, dataHeadLength, maxRecordOctets, headerOctetsOf, messageOf, dataFront, dataHeadOctets, Placed, isTmplData, isData, layoutOf, writeChecks, writeAnswer, writeOf, writeOut, headWriteAnswer, headWriteOut}
+use Rattle.messages.specs.Messages.{headerOctets, protocolVersion, dataHeadLength, maxRecordOctets, headerOctetsOf, messageOf}
+use Rattle.messages.specs.Messages.{dataFront, dataHeadOctets, Placed, isTmplData, isData, layoutOf, writeChecks, writeAnswer}
+use Rattle.messages.specs.Messages.{writeOf, writeOut, headWriteAnswer, headWriteOut}
 use Rattle.messages.specs.declared.message.DataHead.{DataHead}
 use Rattle.messages.specs.declared.message.Message.{Message}
 use Rattle.messages.specs.declared.message.Message.the-variants.{TmplData, Data}
@@ -60,7 +64,8 @@ header-long m h = shared.header-long protocolVersion m h
 -- ---- what is read behind a header that is not refused
 
 fits-judged : (fits : Bool) (x : Message)
-    → cond (eqb (cond (not fits) bodyLengthWrong done) done) (reading.Message x) (reading.Refused (cond (not fits) bodyLengthWrong done)) ≡ readWhere fits x
+    → cond (eqb (cond (not fits) bodyLengthWrong done) done) (reading.Message x) (reading.Refused (cond (not fits) bodyLengthWrong done))
+    ≡ readWhere fits x
 fits-judged true x = refl
 fits-judged false x = refl
 
@@ -76,7 +81,8 @@ table-judged : (sound : Bool) (x : Message)
 table-judged true x = refl
 table-judged false x = refl
 
-pub answer-table : (m : List ℕ) → headerAnswer m ≡ done → messageNumber m ≡ tmplData → readAnswer m ≡ cond (not (tableSound (drop headerOctets m))) unsoundTable done
+pub answer-table : (m : List ℕ) → headerAnswer m ≡ done → messageNumber m ≡ tmplData
+    → readAnswer m ≡ cond (not (tableSound (drop headerOctets m))) unsoundTable done
 unfolding isMessage bodyFits
 answer-table m h e = header-passed m h ∙ rw (e, le-leb 0 (length m - 8) (omega arith))
 
@@ -86,11 +92,13 @@ unfolding readOf meaningOf
 read-table m h e = rw (answer-table m h e, e) (table-judged (tableSound (drop 8 m)) (TmplData (sessionOf m)))
 
 -- a number that is no message's is refused
-pub read-unknown : (m : List ℕ) → headerAnswer m ≡ done → isMessage (messageNumber m) ≡ false → readOf m ≡ reading.Refused messageNotAccepted
+pub read-unknown : (m : List ℕ) → headerAnswer m ≡ done → isMessage (messageNumber m) ≡ false
+    → readOf m ≡ reading.Refused messageNotAccepted
 unfolding readOf
 read-unknown m h k = rw (header-passed m h, k)
 
-pub answer-data : (m : List ℕ) → headerAnswer m ≡ done → messageNumber m ≡ dataNumber → readAnswer m ≡ cond (not (leb 8 (length m - headerOctets))) bodyLengthWrong done
+pub answer-data : (m : List ℕ) → headerAnswer m ≡ done → messageNumber m ≡ dataNumber
+    → readAnswer m ≡ cond (not (leb 8 (length m - headerOctets))) bodyLengthWrong done
 unfolding isMessage bodyFits
 answer-data m h e = header-passed m h ∙ rw e
 
@@ -112,7 +120,9 @@ readable m h =
       field = eqb-true (lengthField m) (length m) (not-false _ (p .1 .1 .0));
       known = not-false _ (p .1 .1 .1 .0);
       fits = not-false _ (p .1 .1 .1 .1 .0);
-      table = λ e. table-sound (eqb (messageNumber m) tmplData) (tableSound (drop 8 m)) (p .1 .1 .1 .1 .1 .0) (eq-eqb (messageNumber m) tmplData e);
+      table =
+          λ e. table-sound (eqb (messageNumber m) tmplData) (tableSound (drop 8 m)) (p .1 .1 .1 .1 .1 .0)
+          (eq-eqb (messageNumber m) tmplData e);
     }
 
 pub reads : (m : List ℕ) → Readable m → readAnswer m ≡ done
@@ -128,7 +138,11 @@ reads m r =
             ap not (r .known),
             (
               ap not (r .fits),
-              (not-both (eqb (messageNumber m) tmplData) (not (tableSound (drop 8 m))) (λ e. ap not (r .table (eqb-true (messageNumber m) tmplData e))), tt),
+              (
+                not-both (eqb (messageNumber m) tmplData) (not (tableSound (drop 8 m)))
+                    (λ e. ap not (r .table (eqb-true (messageNumber m) tmplData e))),
+                tt,
+              ),
             ),
           ),
         ),
@@ -137,11 +151,13 @@ reads m r =
 
 -- ---- the part that a message carries
 
-pub part-of-data : (m : List ℕ) → readAnswer m ≡ done → messageNumber m ≡ dataNumber → (partAt m ≡ dataHeadLength) × (partOf m ≡ drop dataHeadLength m)
+pub part-of-data : (m : List ℕ) → readAnswer m ≡ done → messageNumber m ≡ dataNumber
+    → (partAt m ≡ dataHeadLength) × (partOf m ≡ drop dataHeadLength m)
 unfolding partAt partOf
 part-of-data m h e = (rw (h, e), rw (h, e))
 
-pub part-of-table : (m : List ℕ) → readAnswer m ≡ done → messageNumber m ≡ tmplData → (partAt m ≡ headerOctets) × (partOf m ≡ drop headerOctets m)
+pub part-of-table : (m : List ℕ) → readAnswer m ≡ done → messageNumber m ≡ tmplData
+    → (partAt m ≡ headerOctets) × (partOf m ≡ drop headerOctets m)
 unfolding partAt partOf
 part-of-table m h e = (rw (h, e), rw (h, e))
 
@@ -159,7 +175,8 @@ part-of-other m d t =
     (rw (a, b, n), rw (a, b, n))
 
 -- a DATA whose body is too short and a TMPL DATA whose table is unsound are refused
-pub short-refused : (m : List ℕ) → headerAnswer m ≡ done → messageNumber m ≡ dataNumber → length m < dataHeadLength → readAnswer m ≡ done → ⊥
+pub short-refused : (m : List ℕ) → headerAnswer m ≡ done → messageNumber m ≡ dataNumber → length m < dataHeadLength → readAnswer m ≡ done
+    → ⊥
 short-refused m h e l z =
     let short : readAnswer m ≡ bodyLengthWrong = answer-data m h e ∙ rw (lt-leb 8 (length m - 8) (omega arith)) in
     omega arith
@@ -167,12 +184,14 @@ short-refused m h e l z =
 pub long-read : (m : List ℕ) → headerAnswer m ≡ done → messageNumber m ≡ dataNumber → dataHeadLength ≤ length m → readAnswer m ≡ done
 long-read m h e l = answer-data m h e ∙ rw (le-leb 8 (length m - 8) (omega arith))
 
-pub unsound-refused : (m : List ℕ) → headerAnswer m ≡ done → messageNumber m ≡ tmplData → tableSound (drop headerOctets m) ≡ false → readAnswer m ≡ done → ⊥
+pub unsound-refused : (m : List ℕ) → headerAnswer m ≡ done → messageNumber m ≡ tmplData → tableSound (drop headerOctets m) ≡ false
+    → readAnswer m ≡ done → ⊥
 unsound-refused m h e t z =
     let unsound : readAnswer m ≡ unsoundTable = answer-table m h e ∙ rw t in
     omega arith
 
-pub sound-read : (m : List ℕ) → headerAnswer m ≡ done → messageNumber m ≡ tmplData → tableSound (drop headerOctets m) ≡ true → readAnswer m ≡ done
+pub sound-read : (m : List ℕ) → headerAnswer m ≡ done → messageNumber m ≡ tmplData → tableSound (drop headerOctets m) ≡ true
+    → readAnswer m ≡ done
 sound-read m h e t = answer-table m h e ∙ rw t
 
 -- ---- writing
@@ -183,7 +202,8 @@ placed-short octets out h =
     record { answered = rw (lt-ltb (length out) (length octets) h); left = sym (put-short out 0 octets (omega arith)) }
 
 -- octets that do
-pub placed : (octets out after : List ℕ) (n : ℕ) → length octets ≡ n → n ≤ length out → after ≡ sets out 0 octets → Placed octets out (written.Octets n) after
+pub placed : (octets out after : List ℕ) (n : ℕ) → length octets ≡ n → n ≤ length out → after ≡ sets out 0 octets
+    → Placed octets out (written.Octets n) after
 placed octets out after n e h s =
     record {
       answered = rw (le-ltb (length out) (length octets) (omega arith)) (ap written.Octets (sym e));
@@ -196,7 +216,8 @@ room-answered : (short : Bool) (n : ℕ)
 room-answered true n = refl
 room-answered false n = refl
 
-room-left : (short : Bool) (out octets : List ℕ) → ltb (length out) (length octets) ≡ short → putAt out 0 octets ≡ cond (eqb (cond short outputTooShort done) done) (sets out 0 octets) out
+room-left : (short : Bool) (out octets : List ℕ) → ltb (length out) (length octets) ≡ short
+    → putAt out 0 octets ≡ cond (eqb (cond short outputTooShort done) done) (sets out 0 octets) out
 room-left true out octets e = put-short out 0 octets (omega (arith, ltb-true (length out) (length octets) e))
 room-left false out octets e = put-fits out 0 octets (omega (arith, ltb-false (length out) (length octets) e))
 
@@ -208,8 +229,10 @@ pub allowed : (m : Message) (part out : List ℕ) (answer : Written) (after : Li
     → (answer ≡ writeOf m part out) × (after ≡ writeOut m part out)
 unfolding writeAnswer writeOf writeOut
 allowed m part out answer after t d p =
-    let short = ltb (length out) (length (layoutOf m part)) in
-    (p .answered ∙ rw (t, d) (room-answered short (length (layoutOf m part))), p .left ∙ rw (t, d) (room-left short out (layoutOf m part) refl))
+    let short = ltb (length out) (length (layoutOf m part)) in (
+      p .answered ∙ rw (t, d) (room-answered short (length (layoutOf m part))),
+      p .left ∙ rw (t, d) (room-left short out (layoutOf m part) refl),
+    )
 
 -- a refusal is answered and changes nothing
 pub refused : (m : Message) (part out : List ℕ) (a : ℕ) → (a ≡ done → ⊥) → writeAnswer m part (length out) ≡ a

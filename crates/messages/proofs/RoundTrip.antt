@@ -13,14 +13,19 @@ use Rattle.octets.specs.Answers.{done}
 use Rattle.octets.specs.Numbers.{numberOf, uintIn, uintAt, octetsIn, octetsOf, Octets}
 use Rattle.octets.proofs.Numbers.{uint-one, uint-front, read-back, cut, cut-one}
 use Rattle.octets.proofs.Stores.{output-begins}
-use Rattle.messages.specs.Messages.{protocolVersion, Form, forms, isMessage, bodyFits, messageNumber, sessionOf, messageOf, dataFront, flagsOf, flagFirst, flagDuplicate, layoutOf}
-use Rattle.messages.specs.Messages.{start, startAck, stop, stopAck, tmplData, finalTmplDataAck, startNegotiate, startNegotiateAck, dataNumber, dataAck}
-use Rattle.messages.specs.Messages.{maxRecordOctets, headerAnswer, headerOf, readAnswer, dataHeadOf, meaningOf, readOf, partAt, partOf, writeAnswer, writeOf, writeOut, headWriteAnswer, headWriteOf, isData, isTmplData}
-use Rattle.messages.specs.Messages.{writeChecks, carried, carriedAt, Writable, Plain, headerReadingAnswer, readingAnswer, writtenAnswer}
+use Rattle.messages.specs.Messages.{protocolVersion, Form, forms, isMessage, bodyFits, messageNumber, sessionOf, messageOf, dataFront}
+use Rattle.messages.specs.Messages.{flagsOf, flagFirst, flagDuplicate, layoutOf}
+use Rattle.messages.specs.Messages.{start, startAck, stop, stopAck, tmplData, finalTmplDataAck, startNegotiate, startNegotiateAck}
+use Rattle.messages.specs.Messages.{dataNumber, dataAck}
+use Rattle.messages.specs.Messages.{maxRecordOctets, headerAnswer, headerOf, readAnswer, dataHeadOf, meaningOf, readOf, partAt}
+use Rattle.messages.specs.Messages.{partOf, writeAnswer, writeOf, writeOut, headWriteAnswer, headWriteOf, isData, isTmplData}
+use Rattle.messages.specs.Messages.{writeChecks, carried, carriedAt, Writable, Plain, headerReadingAnswer, readingAnswer}
+use Rattle.messages.specs.Messages.{writtenAnswer}
 use Rattle.tables.specs.Table.{tableSound}
 use Rattle.messages.specs.declared.message.DataHead.{DataHead}
 use Rattle.messages.specs.declared.message.Message.{Message}
-use Rattle.messages.specs.declared.message.Message.the-variants.{Start, StartAck, Stop, StopAck, TmplData, FinalTmplDataAck, StartNegotiate, StartNegotiateAck, Data, DataAck}
+use Rattle.messages.specs.declared.message.Message.the-variants.{Start, StartAck, Stop, StopAck, TmplData, FinalTmplDataAck}
+use Rattle.messages.specs.declared.message.Message.the-variants.{StartNegotiate, StartNegotiateAck, Data, DataAck}
 use Rattle.messages.specs.declared.message.Reading.the-variants as reading
 use Rattle.messages.specs.declared.message.Written.the-variants as written
 use Rattle.octets.proofs.Judging.{passed, judged-done, kept}
@@ -84,13 +89,16 @@ bare-back : (n s : ℕ) (body : List ℕ) (v : Message) → 8 + length body < 2 
 bare-back n s body v small known fits d t e =
     let m = messageOf n s body in
     let h = answered n s body small known fits (λ q. absurd (eqb-false n tmplData t q)) in
-    let p = part-of-other m (λ q. eqb-false n dataNumber d (sym (number-of n s body) ∙ q)) (λ q. eqb-false n tmplData t (sym (number-of n s body) ∙ q)) in
+    let p =
+    part-of-other m (λ q. eqb-false n dataNumber d (sym (number-of n s body) ∙ q))
+    (λ q. eqb-false n tmplData t (sym (number-of n s body) ∙ q)) in
     (read-as m v h e, (p .1, p .0))
 
 empty-back : (n s : ℕ) (v : ℕ → Message) → isMessage n ≡ true → bodyFits n 0 ≡ true → eqb n dataNumber ≡ false → eqb n tmplData ≡ false
     → ((m : List ℕ) → messageNumber m ≡ n → meaningOf m ≡ v (sessionOf m))
     → (readOf (messageOf n s []) ≡ reading.Message (v s)) × ((partOf (messageOf n s []) ≡ []) × (partAt (messageOf n s []) ≡ 0))
-empty-back n s v known fits d t e = bare-back n s [] (v s) (omega arith) known fits d t (e (messageOf n s []) (number-of n s []) ∙ ap v (session-of n s []))
+empty-back n s v known fits d t e =
+    bare-back n s [] (v s) (omega arith) known fits d t (e (messageOf n s []) (number-of n s []) ∙ ap v (session-of n s []))
 
 -- ---- the numbers of DATA's body
 
@@ -127,7 +135,8 @@ duplicate-of false true = refl
 duplicate-of false false = refl
 
 -- the head of a DATA reads back
-head-of : (h : DataHead) (part : List ℕ) → h .template < 2 ^ 16 → h .dsn < 2 ^ 32 → dataHeadOf (messageOf dataNumber (h .session) (dataFront h ++ part)) ≡ h
+head-of : (h : DataHead) (part : List ℕ) → h .template < 2 ^ 16 → h .dsn < 2 ^ 32
+    → dataHeadOf (messageOf dataNumber (h .session) (dataFront h ++ part)) ≡ h
 unfolding dataHeadOf
 head-of h part t d =
     let at = at-body dataNumber (h .session) (dataFront h ++ part) in
@@ -147,7 +156,8 @@ head-of h part t d =
 
 -- ---- THE ROUND TRIP: a message that can be written reads back as what it says, and hands back its part at its place.
 pub reads-back : (m : Message) (part : List ℕ) → Writable m part
-    → (readOf (layoutOf m part) ≡ reading.Message m) × ((partOf (layoutOf m part) ≡ carried m part) × (partAt (layoutOf m part) ≡ carriedAt m))
+    → (readOf (layoutOf m part) ≡ reading.Message m)
+    × ((partOf (layoutOf m part) ≡ carried m part) × (partAt (layoutOf m part) ≡ carriedAt m))
 unfolding layoutOf messageOf octetsIn meaningOf isMessage bodyFits
 reads-back (Start s) part w = empty-back start s Start refl refl refl refl (λ m e. rw e)
 reads-back (StartAck s boot) part w =
@@ -157,9 +167,13 @@ reads-back (StartAck s boot) part w =
 reads-back (Stop s) part w = empty-back stop s Stop refl refl refl refl (λ m e. rw e)
 reads-back (StopAck s) part w = empty-back stopAck s StopAck refl refl refl refl (λ m e. rw e)
 reads-back (TmplData s) part w =
-    let h = answered tmplData s part (omega (arith, table-facts part (w .table refl) .short)) refl (le-leb 0 (length part) (omega arith)) (λ e. w .table refl) in
-    let p = part-of-table (messageOf tmplData s part) h (number-of tmplData s part) in
-    (read-as (messageOf tmplData s part) (TmplData s) h (rw (number-of tmplData s part) (ap TmplData (session-of tmplData s part))), (p .1, p .0))
+    let h =
+    answered tmplData s part (omega (arith, table-facts part (w .table refl) .short)) refl (le-leb 0 (length part) (omega arith))
+    (λ e. w .table refl) in
+    let p = part-of-table (messageOf tmplData s part) h (number-of tmplData s part) in (
+      read-as (messageOf tmplData s part) (TmplData s) h (rw (number-of tmplData s part) (ap TmplData (session-of tmplData s part))),
+      (p .1, p .0),
+    )
 reads-back (FinalTmplDataAck s config) part w =
     let body = config ∷ 0 ∷ 0 ∷ 0 ∷ [] in
     bare-back finalTmplDataAck s body (FinalTmplDataAck s config) (omega arith) refl refl refl refl
@@ -170,7 +184,8 @@ reads-back (Data h) part w =
     let s = h .session in
     let body = dataFront h ++ part in
     let l : length body ≡ 8 + length part = omega arith in
-    let a = answered dataNumber s body (omega (arith, w .short refl)) refl (le-leb 8 (length body) (omega arith)) (λ e. absurd (omega arith)) in
+    let a =
+    answered dataNumber s body (omega (arith, w .short refl)) refl (le-leb 8 (length body) (omega arith)) (λ e. absurd (omega arith)) in
     let p = part-of-data (messageOf dataNumber s body) a (number-of dataNumber s body) in
     let e = head-of h part (w .ranges .1 .0) (w .ranges .1 .1 .1) in
     (read-as (messageOf dataNumber s body) (Data h) a (rw (number-of dataNumber s body) (ap Data e)), (p .1, p .0))
@@ -245,17 +260,20 @@ module _ (m : List ℕ) (octet : Octets m) (answer : readAnswer m ≡ done) (pla
       let n : length m ≡ 12 = omega (arith, eqb-true (length m - 8) 4 l, r .long) in
       cut-one m 8 (omega arith) ∙ ap (λ (x : List ℕ). uintAt m 8 1 ∷ x) (zeros 9 (plain .reserved e) n)
 
-  ack-body : messageNumber m ≡ dataAck → eqb (length m - 8) 8 ≡ true → drop 8 m ≡ octetsOf 4 (uintAt m 8 4) ++ (uintAt m 12 1 ∷ 0 ∷ 0 ∷ 0 ∷ [])
+  ack-body : messageNumber m ≡ dataAck → eqb (length m - 8) 8 ≡ true
+      → drop 8 m ≡ octetsOf 4 (uintAt m 8 4) ++ (uintAt m 12 1 ∷ 0 ∷ 0 ∷ 0 ∷ [])
   ack-body e l =
       let n : length m ≡ 16 = omega (arith, eqb-true (length m - 8) 8 l, r .long) in
       cut m octet 8 4 (omega arith)
-      ∙ ap (λ (x : List ℕ). octetsOf 4 (uintAt m 8 4) ++ x) (cut-one m 12 (omega arith) ∙ ap (λ (x : List ℕ). uintAt m 12 1 ∷ x) (zeros 13 (plain .unused e) n))
+      ∙ ap (λ (x : List ℕ). octetsOf 4 (uintAt m 8 4) ++ x)
+      (cut-one m 12 (omega arith) ∙ ap (λ (x : List ℕ). uintAt m 12 1 ∷ x) (zeros 13 (plain .unused e) n))
 
   data-body : messageNumber m ≡ dataNumber → leb 8 (length m - 8) ≡ true → drop 8 m ≡ dataFront (dataHeadOf m) ++ drop 16 m
   unfolding octetsIn dataHeadOf
   data-body e l =
       let n : 16 ≤ length m = omega (arith, leb-true 8 (length m - 8) l) in
-      let f : uintAt m 11 1 ≡ flagsOf (flagFirst (uintAt m 11 1)) (flagDuplicate (uintAt m 11 1)) = sym (flags-back (uintAt m 11 1) (plain .marks e)) in
+      let f : uintAt m 11 1 ≡ flagsOf (flagFirst (uintAt m 11 1)) (flagDuplicate (uintAt m 11 1)) =
+      sym (flags-back (uintAt m 11 1) (plain .marks e)) in
       cut m octet 8 2 (omega arith)
       ∙ ap (λ (x : List ℕ). octetsOf 2 (uintAt m 8 2) ++ x)
       (cut-one m 10 (omega arith)
@@ -271,22 +289,29 @@ module _ (m : List ℕ) (octet : Octets m) (answer : readAnswer m ≡ done) (pla
   unfolding layoutOf meaningOf dataHeadOf bodyFits
   by-number =
       (λ (e : messageNumber m ≡ start). says (Start s) (rw e) (bare start e (fitting start e)))
-      and (λ (e : messageNumber m ≡ startAck). says (StartAck s (uintAt m 8 4)) (rw e) (with-body startAck _ e (boot-body (fitting startAck e))))
+      and (λ (e : messageNumber m ≡ startAck). says (StartAck s (uintAt m 8 4)) (rw e)
+      (with-body startAck _ e (boot-body (fitting startAck e))))
       and (λ (e : messageNumber m ≡ stop). says (Stop s) (rw e) (bare stop e (fitting stop e)))
       and (λ (e : messageNumber m ≡ stopAck). says (StopAck s) (rw e) (bare stopAck e (fitting stopAck e)))
-      and (λ (e : messageNumber m ≡ tmplData). says (TmplData s) (rw e) (with-body tmplData (partOf m) e (sym (part-of-table m answer e .1))))
-      and (λ (e : messageNumber m ≡ finalTmplDataAck). says (FinalTmplDataAck s (uintAt m 8 1)) (rw e) (with-body finalTmplDataAck _ e (final-body e (fitting finalTmplDataAck e))))
+      and (λ (e : messageNumber m ≡ tmplData). says (TmplData s) (rw e)
+      (with-body tmplData (partOf m) e (sym (part-of-table m answer e .1))))
+      and (λ (e : messageNumber m ≡ finalTmplDataAck). says (FinalTmplDataAck s (uintAt m 8 1)) (rw e)
+      (with-body finalTmplDataAck _ e (final-body e (fitting finalTmplDataAck e))))
       and (λ (e : messageNumber m ≡ startNegotiate). says (StartNegotiate s) (rw e) (bare startNegotiate e (fitting startNegotiate e)))
-      and (λ (e : messageNumber m ≡ startNegotiateAck). says (StartNegotiateAck s) (rw e) (bare startNegotiateAck e (fitting startNegotiateAck e)))
-      and (λ (e : messageNumber m ≡ dataNumber). says (Data (dataHeadOf m)) (rw e) (with-body dataNumber _ e (data-whole e (fitting dataNumber e))))
-      and (λ (e : messageNumber m ≡ dataAck). says (DataAck s (uintAt m 8 4) (uintAt m 12 1)) (rw e) (with-body dataAck _ e (ack-body e (fitting dataAck e))))
+      and (λ (e : messageNumber m ≡ startNegotiateAck). says (StartNegotiateAck s) (rw e)
+      (bare startNegotiateAck e (fitting startNegotiateAck e)))
+      and (λ (e : messageNumber m ≡ dataNumber). says (Data (dataHeadOf m)) (rw e)
+      (with-body dataNumber _ e (data-whole e (fitting dataNumber e))))
+      and (λ (e : messageNumber m ≡ dataAck). says (DataAck s (uintAt m 8 4) (uintAt m 12 1)) (rw e)
+      (with-body dataAck _ e (ack-body e (fitting dataAck e))))
       and none
 
   -- ---- THE OTHER WAY: a message that reads without refusal, whose flags and reserved octets are 0, is the layout of what it says.
   pub is-layout : m ≡ layoutOf (meaningOf m) (partOf m)
   unfolding isMessage
   is-layout =
-      each-row (λ (f : Form). f .number) (λ n. messageNumber m ≡ n → m ≡ layoutOf (meaningOf m) (partOf m)) forms by-number (messageNumber m) (r .known) refl
+      each-row (λ (f : Form). f .number) (λ n. messageNumber m ≡ n → m ≡ layoutOf (meaningOf m) (partOf m)) forms by-number
+      (messageNumber m) (r .known) refl
 
 -- ---- THE ANSWER NUMBERS: the number of an answer that is an enum is the answer number that it was made from.
 pub header-number : (m : List ℕ) → headerReadingAnswer (headerOf m) ≡ headerAnswer m
@@ -316,7 +341,8 @@ writes m part room w h =
       ),
     )
 
-pub done-out : (m : Message) (part out : List ℕ) → writeAnswer m part (length out) ≡ done → writeOut m part out ≡ sets out 0 (layoutOf m part)
+pub done-out : (m : Message) (part out : List ℕ) → writeAnswer m part (length out) ≡ done
+    → writeOut m part out ≡ sets out 0 (layoutOf m part)
 unfolding writeOut
 done-out m part out h = rw h
 

@@ -6,7 +6,8 @@ use mathlib.Core.List.{List, [], _∷_, _++_}
 use lib.Dec.{eqb, leb, ltb}
 use lib.ListN.{length, drop}
 use lib.Seq.{sets}
-use Rattle.octets.specs.Answers.{Check, _when_, judge, done, messageNotAccepted, bodyLengthWrong, outputTooShort, recordTooLong, unsoundTable}
+use Rattle.octets.specs.Answers.{Check, _when_, judge, done, messageNotAccepted, bodyLengthWrong, outputTooShort, recordTooLong}
+use Rattle.octets.specs.Answers.{unsoundTable}
 use Rattle.octets.specs.Numbers.{uintAt, octetsOf, putAt}
 use Rattle.octets.specs.Each.{lookUp}
 use Rattle.tables.specs.Table.{tableSound}
@@ -16,7 +17,8 @@ unfoldable pub use Rattle.headers.specs.Headers.{headerAnswerFor, headerReading
 use Rattle.headers.specs.declared.header.HeaderReading.{HeaderReading}
 use Rattle.messages.specs.declared.message.DataHead.{DataHead}
 use Rattle.messages.specs.declared.message.Message.{Message}
-use Rattle.messages.specs.declared.message.Message.the-variants.{Start, StartAck, Stop, StopAck, TmplData, FinalTmplDataAck, StartNegotiate, StartNegotiateAck, Data, DataAck}
+use Rattle.messages.specs.declared.message.Message.the-variants.{Start, StartAck, Stop, StopAck, TmplData, FinalTmplDataAck}
+use Rattle.messages.specs.declared.message.Message.the-variants.{StartNegotiate, StartNegotiateAck, Data, DataAck}
 use Rattle.messages.specs.declared.message.Reading.{Reading}
 use Rattle.messages.specs.declared.message.Reading.the-variants as reading
 use Rattle.messages.specs.declared.message.Written.{Written}

@@ -1,5 +1,5 @@
 // Reading: unsigned numbers of 8, 16, 32 and 64 bits at a place of a slice, most significant octet first, or of any width in either order;
-// and whether octets there are ASCII. `octets` passes these on.
+// and whether octets there are ASCII. `octets` passes these on, but for `place_in`, which `number_writing` uses.
 //
 // Every function is total: a read past the end reads 0.
 ghost use mathlib.Core.Path.{_≡_};

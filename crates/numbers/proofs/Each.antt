@@ -1,5 +1,5 @@
--- Laws of Booleans and clauses, of `every` and of `firstFrom`, which every loop's proof cites. What every number below a bound passes goes by
--- induction on the bound.
+-- Laws of Booleans and clauses, of `every` and of `firstFrom`, which every loop's proof cites. What every number below a bound passes goes
+-- by induction on the bound.
 use mathlib.Core.Path.{_≡_, refl, sym, ap, _∙_}
 use mathlib.Core.Bool.{Bool, true, false, _&&_, false≢true, cond, not}
 use Prim.Native.Nat.{ℕ, zero, suc, _+_, _≤_, _<_, _-_}
@@ -144,7 +144,8 @@ first-none i (suc n) p h = absurd (not-suc-le-zero h)
 pub first-least : (i n : ℕ) (p : ℕ → Bool) → i ≤ firstFrom i n p
 unfolding firstFrom
 first-least i zero p = le-refl i
-first-least i (suc n) p = cond-cases (λ (k : ℕ). i ≤ k) (p i) i (firstFrom (i + 1) n p) (λ e. le-refl i) (λ e. omega (arith, first-least (i + 1) n p))
+first-least i (suc n) p =
+    cond-cases (λ (k : ℕ). i ≤ k) (p i) i (firstFrom (i + 1) n p) (λ e. le-refl i) (λ e. omega (arith, first-least (i + 1) n p))
 
 -- ---- tables of examples
 

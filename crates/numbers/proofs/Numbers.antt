@@ -4,7 +4,8 @@ use mathlib.Core.Path.{_≡_, refl, sym, ap, _∙_}
 use mathlib.Core.Bool.{Bool, true, false}
 use mathlib.Core.List.{List, [], _∷_, _++_, map, append-nil, append-assoc}
 use Prim.Native.Nat.{ℕ, zero, suc, _+_, _-_, _*_, _/_, _%_, _^_, _≤_, _<_}
-use native.Mathlib.Nat.{add-zero, zero-add, add-suc, suc-add, add-comm, add-assoc, le-refl, pow-zero, pow-suc, mul-assoc, mul-comm, div-one, div-add-mod', div-lt-iff-lt-mul, div-div-eq-div-mul}
+use native.Mathlib.Nat.{add-zero, zero-add, add-suc, suc-add, add-comm, add-assoc, le-refl, pow-zero, pow-suc, mul-assoc, mul-comm, div-one}
+use native.Mathlib.Nat.{div-add-mod', div-lt-iff-lt-mul, div-div-eq-div-mul}
 use native.Mathlib.Numerals.{add-one}
 use native.Mathlib.Omega.{arith}
 use borrow.Author.Tests.{le-leb, leb-true, leb-false}
@@ -76,7 +77,8 @@ low-place LittleEndian at a b i l = omega arith
 
 -- ---- the number at a place
 
-pub uint-in-within : (order : OctetOrder) (s : List ℕ) (at w : ℕ) → ((i : ℕ) → i < w → getD s (at + i) 0 < 256) → uintIn order s at w < 256 ^ w
+pub uint-in-within : (order : OctetOrder) (s : List ℕ) (at w : ℕ) → ((i : ℕ) → i < w → getD s (at + i) 0 < 256)
+    → uintIn order s at w < 256 ^ w
 unfolding uintIn
 uint-in-within order s at w octet =
     number-below (λ i. getD s (at + placeIn order w i) 0) w (λ i l. octet (placeIn order w i) (place-below order w i l))
@@ -101,8 +103,10 @@ uint-in-join order s at a b =
     let high : ℕ → ℕ = λ i. getD s (highAt order at b + placeIn order a i) 0 in
     let low : ℕ → ℕ = λ i. getD s (lowAt order at a + placeIn order b i) 0 in
     number-join d a b
-    ∙ ap (λ (n : ℕ). n * 256 ^ b + numberOf (λ i. d (a + i)) b) (number-same d high a (λ i l. ap (λ (n : ℕ). getD s n 0) (high-place order at a b i l)))
-    ∙ ap (λ (n : ℕ). numberOf high a * 256 ^ b + n) (number-same (λ i. d (a + i)) low b (λ i l. ap (λ (n : ℕ). getD s n 0) (low-place order at a b i l)))
+    ∙ ap (λ (n : ℕ). n * 256 ^ b + numberOf (λ i. d (a + i)) b)
+    (number-same d high a (λ i l. ap (λ (n : ℕ). getD s n 0) (high-place order at a b i l)))
+    ∙ ap (λ (n : ℕ). numberOf high a * 256 ^ b + n)
+    (number-same (λ i. d (a + i)) low b (λ i l. ap (λ (n : ℕ). getD s n 0) (low-place order at a b i l)))
 
 -- one octet is its own number
 pub uint-in-one : (order : OctetOrder) (s : List ℕ) (at : ℕ) → uintIn order s at 1 ≡ getD s at 0
@@ -160,7 +164,8 @@ join-none : (order : OctetOrder) (high : List ℕ) → joinIn order high [] ≡ 
 join-none BigEndian high = append-nil high
 join-none LittleEndian high = refl
 
-join-assoc : (order : OctetOrder) (high mid low : List ℕ) → joinIn order (joinIn order high mid) low ≡ joinIn order high (joinIn order mid low)
+join-assoc : (order : OctetOrder) (high mid low : List ℕ)
+    → joinIn order (joinIn order high mid) low ≡ joinIn order high (joinIn order mid low)
 join-assoc BigEndian high mid low = append-assoc high mid low
 join-assoc LittleEndian high mid low = sym (append-assoc low mid high)
 
@@ -176,7 +181,8 @@ unfolding octetsIn
 octets-in-below order zero v i l = absurd (omega arith)
 octets-in-below LittleEndian (suc w) v zero l = omega arith
 octets-in-below LittleEndian (suc w) v (suc i) l = octets-in-below LittleEndian w (v / 256) i (omega arith)
-octets-in-below BigEndian (suc w) v i l = go (octets-in-length BigEndian w (v / 256)) (octets-in-below BigEndian w (v / 256) i) (leb (suc i) w) refl
+octets-in-below BigEndian (suc w) v i l =
+    go (octets-in-length BigEndian w (v / 256)) (octets-in-below BigEndian w (v / 256) i) (leb (suc i) w) refl
   where
     front : List ℕ
     front = octetsOf w (v / 256)
@@ -190,11 +196,13 @@ octets-in-below BigEndian (suc w) v i l = go (octets-in-length BigEndian w (v / 
         rw (q, getD-append-seam front (v % 256) [] 0) (omega arith)
 
 -- a octets and b octets of less significance
-pub octets-in-join : (order : OctetOrder) (a b v : ℕ) → octetsIn order (a + b) v ≡ joinIn order (octetsIn order a (v / 256 ^ b)) (octetsIn order b v)
+pub octets-in-join : (order : OctetOrder) (a b v : ℕ)
+    → octetsIn order (a + b) v ≡ joinIn order (octetsIn order a (v / 256 ^ b)) (octetsIn order b v)
 unfolding octetsIn
 octets-in-join order a zero v = rw (add-zero, pow-zero, div-one, join-none)
 octets-in-join order a (suc b) v =
-    let e : v / 256 / 256 ^ b ≡ v / 256 ^ suc b = div-div-eq-div-mul v 256 (256 ^ b) ∙ ap (λ (n : ℕ). v / n) (mul-comm 256 (256 ^ b) ∙ sym (pow-suc 256 b)) in
+    let e : v / 256 / 256 ^ b ≡ v / 256 ^ suc b =
+    div-div-eq-div-mul v 256 (256 ^ b) ∙ ap (λ (n : ℕ). v / n) (mul-comm 256 (256 ^ b) ∙ sym (pow-suc 256 b)) in
     rw (add-suc, octets-in-join order a b (v / 256), e, join-assoc)
 
 -- the number of octets of more and octets of less significance
@@ -252,7 +260,8 @@ octets-in-mod order w v = sym (octets-add order w (v / 256 ^ w) (v % 256 ^ w)) �
 join-part : (order : OctetOrder) (s : List ℕ) (at w : ℕ) → at + suc w ≤ length s
     → joinIn order (take w (drop (highAt order at 1) s)) (getD s (lowAt order at w) 0 ∷ []) ≡ take (suc w) (drop at s)
 join-part BigEndian s at w h =
-    ap (λ (x : ℕ). take w (drop at s) ++ (x ∷ [])) (sym (getD-drop at s w 0)) ∙ sym (take-suc (drop at s) w 0 (omega (arith, length-drop at s)))
+    ap (λ (x : ℕ). take w (drop at s) ++ (x ∷ [])) (sym (getD-drop at s w 0))
+    ∙ sym (take-suc (drop at s) w 0 (omega (arith, length-drop at s)))
 join-part LittleEndian s at w h =
     ap (λ (k : ℕ). getD s at 0 ∷ take w (drop k s)) (add-one at) ∙ ap (take (suc w)) (sym (drop-cons s at 0 (omega arith)))
 

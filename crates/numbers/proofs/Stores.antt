@@ -34,7 +34,8 @@ put-short out at vs h = rw (lt-leb (at + length vs) (length out) h)
 pub sets-append : (a l : List ℕ) (at : ℕ) (b : List ℕ) → sets (sets l at a) (at + length a) b ≡ sets l at (a ++ b)
 sets-append [] l at b = ap (λ (n : ℕ). sets l n b) (add-zero at)
 sets-append (x ∷ a) l at b =
-    ap (λ (n : ℕ). sets (sets (set l at x) (suc at) a) n b) (add-suc at (length a) ∙ sym (suc-add at (length a))) ∙ sets-append a (set l at x) (suc at) b
+    ap (λ (n : ℕ). sets (sets (set l at x) (suc at) a) n b) (add-suc at (length a) ∙ sym (suc-add at (length a)))
+    ∙ sets-append a (set l at x) (suc at) b
 
 -- two puts, one behind the other, are the put of both
 pub put-join : (out : List ℕ) (at : ℕ) (a b : List ℕ) → at + length a + length b ≤ length out
@@ -46,7 +47,8 @@ put-join out at a b h =
     ∙ sym (put-fits out at (a ++ b) (omega (arith, length-append a b)))
 
 -- the octets that were stored stand at their place
-pub sets-at : (out : List ℕ) (at : ℕ) (vs : List ℕ) (i : ℕ) → at + length vs ≤ length out → i < length vs → getD (sets out at vs) (at + i) 0 ≡ getD vs i 0
+pub sets-at : (out : List ℕ) (at : ℕ) (vs : List ℕ) (i : ℕ) → at + length vs ≤ length out → i < length vs
+    → getD (sets out at vs) (at + i) 0 ≡ getD vs i 0
 sets-at out at vs i h l =
     let front = take at out in
     let n : length front ≡ at = length-take-le at out (omega arith) in
@@ -138,7 +140,8 @@ put-parts order out at a b v h =
     ∙ sym (put-fits out at (octetsIn order (a + b) v) (omega (arith, octets-in-length order (a + b) v)))
 
 -- the same of what two stores left: `mid` between them, `after` in the end
-pub put-twice : (order : OctetOrder) (out mid after : List ℕ) (at a b v : ℕ) → mid ≡ putAt out (highAt order at b) (octetsIn order a (v / 256 ^ b))
+pub put-twice : (order : OctetOrder) (out mid after : List ℕ) (at a b v : ℕ)
+    → mid ≡ putAt out (highAt order at b) (octetsIn order a (v / 256 ^ b))
     → after ≡ putAt mid (lowAt order at a) (octetsIn order b (v % 256 ^ b)) → at + (a + b) ≤ length out
     → after ≡ putAt out at (octetsIn order (a + b) v)
 put-twice order out mid after at a b v p q h =
@@ -217,6 +220,7 @@ pub sets-then : (out a b l : List ℕ) (at : ℕ) → l ≡ sets out 0 a → len
 sets-then out a b l at e n =
     ap (λ (x : List ℕ). sets x at b) e ∙ ap (λ (k : ℕ). sets (sets out 0 a) k b) (sym n ∙ sym (zero-add (length a))) ∙ sets-append a out 0 b
 
-pub put-then : (out a b l : List ℕ) (at : ℕ) → l ≡ sets out 0 a → length a ≡ at → at + length b ≤ length out → putAt l at b ≡ sets out 0 (a ++ b)
+pub put-then : (out a b l : List ℕ) (at : ℕ) → l ≡ sets out 0 a → length a ≡ at → at + length b ≤ length out
+    → putAt l at b ≡ sets out 0 (a ++ b)
 put-then out a b l at e n h =
     put-fits l at b (omega (arith, ap length e, length-sets out 0 a)) ∙ sets-then out a b l at e n

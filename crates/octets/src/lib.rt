@@ -1,6 +1,6 @@
 // Unsigned numbers at a place of a slice, of 8, 16, 32 and 64 bits most significant octet first and of any width in either order, octets
 // copied to a place or judged there, and the answer numbers that all crates share. The functions stand in `number_reading` and
-// `number_writing`, the definitions and laws in `numbers`.
+// `number_writing`, the definitions and laws in `numbers`, which declares `OctetOrder` too: a crate that makes or matches one lists it.
 //
 // Every function is total: a read past the end reads 0, and a write that does not fit changes nothing.
 ghost use mathlib.Core.Path.{_≡_};

@@ -54,7 +54,8 @@ pub record-tests : (p : Settings) (table : List ℕ) (id : ℕ) (r : List ℕ) (
 unfolding recordAnswer
 record-tests p table id r a ours e k b c d x y z =
     rw (sym x, k, sym y, sym z, e)
-    (record-judged (tableSound table) (eqb (configurationId table) (p .config)) (isMissing table id) (ltb 1024 (length r)) (recordValid table (templateOf table id) r))
+    (record-judged (tableSound table) (eqb (configurationId table) (p .config)) (isMissing table id) (ltb 1024 (length r))
+    (recordValid table (templateOf table id) r))
 
 -- the record is judged, and then the room: a is what the record was judged, b the room
 module _ (p : Settings) (capacity n held : ℕ) (table : List ℕ) (id : ℕ) (r : List ℕ) (a : ℕ)
@@ -81,7 +82,8 @@ pub answer-of : (s : State) (store table : List ℕ) (id : ℕ) (r : List ℕ) (
     → a ≡ putAnswer s store table id r
 answer-of s store table id r ok held a e k j = rw (← e, ← k) j
 
-put-judged : (s : State) (store table : List ℕ) (id : ℕ) (r : List ℕ) → putAnswer s store table id r ≡ answer crane 0 (put table id r) s store
+put-judged : (s : State) (store table : List ℕ) (id : ℕ) (r : List ℕ)
+    → putAnswer s store table id r ≡ answer crane 0 (put table id r) s store
 unfolding answer checks
 put-judged s store table id r = rw (parts-of s)
 
@@ -105,14 +107,15 @@ put-facts s store table id r e =
     }
 
 -- the same, by what it was judged
-pub put-known : (s : State) (store table : List ℕ) (id : ℕ) (r : List ℕ) (a : ℕ) → a ≡ putAnswer s store table id r → a ≡ 0 → PutFacts s store r
+pub put-known : (s : State) (store table : List ℕ) (id : ℕ) (r : List ℕ) (a : ℕ) → a ≡ putAnswer s store table id r → a ≡ 0
+    → PutFacts s store r
 put-known s store table id r a j e = put-facts s store table id r (sym (put-judged s store table id r) ∙ sym j ∙ e)
 
 -- ---- what putting changes
 
 -- a refused put changes nothing
-pub putting-kept : (s : State) (store table : List ℕ) (id : ℕ) (r : List ℕ) (a : ℕ) (x : Putting) → (a ≡ done → ⊥) → a ≡ putAnswer s store table id r
-    → x ≡ record {
+pub putting-kept : (s : State) (store table : List ℕ) (id : ℕ) (r : List ℕ) (a : ℕ) (x : Putting) → (a ≡ done → ⊥)
+    → a ≡ putAnswer s store table id r → x ≡ record {
       answer = a;
       place = 0;
       len = getD (s .queue .lengths) 0 0;
@@ -176,7 +179,9 @@ module _ (s : State) (store table : List ℕ) (id : ℕ) (r : List ℕ) where
       go true q =
           let e = eqb-true (answer crane 0 (put table id r) s store) done q in
           rw (step-done crane 0 (put table id r) s store e) (put-facts s store table id r e .few)
-      go false q = rw (step-refused crane 0 (put table id r) s store _ (eqb-false (answer crane 0 (put table id r) s store) done q) refl, q) (omega arith)
+      go false q =
+          rw (step-refused crane 0 (put table id r) s store _ (eqb-false (answer crane 0 (put table id r) s store) done q) refl, q)
+          (omega arith)
 
   pub putting-inside : (x : Putting) → x ≡ puttingOf s id r (putStep s store table id r) → x .place < 64
   putting-inside x e = rw e putting-place

@@ -1,5 +1,5 @@
--- What the ring's helpers answer, case by case: with the numbers of a sound state the definitions of `session`, outside of them nothing. Reading
--- and writing copy one part of the store, or two where the octets reach past its end.
+-- What the ring's helpers answer, case by case: with the numbers of a sound state the definitions of `session`, outside of them nothing.
+-- Reading and writing copy one part of the store, or two where the octets reach past its end.
 use mathlib.Core.Path.{_≡_, refl, sym, ap, _∙_}
 use Prim.Native.Nat.{ℕ, _+_, _-_, _%_, _≤_, _<_, min}
 use mathlib.Core.List.{List, [], _∷_}
@@ -105,7 +105,8 @@ module _ (store : List ℕ) (at n : ℕ) (out : List ℕ) (place : ℕ) where
   unfolding ringCopied
   copied-from h k = rw (lt-ltb at (length store) h, le-leb n (length store) k)
 
-  pub copied-inside : at < length store → n ≤ length store → place + n ≤ length out → ringCopied store at n out place ≡ sets out place octetsAt
+  pub copied-inside : at < length store → n ≤ length store → place + n ≤ length out
+      → ringCopied store at n out place ≡ sets out place octetsAt
   copied-inside h k l = copied-from h k ∙ put-fits out place octetsAt (omega (arith, read-length (length store) store at n))
 
   pub copied-outside : length store ≤ at → out ≡ ringCopied store at n out place

@@ -36,8 +36,8 @@ enabled-few t m k (suc n) = go (isEnabled t (keyAt (m .keys) k)) (enabled-few t 
     go true h = omega arith
     go false h = omega arith
 
--- After n fields of a valid record the walk stands at c, with one step more than are left of the most keys: these n and the fields that it still
--- visits are those of the enabled keys, and it ends there.
+-- After n fields of a valid record the walk stands at c, with one step more than are left of the most keys: these n and the fields that it
+-- still visits are those of the enabled keys, and it ends there.
 pub record Counting (t : List ℕ) (id : ℕ) (r : List ℕ) (n : ℕ) (c : Cursor) : Type 0 where
   pub answer : countOf t id r ≡ counted.Fields (length (enabledKeys t (templateOf t id)))
   pub few : length (enabledKeys t (templateOf t id)) ≤ maxKeys
@@ -58,7 +58,8 @@ answer-refused : (t : List ℕ) (id : ℕ) (r : List ℕ) (a : ℕ) → openOf t
 unfolding openOf
 answer-refused t id r a = go (eqb (recordAnswer t id r) done)
   where
-    go : (b : Bool) → cond b (opened.At walkStart) (opened.Refused (recordAnswer t id r)) ≡ opened.Refused a → (b ≡ false) × (a ≡ recordAnswer t id r)
+    go : (b : Bool) → cond b (opened.At walkStart) (opened.Refused (recordAnswer t id r)) ≡ opened.Refused a
+        → (b ≡ false) × (a ≡ recordAnswer t id r)
     go true e = let y : _≡_ {A = ℕ} 0 1 = cc in absurd (omega arith)
     go false e = (refl, cc)
 
@@ -90,7 +91,8 @@ unfolding countOf
 count-number t id r = go (eqb (recordAnswer t id r) done) refl
   where
     go : (b : Bool) → eqb (recordAnswer t id r) done ≡ b
-        → countAnswer (cond b (counted.Fields (length (enabledKeys t (templateOf t id)))) (counted.Refused (recordAnswer t id r))) ≡ recordAnswer t id r
+        → countAnswer (cond b (counted.Fields (length (enabledKeys t (templateOf t id)))) (counted.Refused (recordAnswer t id r)))
+        ≡ recordAnswer t id r
     go true e = sym (eqb-true (recordAnswer t id r) done e)
     go false e = refl
 
@@ -117,6 +119,7 @@ module _ (t : List ℕ) (id : ℕ) (r : List ℕ) (n : ℕ) (c : Cursor) (l : Co
   pub count-goes : (a : ℕ) → stepOf t id r c ≡ step.Refused a → ⊥
   unfolding lastCursor
   count-goes a e =
-      let z : lastCursor (stepOf t id r) (suc (maxKeys - n)) c ≡ c = ap (afterStep (λ f b. lastCursor (stepOf t id r) (maxKeys - n) b) c) e in
+      let z : lastCursor (stepOf t id r) (suc (maxKeys - n)) c ≡ c =
+      ap (afterStep (λ f b. lastCursor (stepOf t id r) (maxKeys - n) b) c) e in
       let s : step.Refused a ≡ step.End = sym e ∙ ap (stepOf t id r) (sym z) ∙ l .ends in
       let y : _≡_ {A = ℕ} 0 1 = cc in absurd (omega arith)

@@ -12,7 +12,8 @@ use base.Logic.{ent, sep, emp}
 use base.Fml.{Lft, Share, Fml, ftrue, flft}
 use prog.Wp.{Heap}
 use ghost.Atoms.{Atoms, sem}
-use types.Kit.{Given, Item, ‵, raw, _⊛_, given, mean, ⋆, _$_, _∵_, !, qed, move, use1, use2, split, join, learn, frame, fjoin, fpack, feqI, done}
+use types.Kit.{Given, Item, ‵, raw, _⊛_, given, mean, ⋆, _$_, _∵_, !, qed, move, use1, use2, split, join, learn, frame, fjoin, fpack, feqI}
+use types.Kit.{done}
 use denote.RattleType.{RattleType, Valss, owns}
 use denote.Laws.{Is}
 use denote.Ref.{RefT, NamedLft}
@@ -59,7 +60,8 @@ module _ {M : Type 1} (𝓤 : URA M) (H : Heap 𝓤) (A : Atoms 𝓤) (W : Given
   pub at-typed : (c : Cursor) → Is K.the-row c (cursorAt c ∷ []) → Holds (hasTy O′.mir (placeAt (opened.At c))) × WT (placeAt (opened.At c))
   at-typed c p = opened-typed (opened.At c) (placeAt (opened.At c)) (at-is c p)
 
-  pub at-owns : (c : Cursor) → Is K.the-row c (cursorAt c ∷ []) → ent 𝓤 (emp 𝓤) (sem 𝓤 H A (O.the-row .own (opened.At c) (placeAt (opened.At c) ∷ [])))
+  pub at-owns : (c : Cursor) → Is K.the-row c (cursorAt c ∷ [])
+      → ent 𝓤 (emp 𝓤) (sem 𝓤 H A (O.the-row .own (opened.At c) (placeAt (opened.At c) ∷ [])))
   at-owns c p = EL.makes O.the-type O′.the-plain 𝓤 H A (opened.At c) _ (at-is c p)
 
   -- two lifetimes' tokens, in the other order
@@ -76,12 +78,16 @@ module _ (κ : Lft) (q : Share) (κ′ : Lft) (q′ : Share) (t : RefT (List ℕ
 
   module _ {M : Type 1} (𝓤 : URA M) (H : Heap 𝓤) (A : Atoms 𝓤) (W : Given 𝓤 H A) where
     pub own-twice : ent 𝓤 (sem 𝓤 H A Own₃) (sep 𝓤 (sem 𝓤 H A Own₃) (sem 𝓤 H A Own₃))
-    own-twice = twices 𝓤 H A W Ts (shr-slice-copy 𝓤 H A W (named 0) κ u8, (uint-copy 𝓤 H A W w16, (shr-slice-copy 𝓤 H A W (named 1) κ′ u8, tt))) (t, (id, (r, tt))) _
+    own-twice =
+        twices 𝓤 H A W Ts (shr-slice-copy 𝓤 H A W (named 0) κ u8, (uint-copy 𝓤 H A W w16, (shr-slice-copy 𝓤 H A W (named 1) κ′ u8, tt)))
+        (t, (id, (r, tt))) _
 
-    pub lends : ent 𝓤 (⋆ 𝓤 H A (tokens κ q κ′ q′ ∷ ‵ Own₃ ∷ [])) (sep 𝓤 (sep 𝓤 (⋆ 𝓤 H A (tokens κ q κ′ q′ ∷ ‵ Own₃ ∷ [])) (emp 𝓤)) (sem 𝓤 H A Own₃))
+    pub lends : ent 𝓤 (⋆ 𝓤 H A (tokens κ q κ′ q′ ∷ ‵ Own₃ ∷ []))
+        (sep 𝓤 (sep 𝓤 (⋆ 𝓤 H A (tokens κ q κ′ q′ ∷ ‵ Own₃ ∷ [])) (emp 𝓤)) (sem 𝓤 H A Own₃))
     lends =
         qed W (tokens κ q κ′ q′ ∷ ‵ Own₃ ∷ []) ∵ move ! (1 ∷ []) $ use1 W (‵ Own₃ ⊛ ‵ Own₃) own-twice $ split ! $ move ! (2 ∷ 0 ∷ []) $
-        use2 W (raw (sep 𝓤 (⋆ 𝓤 H A (tokens κ q κ′ q′ ∷ ‵ Own₃ ∷ [])) (emp 𝓤))) (qed W (tokens κ q κ′ q′ ∷ ‵ Own₃ ∷ []) ∵ join ! $ frame ! $ done !) $ frame ! $ done !
+        use2 W (raw (sep 𝓤 (⋆ 𝓤 H A (tokens κ q κ′ q′ ∷ ‵ Own₃ ∷ [])) (emp 𝓤)))
+        (qed W (tokens κ q κ′ q′ ∷ ‵ Own₃ ∷ []) ∵ join ! $ frame ! $ done !) $ frame ! $ done !
 
 -- the machine value of a reader of two
 abbrev pub pairAt : Val → Val → Val
@@ -107,18 +113,25 @@ module _ (α : NamedLft) where
 
   module _ {M : Type 1} (𝓤 : URA M) (H : Heap 𝓤) (A : Atoms 𝓤) (W : Given 𝓤 H A) where
     -- what a reader owns is kept, and its parts' is had beside it
-    pub apart : (d : Reader) → ent 𝓤 (sem 𝓤 H A (B .own d (readerAt d ∷ []))) (sep 𝓤 (sem 𝓤 H A (Parts (d .«record») (d .place) (sliceAt (d .«record»)) (placeAt (d .place)))) (sem 𝓤 H A (B .own d (readerAt d ∷ []))))
+    pub apart : (d : Reader)
+        → ent 𝓤 (sem 𝓤 H A (B .own d (readerAt d ∷ [])))
+        (sep 𝓤 (sem 𝓤 H A (Parts (d .«record») (d .place) (sliceAt (d .«record»)) (placeAt (d .place))))
+        (sem 𝓤 H A (B .own d (readerAt d ∷ []))))
     apart d =
         qed W (‵ (B .own d (readerAt d ∷ [])) ∷ []) ∵
-        use1 W (‵ (B .own d (readerAt d ∷ [])) ⊛ ‵ (B .own d (readerAt d ∷ []))) (LL.copy D (T′.the-copy α) 𝓤 H A W .twice d (readerAt d ∷ [])) $ split ! $
-        use1 W (given (readerAt d ∷ [] ≡ readerAt d ∷ []) (‵ (all-own (D .parts) L (d .«record», (d .place, tt))))) (own-open 𝓤 H A W D L (d .«record», (d .place, tt)) (readerAt d)) $ learn ! (λ _. frame ! $ done !)
+        use1 W (‵ (B .own d (readerAt d ∷ [])) ⊛ ‵ (B .own d (readerAt d ∷ [])))
+        (LL.copy D (T′.the-copy α) 𝓤 H A W .twice d (readerAt d ∷ [])) $ split ! $
+        use1 W (given (readerAt d ∷ [] ≡ readerAt d ∷ []) (‵ (all-own (D .parts) L (d .«record», (d .place, tt)))))
+        (own-open 𝓤 H A W D L (d .«record», (d .place, tt)) (readerAt d)) $ learn ! (λ _. frame ! $ done !)
 
     -- a reader that is made owns what its parts own
-    pub made : (r : RefT (List ℕ)) (o : Opened) (v u : Val) → ent 𝓤 (sem 𝓤 H A (Parts r o v u)) (sem 𝓤 H A (B .own (record { «record» = r; place = o }) (pairAt v u ∷ [])))
+    pub made : (r : RefT (List ℕ)) (o : Opened) (v u : Val)
+        → ent 𝓤 (sem 𝓤 H A (Parts r o v u)) (sem 𝓤 H A (B .own (record { «record» = r; place = o }) (pairAt v u ∷ [])))
     made r o v u =
         qed W (‵ (Parts r o v u) ∷ []) ∵
         feqI ! (List Val) (pairAt v u ∷ []) (pairAt v u ∷ []) refl $ fjoin ! $
-        fpack ! (Valss (fields D)) (within (shape D) (D .to (record { «record» = r; place = o })) (pairAt v u ∷ [])) (v ∷ [], (u ∷ [], tt)) $ done !
+        fpack ! (Valss (fields D)) (within (shape D) (D .to (record { «record» = r; place = o })) (pairAt v u ∷ []))
+        (v ∷ [], (u ∷ [], tt)) $ done !
 
     -- the machine values have their types: a reader's, its place's, and that of a reader that is made
     pub typed : (d : Reader) → Is B d (readerAt d ∷ []) → Holds (hasTy (T′.mir (α .mir)) (readerAt d)) × WT (readerAt d)
@@ -132,4 +145,6 @@ module _ (α : NamedLft) where
 
     pub made-typed : (r : RefT (List ℕ)) (o : Opened) (v u : Val) → Is (ShrSlice (α .mir) (α .lft) u8) r (v ∷ []) → Is O.the-row o (u ∷ [])
         → Holds (hasTy (T′.mir (α .mir)) (pairAt v u)) × WT (pairAt v u)
-    made-typed r o v u p e = LL.lawful D L 𝓤 H A W .typed (record { «record» = r; place = o }) (pairAt v u ∷ []) ((v ∷ [], (u ∷ [], tt)), (refl, (p, (e, tt)))) .0
+    made-typed r o v u p e =
+        LL.lawful D L 𝓤 H A W .typed (record { «record» = r; place = o }) (pairAt v u ∷ [])
+        ((v ∷ [], (u ∷ [], tt)), (refl, (p, (e, tt)))) .0

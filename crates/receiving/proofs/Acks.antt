@@ -62,11 +62,13 @@ acked-choice : (p : Settings) (d : Delivery) (n : ℕ) → d .active ≡ chosen 
 unfolding acknowledged
 acked-choice p d n e = go (eqb n 0)
   where
-    go : (b : Bool) → let g = cond b (withCounts d 0 (d .reached) (d .timer)) (withCounts d (d .sent - n) (d .reached - n) 0) in g .active ≡ chosen p g
+    go : (b : Bool) → let g = cond b (withCounts d 0 (d .reached) (d .timer)) (withCounts d (d .sent - n) (d .reached - n) 0) in
+        g .active ≡ chosen p g
     go true = e
     go false = e
 
-acked-counts : (d : Delivery) (n : ℕ) → withCounts d (acknowledged n d .sent) (acknowledged n d .reached) (acknowledged n d .timer) ≡ acknowledged n d
+acked-counts : (d : Delivery) (n : ℕ)
+    → withCounts d (acknowledged n d .sent) (acknowledged n d .reached) (acknowledged n d .timer) ≡ acknowledged n d
 unfolding acknowledged
 acked-counts d n = go (eqb n 0)
   where
@@ -103,22 +105,33 @@ module _ (enc : Encoding) (v dsn config : ℕ) (s : State) where
   unfolding answer
   ack-unsound e = rw e
 
-  pub ack-judged : sound s ≡ true → answer enc 0 (ack v dsn config) s [] ≡ judge (ackChecks (s .settings) (s .delivery) v config (namedIn (enc .width) s dsn))
+  pub ack-judged : sound s ≡ true
+      → answer enc 0 (ack v dsn config) s [] ≡ judge (ackChecks (s .settings) (s .delivery) v config (namedIn (enc .width) s dsn))
   unfolding answer checks ackCount
   ack-judged e = rw e
 
-  pub answered-ack : (a : ℕ) → sound s ≡ true → a ≡ judge (ackChecks (s .settings) (s .delivery) v config (namedIn (enc .width) s dsn)) → answer enc 0 (ack v dsn config) s [] ≡ a
+  pub answered-ack : (a : ℕ) → sound s ≡ true → a ≡ judge (ackChecks (s .settings) (s .delivery) v config (namedIn (enc .width) s dsn))
+      → answer enc 0 (ack v dsn config) s [] ≡ a
   answered-ack a e q = ack-judged e ∙ sym q
 
   pub refused-ack : (a : ℕ) (r : AckChange) → (a ≡ done → ⊥) → answer enc 0 (ack v dsn config) s [] ≡ a
-      → r ≡ record { answer = a; released = 0; start = s .start; sent = s .delivery .sent; reached = s .delivery .reached; timer = s .delivery .timer }
+      → r ≡ record {
+        answer = a;
+        released = 0;
+        start = s .start;
+        sent = s .delivery .sent;
+        reached = s .delivery .reached;
+        timer = s .delivery .timer;
+      }
       → r ≡ ackChangeOf (namedIn (enc .width) s dsn) (step enc 0 (ack v dsn config) s [])
   refused-ack a r h e k = rw (step-refused enc 0 (ack v dsn config) s [] a h e, ne-eqb a done h) k
 
   -- the servers stay, and so does the choice
   pub ack-settled : sound s ≡ true → settled (after (enc .width) (ack v dsn config) s) ≡ after (enc .width) (ack v dsn config) s
   unfolding after
-  ack-settled e = settled-same (after (enc .width) (ack v dsn config) s) (acked-choice (s .settings) (s .delivery) (ackCount (enc .width) s dsn) (sound-facts s e .choice))
+  ack-settled e =
+      settled-same (after (enc .width) (ack v dsn config) s)
+      (acked-choice (s .settings) (s .delivery) (ackCount (enc .width) s dsn) (sound-facts s e .choice))
 
   pub accepted-ack : (r : AckChange) → sound s ≡ true → answer enc 0 (ack v dsn config) s [] ≡ done
       → r ≡ record {
@@ -142,7 +155,8 @@ module _ (enc : Encoding) (v dsn config : ℕ) (s : State) where
       go false k = let z : _≡_ {A = ℕ} 1 0 = sym (ack-unsound k) ∙ e in absurd (omega arith)
 
   -- an accepted one releases records that are held
-  pub ack-held : answer enc 0 (ack v dsn config) s [] ≡ done → (namedIn (enc .width) s dsn ≤ s .queue .count) × (namedIn (enc .width) s dsn ≤ 64)
+  pub ack-held : answer enc 0 (ack v dsn config) s [] ≡ done
+      → (namedIn (enc .width) s dsn ≤ s .queue .count) × (namedIn (enc .width) s dsn ≤ 64)
   ack-held e =
       let f = sound-facts s (ack-sound e) .numbers in
       let g = ack-reached (s .settings) (s .delivery) v config (namedIn (enc .width) s dsn) done (sym e ∙ ack-judged (ack-sound e)) refl in
@@ -152,7 +166,9 @@ module _ (enc : Encoding) (v dsn config : ℕ) (s : State) where
 
 -- the parts of a state that a DATA ACK looks at
 abbrev ackParts : State → State
-ackParts s = stateOf (s .settings) (s .capacity) (s .delivery) (s .due) (s .queue .count) (s .queue .lengths) [] (s .queue .receivers) (s .start) (s .next)
+ackParts s =
+    stateOf (s .settings) (s .capacity) (s .delivery) (s .due) (s .queue .count) (s .queue .lengths) [] (s .queue .receivers) (s .start)
+    (s .next)
 
 -- soundness looks at neither the template IDs nor the next DSN
 pub ack-sound-parts : (s : State) → sound (partsIn s) ≡ sound (ackParts s)
@@ -223,7 +239,8 @@ module _ (enc : Encoding) (v dsn config : ℕ) (s : State) where
 -- ---- the output
 
 -- a DATA ACK looks at no output and writes none
-pub ack-wrote : (enc : Encoding) (room v dsn config : ℕ) (s : State) (out : List ℕ) (r : Wrote) → r ≡ wroteOf (step enc 0 (ack v dsn config) s [])
+pub ack-wrote : (enc : Encoding) (room v dsn config : ℕ) (s : State) (out : List ℕ) (r : Wrote)
+    → r ≡ wroteOf (step enc 0 (ack v dsn config) s [])
     → (r ≡ wroteOf (step enc room (ack v dsn config) s [])) × (out ≡ outputAfter out (step enc room (ack v dsn config) s []))
 unfolding step answer checks written
 ack-wrote enc room v dsn config s out r e = (e, go (eqb (answer enc room (ack v dsn config) s []) done) refl)
@@ -231,4 +248,5 @@ ack-wrote enc room v dsn config s out r e = (e, go (eqb (answer enc room (ack v 
     go : (b : Bool) → eqb (answer enc room (ack v dsn config) s []) done ≡ b → out ≡ outputAfter out (step enc room (ack v dsn config) s [])
     go true q = rw (step-done enc room (ack v dsn config) s [] (eqb-true (answer enc room (ack v dsn config) s []) done q))
     go false q =
-        rw (step-refused enc room (ack v dsn config) s [] (answer enc room (ack v dsn config) s []) (eqb-false (answer enc room (ack v dsn config) s []) done q) refl)
+        rw (step-refused enc room (ack v dsn config) s [] (answer enc room (ack v dsn config) s [])
+        (eqb-false (answer enc room (ack v dsn config) s []) done q) refl)

@@ -10,7 +10,8 @@ use lib.Dec.{eqb}
 use lib.ListN.{length}
 use Rattle.octets.specs.Answers.{Check, _when_, judge, done, otherSession, messageNotAccepted, bodyLengthWrong}
 use Rattle.octets.proofs.Judging.{judged-first, judged-next}
-use Rattle.wire.specs.Messages.{headerChecks, headerAnswer, headerOf, headerAnswerFor, headerReadingFor, headerOctets, readAnswer, readOf, sessionOf, messageNumber, isMessage, bodyFits, meaningOf, tmplData}
+use Rattle.wire.specs.Messages.{headerChecks, headerAnswer, headerOf, headerAnswerFor, headerReadingFor, headerOctets, readAnswer, readOf}
+use Rattle.wire.specs.Messages.{sessionOf, messageNumber, isMessage, bodyFits, meaningOf, tmplData}
 use Rattle.messages.specs.declared.message.Message.{Message}
 use Rattle.headers.specs.declared.header.Header.{Header}
 use Rattle.headers.specs.declared.header.HeaderReading.the-variants as header
@@ -48,7 +49,8 @@ accepted n e =
     or-cases (eqb n 0x01 || eqb n 0x03 || eqb n 0x13 || eqb n 0x18) (eqb n 0x21) (Accepted n)
     (or-cases (eqb n 0x01 || eqb n 0x03 || eqb n 0x13) (eqb n 0x18) (Accepted n)
     (or-cases (eqb n 0x01 || eqb n 0x03) (eqb n 0x13) (Accepted n)
-    (or-cases (eqb n 0x01) (eqb n 0x03) (Accepted n) (is 0x01 (record { known = refl; plain = refl })) (is 0x03 (record { known = refl; plain = refl })))
+    (or-cases (eqb n 0x01) (eqb n 0x03) (Accepted n) (is 0x01 (record { known = refl; plain = refl }))
+    (is 0x03 (record { known = refl; plain = refl })))
     (is 0x13 (record { known = refl; plain = refl })))
     (is 0x18 (record { known = refl; plain = refl })))
     (is 0x21 (record { known = refl; plain = refl }))
@@ -70,7 +72,8 @@ module _ (p : Settings) (v : ℕ) (m : List ℕ) where
   unfolding received readOf
   by-reading e = rw e (go (eqb (readAnswer m) done) (meaningOf m) (readAnswer m))
     where
-      go : (b : Bool) (x : Message) (a : ℕ) → callOfReading v (cond b (reading.Message x) (reading.Refused a)) ≡ cond b (callOfMessage v x) (move v (malformed a))
+      go : (b : Bool) (x : Message) (a : ℕ)
+          → callOfReading v (cond b (reading.Message x) (reading.Refused a)) ≡ cond b (callOfMessage v x) (move v (malformed a))
       go true x a = refl
       go false x a = refl
 

@@ -22,7 +22,8 @@ use Rattle.field_types.proofs.TypeFacts.{number-width, signed-number}
 use Rattle.tables.specs.Table.{tableOrder, keyAt, keyType, templateOf, findAnswer}
 use Rattle.tables.specs.declared.table.Template.{Template}
 use Rattle.records.specs.Record.{fieldLength}
-use Rattle.records.specs.Walk.{signedAt, valueAt, integerOf, twosComplementAt, integerAt, fieldOf, nextKey, stepUnder, stepJudged, stepOf, stepAnswer, Exact}
+use Rattle.records.specs.Walk.{signedAt, valueAt, integerOf, twosComplementAt, integerAt, fieldOf, nextKey, stepUnder, stepJudged}
+use Rattle.records.specs.Walk.{stepOf, stepAnswer, Exact}
 use Rattle.records.specs.declared.walk.Value.the-variants as value
 use Rattle.records.specs.declared.walk.Cursor.{Cursor}
 use Rattle.records.specs.declared.walk.Step.{Step}
@@ -52,7 +53,8 @@ module _ (r : List ℕ) (at w : ℕ) (octet : (i : ℕ) → i < suc w → getD r
 
   -- the most significant one weighs 256 to the w, and the others make less than that
   high-weighs : (order : OctetOrder)
-      → (uintIn order r at (suc w) ≡ high order * 256 ^ w + uintIn order r (lowAt order at 1) w) × (uintIn order r (lowAt order at 1) w < 256 ^ w)
+      → (uintIn order r at (suc w) ≡ high order * 256 ^ w + uintIn order r (lowAt order at 1) w)
+      × (uintIn order r (lowAt order at 1) w < 256 ^ w)
   high-weighs order =
       let n : suc w ≡ 1 + w = omega arith in
       let low = uintIn order r (lowAt order at 1) w in (
@@ -82,7 +84,8 @@ module _ (r : List ℕ) (at w : ℕ) (octet : (i : ℕ) → i < suc w → getD r
       go : (b : Bool) → leb 128 (high order) ≡ b → integerOf (signedAt order r at (suc w)) ≡ some (cond b (subℕ u (256 ^ suc w)) (pos u))
       go true e =
           let below = uint-in-within order r at (suc w) octet in
-          rw (le-ltb (2 * u) (256 ^ suc w) (half-set order e)) (ap some (minus (256 ^ suc w - u) u (256 ^ suc w) (omega arith) (omega arith)))
+          rw (le-ltb (2 * u) (256 ^ suc w) (half-set order e))
+          (ap some (minus (256 ^ suc w - u) u (256 ^ suc w) (omega arith) (omega arith)))
       go false e = rw (lt-ltb (2 * u) (256 ^ suc w) (half-clear order e))
 
 -- THE LAW OF EXACT VALUES, for every type, where the octets of its width are below 256
@@ -94,7 +97,8 @@ exact-value order type r at octet = go (isSigned type) refl (isNumber type)
     o : OctetOrder
     o = fieldOrder order type
 
-    signed : (w : ℕ) → 1 ≤ w → ((i : ℕ) → i < w → getD r (at + i) 0 < 256) → integerOf (signedAt o r at w) ≡ some (twosComplementAt o r at w)
+    signed : (w : ℕ) → 1 ≤ w → ((i : ℕ) → i < w → getD r (at + i) 0 < 256)
+        → integerOf (signedAt o r at w) ≡ some (twosComplementAt o r at w)
     signed zero h below = absurd (omega arith)
     signed (suc w) h below = signed-exact r at w below o
 
@@ -109,7 +113,8 @@ exact-value order type r at octet = go (isSigned type) refl (isNumber type)
 pub step-exact : (t : List ℕ) (id : ℕ) (r : List ℕ) (c : Cursor) → Octets r → Exact t r (stepOf t id r c)
 unfolding stepOf stepUnder
 step-exact t id r c octet =
-    go (eqb (findAnswer t id) done) (leb (m .count) k) (eqb (fieldLength order type r (c .at)) 0) (exact-value order type r (c .at) (λ i l. octet (c .at + i)))
+    go (eqb (findAnswer t id) done) (leb (m .count) k) (eqb (fieldLength order type r (c .at)) 0)
+    (exact-value order type r (c .at) (λ i l. octet (c .at + i)))
   where
     order : OctetOrder
     order = tableOrder t
@@ -141,7 +146,8 @@ pub stepped : (t : List ℕ) (id : ℕ) (r : List ℕ) (c : Cursor) (s : Step) �
 stepped t id r c s octet e = (answered (step-number t id r c) e, rw e (step-exact t id r c octet))
 
 -- where no number is read, the octets hold no integer, whatever they are
-pub no-integer : (order : OctetOrder) (type : ℕ) (r : List ℕ) (at : ℕ) → valueAt order type r at ≡ value.Octets → integerAt order type r at ≡ none
+pub no-integer : (order : OctetOrder) (type : ℕ) (r : List ℕ) (at : ℕ) → valueAt order type r at ≡ value.Octets
+    → integerAt order type r at ≡ none
 unfolding valueAt signedAt integerAt
 no-integer order type r at = go (isSigned type) (ltb (2 * u) (256 ^ widthOf type)) (isNumber type)
   where
@@ -151,7 +157,8 @@ no-integer order type r at = go (isSigned type) (ltb (2 * u) (256 ^ widthOf type
     u : ℕ
     u = uintIn o r at (widthOf type)
 
-    go : (s low n : Bool) → cond s (cond low (value.Number u) (value.Negative (256 ^ widthOf type - u))) (cond n (value.Number u) value.Octets) ≡ value.Octets
+    go : (s low n : Bool) → cond s (cond low (value.Number u) (value.Negative (256 ^ widthOf type - u)))
+        (cond n (value.Number u) value.Octets) ≡ value.Octets
         → cond s (some (twosComplementAt o r at (widthOf type))) (cond n (some (pos u)) none) ≡ none
     go true true n e = let y : _≡_ {A = ℕ} 0 1 = cc in absurd (omega arith)
     go true false n e = let y : _≡_ {A = ℕ} 0 1 = cc in absurd (omega arith)

@@ -18,7 +18,8 @@ use Rattle.tables.specs.declared.table.Template.{Template}
 use Rattle.records.proofs.FieldsWithin.{field-within}
 
 -- a field of a fixed width has its length under a table of any order
-pub fixed-length : (order : OctetOrder) (type : ℕ) (r : List ℕ) (at : ℕ) → 0 < widthOf type → fixedLength type r at ≡ fieldLength order type r at
+pub fixed-length : (order : OctetOrder) (type : ℕ) (r : List ℕ) (at : ℕ) → 0 < widthOf type
+    → fixedLength type r at ≡ fieldLength order type r at
 unfolding fieldLength
 fixed-length order type r at some = rw (lt-ltb 0 (widthOf type) some)
 
@@ -35,7 +36,8 @@ pub invalid-field : (due : Bool) (n : ℕ) → due && eqb n 0 ≡ true → not d
 invalid-field true n e = let h : n ≡ 0 = eqb-true n 0 e in rw h
 invalid-field false n e = absurd (false≢true e)
 
-pub field-at-more : (t : List ℕ) (m : Template) (r : List ℕ) (k : ℕ) → fieldAt t m r (k + 1) ≡ fieldAt t m r k + lengthUnder t m r k (fieldAt t m r k)
+pub field-at-more : (t : List ℕ) (m : Template) (r : List ℕ) (k : ℕ)
+    → fieldAt t m r (k + 1) ≡ fieldAt t m r k + lengthUnder t m r k (fieldAt t m r k)
 unfolding fieldAt
 field-at-more t m r k = rw add-one refl
 

@@ -17,7 +17,8 @@ use Rattle.octets.specs.Each.{every}
 use Rattle.tables.specs.Table.{tableOrder, keyAt, keyType, isEnabled, tableSound, isMissing, templateOf, templateChecks, findAnswer}
 use Rattle.records.specs.Record.{fieldLength, lengthUnder, fieldAt, fieldValid, recordValid, recordAnswer}
 use Rattle.records.specs.Walk.{fieldOf, stepJudged, openAnswer, stepAnswer}
-use Rattle.records.specs.Walk.{nextKey, stepUnder, stepOf, walkStart, openOf, afterStep, visited, lastCursor, lastAnswer, laidOut, enabledFrom, enabledKeys, enabledTypes, fieldUnder}
+use Rattle.records.specs.Walk.{nextKey, stepUnder, stepOf, walkStart, openOf, afterStep, visited, lastCursor, lastAnswer, laidOut}
+use Rattle.records.specs.Walk.{enabledFrom, enabledKeys, enabledTypes, fieldUnder}
 use Rattle.tables.specs.declared.table.Template.{Template}
 use Rattle.records.specs.declared.walk.Field.{Field}
 use Rattle.records.specs.declared.walk.Cursor.{Cursor}
@@ -54,7 +55,8 @@ module _ (walk : Cursor → Step) (n : ℕ) where
   end-last c e = ap (afterStep (λ f b. lastCursor walk n b) c) e
 
   -- what holds of the last cursor from d holds of that from c, where it does of d and c themselves
-  same-last : (P : Cursor → Type 0) (c d : Cursor) → walk c ≡ walk d → (P d → P c) → P (lastCursor walk (suc n) d) → P (lastCursor walk (suc n) c)
+  same-last : (P : Cursor → Type 0) (c d : Cursor) → walk c ≡ walk d → (P d → P c) → P (lastCursor walk (suc n) d)
+      → P (lastCursor walk (suc n) c)
   unfolding lastCursor
   same-last P c d e turn p = rw e (go (walk d) p)
     where
@@ -73,16 +75,16 @@ at-end walk zero c e = (refl, e)
 at-end walk (suc n) c e = (rw e, rw e e)
 
 -- a walk that ends does so with every number of steps that is enough for its fields
-pub ends-with-enough : (walk : Cursor → Step) (more n : ℕ) (c : Cursor) → lastAnswer walk more c ≡ step.End → length (visited walk more c) ≤ n
-    → Ends walk n c (visited walk more c)
+pub ends-with-enough : (walk : Cursor → Step) (more n : ℕ) (c : Cursor) → lastAnswer walk more c ≡ step.End
+    → length (visited walk more c) ≤ n → Ends walk n c (visited walk more c)
 unfolding visited lastCursor
 ends-with-enough walk zero n c e h = at-end walk n c e
 ends-with-enough walk (suc more) n c e h = go n (walk c) refl e h (λ n d. ends-with-enough walk more n d)
   where
     go : (n : ℕ) (s : Step) → walk c ≡ s → walk (afterStep (λ f d. lastCursor walk more d) c s) ≡ step.End
         → length (afterStep (λ f d. f ∷ visited walk more d) [] s) ≤ n
-        → ((n : ℕ) (d : Cursor) → lastAnswer walk more d ≡ step.End → length (visited walk more d) ≤ n → Ends walk n d (visited walk more d))
-        → Ends walk n c (afterStep (λ f d. f ∷ visited walk more d) [] s)
+        → ((n : ℕ) (d : Cursor) → lastAnswer walk more d ≡ step.End → length (visited walk more d) ≤ n
+        → Ends walk n d (visited walk more d)) → Ends walk n c (afterStep (λ f d. f ∷ visited walk more d) [] s)
     go zero (step.Next f d) q e h rest = absurd (omega arith)
     go (suc n) (step.Next f d) q e h rest = let w = rest n d e (omega arith) in (rw (q, w .0), rw q (w .1))
     go n step.End q e h rest = at-end walk n c q
@@ -101,7 +103,8 @@ pub record Walked (walk : Cursor → Step) (r : List ℕ) (n : ℕ) (c : Cursor)
 abbrev cursorAt : List ℕ → Template → List ℕ → ℕ → Cursor
 cursorAt t m r k = record { index = k; at = fieldAt t m r k }
 
-field-next : (t : List ℕ) (m : Template) (r : List ℕ) (k : ℕ) → fieldAt t m r (k + 1) ≡ fieldAt t m r k + lengthUnder t m r k (fieldAt t m r k)
+field-next : (t : List ℕ) (m : Template) (r : List ℕ) (k : ℕ)
+    → fieldAt t m r (k + 1) ≡ fieldAt t m r k + lengthUnder t m r k (fieldAt t m r k)
 unfolding fieldAt
 field-next t m r k = rw add-one refl
 
@@ -129,7 +132,8 @@ module _ (t : List ℕ) (m : Template) (r : List ℕ) (k : ℕ) where
       let type = keyType t (keyAt (m .keys) k) in
       let at = fieldAt t m r k in
       let some : ltb 0 (fieldLength (tableOrder t) type r at) ≡ true =
-      rw on at (every-at (m .count) (fieldValid t m r) (and-left (every (m .count) (fieldValid t m r)) (eqb (fieldAt t m r (m .count)) (length r)) valid) k h) in
+      rw on at (every-at (m .count) (fieldValid t m r)
+      (and-left (every (m .count) (fieldValid t m r)) (eqb (fieldAt t m r (m .count)) (length r)) valid) k h) in
       let p : fieldAt t m r (k + 1) ≡ at + fieldLength (tableOrder t) type r at = field-next t m r k ∙ rw on in
       rw (
         first-here k (m .count - k) (λ k. isEnabled t (keyAt (m .keys) k)) (omega arith) on,
@@ -244,7 +248,9 @@ step-number t id r c = go (tableSound t) (isMissing t id) (leb (m .count) k) (eq
     go : (sound missing last none : Bool)
         → stepAnswer
         (cond (eqb (judged sound missing done) done)
-        (cond last step.End (cond none (step.Refused recordInvalid) (step.Next (fieldOf (tableOrder t) type r (c .at)) (record { index = k + 1; at = c .at + fieldLength (tableOrder t) type r (c .at) }))))
+        (cond last step.End (cond none (step.Refused recordInvalid)
+        (step.Next (fieldOf (tableOrder t) type r (c .at))
+        (record { index = k + 1; at = c .at + fieldLength (tableOrder t) type r (c .at) }))))
         (step.Refused (judged sound missing done)))
         ≡ judged sound missing (cond (not last && none) recordInvalid done)
     go false missing last none = refl
@@ -256,7 +262,8 @@ step-number t id r c = go (tableSound t) (isMissing t id) (leb (m .count) k) (eq
 -- ---- the same of the public calls
 
 -- a valid record under a template that is found is not refused
-pub found-valid : (t : List ℕ) (id : ℕ) (r : List ℕ) → findAnswer t id ≡ done → recordValid t (templateOf t id) r ≡ true → recordAnswer t id r ≡ done
+pub found-valid : (t : List ℕ) (id : ℕ) (r : List ℕ) → findAnswer t id ≡ done → recordValid t (templateOf t id) r ≡ true
+    → recordAnswer t id r ≡ done
 unfolding recordAnswer
 found-valid t id r found valid =
     judged-next (templateChecks t id) ((recordInvalid when not (recordValid t (templateOf t id) r)) ∷ []) tt found ∙ rw valid
@@ -288,7 +295,8 @@ open-accepts t id r c h = go (tableSound t) refl (isMissing t id) refl (recordVa
     go false e m f v g h = let y : _≡_ {A = ℕ} 0 1 = cc in absurd (omega arith)
 
 -- its steps are those under its template
-pub step-under : (t : List ℕ) (id : ℕ) (r : List ℕ) → tableSound t ≡ true → isMissing t id ≡ false → stepOf t id r ≡ stepUnder t (templateOf t id) r
+pub step-under : (t : List ℕ) (id : ℕ) (r : List ℕ) → tableSound t ≡ true → isMissing t id ≡ false
+    → stepOf t id r ≡ stepUnder t (templateOf t id) r
 unfolding stepOf
 step-under t id r sound known = fun-ext (λ c. rw (sound, known))
 

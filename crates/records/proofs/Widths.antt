@@ -50,4 +50,5 @@ pub half-test : (n w : ℕ) → leb n ((256 ^ w - 1) / 2) ≡ ltb (2 * n) (256 ^
 half-test n w = same-test n ((256 ^ w - 1) / 2) (suc (2 * n)) (256 ^ w) (λ h. omega (arith, pow-above w)) (λ h. omega arith)
 
 pub size-test : (n w : ℕ) → 1 ≤ w → leb n ((256 ^ w - 1) / 2 + 1) ≡ leb (2 * n) (256 ^ w)
-size-test n w h = same-test n ((256 ^ w - 1) / 2 + 1) (2 * n) (256 ^ w) (λ k. omega (arith, pow-above w, pow-even w h)) (λ k. omega (arith, pow-even w h))
+size-test n w h =
+    same-test n ((256 ^ w - 1) / 2 + 1) (2 * n) (256 ^ w) (λ k. omega (arith, pow-above w, pow-even w h)) (λ k. omega (arith, pow-even w h))

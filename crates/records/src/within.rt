@@ -1,5 +1,6 @@
-// Numbers at a place that is known to lie within the octets: as `octets::get_u16` and `octets::get_u32`, without their tests for the end,
-// since every key and field of a record is read this way (docs/SPEED.md). Only this crate sees them.
+// Numbers at a place that is known to lie within the octets: as `octets::get_u16` and `octets::get_u32`, and one of 32 bits in either
+// order, without their tests for the end, since every key of a table and every length in a record is read this way (docs/SPEED.md). Only
+// this crate sees them.
 ghost use mathlib.Core.Path.{_≡_};
 ghost use Prim.Native.Nat.{_+_, _≤_};
 ghost use lib.ListN.{length};

@@ -23,7 +23,8 @@ use Rattle.wire.specs.Replies.{crane, layout}
 use Rattle.session.specs.Servers.{withCounts, sentOne}
 use Rattle.session.specs.Queue.{ringRead, recordAt, octetsTo, markedSet, marked}
 use Rattle.session.specs.Sound.{sound}
-use Rattle.session.specs.Steps.{Outcome, headOf, sendChecks, nextData, answer, checks, soundFor, after, settled, written, nextDataStep, wroteOf, outputAfter}
+use Rattle.session.specs.Steps.{Outcome, headOf, sendChecks, nextData, answer, checks, soundFor, after, settled, written, nextDataStep}
+use Rattle.session.specs.Steps.{wroteOf, outputAfter}
 use Rattle.sending.specs.Sendings.{SendFacts, sendingOf}
 use Rattle.soundness.specs.Parts.{stateOf}
 use Rattle.sending.specs.declared.next_data.Sending.{Sending}
@@ -44,7 +45,8 @@ pub head-octets : (n room k : ℕ) → n ≤ 1024 → headWriteOf n room ≡ Oct
 unfolding headWriteOf headWriteAnswer
 head-octets n room k h e = go (ltb room (16 + n)) refl (rw (le-ltb 1024 n h) at e)
   where
-    go : (b : Bool) → ltb room (16 + n) ≡ b → cond (eqb (cond b 12 0) 0) (Octets (16 + n)) (Refused (cond b 12 0)) ≡ Octets k → (k ≡ 16 + n) × (16 + n ≤ room)
+    go : (b : Bool) → ltb room (16 + n) ≡ b → cond (eqb (cond b 12 0) 0) (Octets (16 + n)) (Refused (cond b 12 0)) ≡ Octets k
+        → (k ≡ 16 + n) × (16 + n ≤ room)
     go true t x = let z : _≡_ {A = ℕ} 0 1 = cc in absurd (omega arith)
     go false t x = (cc, ltb-false room (16 + n) t)
 
@@ -53,16 +55,19 @@ pub head-refused : (n room a : ℕ) → n ≤ 1024 → headWriteOf n room ≡ Re
 unfolding headWriteOf headWriteAnswer
 head-refused n room a h e = go (ltb room (16 + n)) refl (rw (le-ltb 1024 n h) at e)
   where
-    go : (b : Bool) → ltb room (16 + n) ≡ b → cond (eqb (cond b 12 0) 0) (Octets (16 + n)) (Refused (cond b 12 0)) ≡ Refused a → (a ≡ 12) × (room < 16 + n)
+    go : (b : Bool) → ltb room (16 + n) ≡ b → cond (eqb (cond b 12 0) 0) (Octets (16 + n)) (Refused (cond b 12 0)) ≡ Refused a
+        → (a ≡ 12) × (room < 16 + n)
     go true t x = (cc, ltb-true room (16 + n) t)
     go false t x = let z : _≡_ {A = ℕ} 0 1 = cc in absurd (omega arith)
 
-pub head-out : (h : DataHead) (n : ℕ) (out : List ℕ) → n ≤ 1024 → 16 + n ≤ length out → headWriteOut h n out ≡ sets out 0 (dataHeadOctets h n)
+pub head-out : (h : DataHead) (n : ℕ) (out : List ℕ) → n ≤ 1024 → 16 + n ≤ length out
+    → headWriteOut h n out ≡ sets out 0 (dataHeadOctets h n)
 unfolding headWriteOut headWriteAnswer
 head-out h n out l r = rw (le-ltb 1024 n l, le-ltb (length out) (16 + n) r)
 
 -- it leaves the output's length
-pub head-room : (h : DataHead) (n : ℕ) (out mid : List ℕ) → mid ≡ headWriteOut h n out → n ≤ 1024 → 16 + n ≤ length out → 16 + n ≤ length mid
+pub head-room : (h : DataHead) (n : ℕ) (out mid : List ℕ) → mid ≡ headWriteOut h n out → n ≤ 1024 → 16 + n ≤ length out
+    → 16 + n ≤ length mid
 head-room h n out mid e l r = rw (e, head-out h n out l r, length-sets out 0 (dataHeadOctets h n)) r
 
 pub head-kept : (h : DataHead) (n : ℕ) (out : List ℕ) → n ≤ 1024 → length out < 16 + n → headWriteOut h n out ≡ out
@@ -95,9 +100,11 @@ send-facts s store a j e =
     }
 
 -- a refusal before the room is judged is the call's
-send-refused : (s : State) (store out : List ℕ) → (sendAnswer s store ≡ 0 → ⊥) → sendAnswer s store ≡ answer crane (length out) nextData s store
+send-refused : (s : State) (store out : List ℕ) → (sendAnswer s store ≡ 0 → ⊥)
+    → sendAnswer s store ≡ answer crane (length out) nextData s store
 unfolding answer checks written
-send-refused s store out n = sym (judged-first (earlyChecks s store) ((outputTooShort when ltb (length out) (length (octetsNext s store))) ∷ []) n) ∙ rw (parts-of s)
+send-refused s store out n =
+    sym (judged-first (earlyChecks s store) ((outputTooShort when ltb (length out) (length (octetsNext s store))) ∷ []) n) ∙ rw (parts-of s)
 
 -- where there is a record to send and a server to send it to, only the output's room is judged
 answer-room : (s : State) (store out : List ℕ) → SendFacts s store
@@ -127,11 +134,12 @@ next-octets s store h room at e r a l =
     rw (e, head-parts s, r)
     (ap (layoutOf (Data (headOf 32 s)))
     (read-same (s .capacity) store at _ (getD (s .queue .lengths) (s .delivery .sent) 0)
-    (ap (λ (n : ℕ). n % s .capacity) (a ∙ start-inside (s .capacity) (s .start) (s .queue .lengths) (s .delivery .sent) l) ∙ mod-mod (s .start + octetsTo (s .queue) (s .delivery .sent)) (s .capacity))))
+    (ap (λ (n : ℕ). n % s .capacity) (a ∙ start-inside (s .capacity) (s .start) (s .queue .lengths) (s .delivery .sent) l)
+    ∙ mod-mod (s .start + octetsTo (s .queue) (s .delivery .sent)) (s .capacity))))
 
 -- the message was written
-sent-done : (s : State) (store out after' octets : List ℕ) (r : Written) (n : ℕ) → SendFacts s store → octets ≡ octetsNext s store → r ≡ Octets n
-    → Placed octets out r after'
+sent-done : (s : State) (store out after' octets : List ℕ) (r : Written) (n : ℕ) → SendFacts s store → octets ≡ octetsNext s store
+    → r ≡ Octets n → Placed octets out r after'
     → _≡_ {A = Wrote} (record { answer = 0; written = n; state = settled (after 32 nextData s) }) (wroteOf (nextDataStep s store out))
     × (after' ≡ outputAfter out (nextDataStep s store out))
 sent-done s store out after' octets r n f o q p = go (ltb (length out) (length octets)) refl (sym q ∙ p .answered)
@@ -141,13 +149,15 @@ sent-done s store out after' octets r n f o q p = go (ltb (length out) (length o
         × (after' ≡ outputAfter out (nextDataStep s store out))
     go true t x = let z : _≡_ {A = ℕ} 0 1 = cc in absurd (omega arith)
     go false t x =
-        let e = step-done crane (length out) nextData s store (answer-room s store out f ∙ ap (λ (b : Bool). cond b 12 0) (ap (λ (l : List ℕ). ltb (length out) (length l)) (sym o) ∙ t)) in
+        let e =
+        step-done crane (length out) nextData s store
+        (answer-room s store out f ∙ ap (λ (b : Bool). cond b 12 0) (ap (λ (l : List ℕ). ltb (length out) (length l)) (sym o) ∙ t)) in
         let k : n ≡ length octets = cc in
         (rw (e, k, o), rw (e, ← o) (p .left ∙ put-fits out 0 octets (omega (arith, ltb-false (length out) (length octets) t))))
 
 -- it was not: the output is too short
-sent-refused : (s : State) (store out after' octets : List ℕ) (r : Written) (a : ℕ) → SendFacts s store → octets ≡ octetsNext s store → r ≡ Refused a
-    → Placed octets out r after'
+sent-refused : (s : State) (store out after' octets : List ℕ) (r : Written) (a : ℕ) → SendFacts s store → octets ≡ octetsNext s store
+    → r ≡ Refused a → Placed octets out r after'
     → _≡_ {A = Wrote} (record { answer = a; written = 0; state = s }) (wroteOf (nextDataStep s store out))
     × (after' ≡ outputAfter out (nextDataStep s store out))
 sent-refused s store out after' octets r a f o q p = go (ltb (length out) (length octets)) refl (sym q ∙ p .answered)
@@ -172,7 +182,9 @@ sendingBy s r =
       answer = r .answer;
       written = r .written;
       place = cond accepted (s .delivery .sent) 0;
-      set = cond accepted (markedSet (s .delivery .active) (getD (s .queue .receivers) (s .delivery .sent) 0)) (getD (s .queue .receivers) 0 0);
+      set =
+          cond accepted (markedSet (s .delivery .active) (getD (s .queue .receivers) (s .delivery .sent) 0))
+          (getD (s .queue .receivers) 0 0);
       sent = r .state .delivery .sent;
       reached = r .state .delivery .reached;
       due = r .state .due;
@@ -228,7 +240,15 @@ sending-refused s store out after' octets r a x f o q p e =
     number false k = let z : _≡_ {A = ℕ} 0 1 = cc in absurd (omega arith)
 
     kept : a ≡ 12 → _≡_ {A = Sending}
-        (record { answer = a; written = 0; place = 0; set = getD (s .queue .receivers) 0 0; sent = s .delivery .sent; reached = s .delivery .reached; due = s .due })
+        (record {
+          answer = a;
+          written = 0;
+          place = 0;
+          set = getD (s .queue .receivers) 0 0;
+          sent = s .delivery .sent;
+          reached = s .delivery .reached;
+          due = s .due;
+        })
         (sendingBy s (record { answer = a; written = 0; state = s }))
     kept t = rw t
 
@@ -290,7 +310,9 @@ module _ (s : State) (store out : List ℕ) where
           let f = next-facts s store out e in
           let n = sound-facts s (f .isSound) .numbers in
           rw (step-done crane (length out) nextData s store e) (omega (arith, f .more, n .few))
-      go false q = rw (step-refused crane (length out) nextData s store _ (eqb-false (answer crane (length out) nextData s store) done q) refl, q) (omega arith)
+      go false q =
+          rw (step-refused crane (length out) nextData s store _ (eqb-false (answer crane (length out) nextData s store) done q) refl, q)
+          (omega arith)
 
   pub sending-inside : (x : Sending) → x ≡ sendingOf s (nextDataStep s store out) → x .place < 64
   sending-inside x e = rw e sending-place
@@ -314,7 +336,8 @@ module _ (s : State) (store out : List ℕ) where
             state = withSent s (sendingOf s o);
           }
 
-      go : (b : Bool) → eqb (answer crane (length out) nextData s store) done ≡ b → applied (nextDataStep s store out) ≡ wroteOf (nextDataStep s store out)
+      go : (b : Bool) → eqb (answer crane (length out) nextData s store) done ≡ b
+          → applied (nextDataStep s store out) ≡ wroteOf (nextDataStep s store out)
       go true q =
           let e = eqb-true (answer crane (length out) nextData s store) done q in
           let k = next-facts s store out e .isSound in

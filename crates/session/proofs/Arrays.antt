@@ -4,7 +4,8 @@ use mathlib.Core.Path.{_≡_, refl, sym, ap, _∙_}
 use mathlib.Core.Bool.{true, false, not, _&&_, _||_}
 use mathlib.Core.List.{List, [], _∷_, _++_, map, append-nil}
 use Prim.Native.Nat.{ℕ, zero, suc, _+_, _-_, _*_, _/_, _%_, _^_, _≤_, _<_}
-use native.Mathlib.Nat.{mod-lt, one-mul, mod-eq-of-lt, pow-le-pow-right, div-eq-of-lt, zero-lt-suc, lt-of-lt-of-le, not-suc-le-zero, le-of-suc-le-suc}
+use native.Mathlib.Nat.{mod-lt, one-mul, mod-eq-of-lt, pow-le-pow-right, div-eq-of-lt, zero-lt-suc, lt-of-lt-of-le, not-suc-le-zero}
+use native.Mathlib.Nat.{le-of-suc-le-suc}
 use native.Mathlib.Numerals.{add-one}
 use native.Mathlib.Omega.{arith}
 use lib.Bits.{bitAnd, and-zero-l, and-zero-r, and-self, and-shr, and-mod}
@@ -57,7 +58,8 @@ other-more n v m = rw add-one refl
 -- ---- entries moved to the front
 
 -- a loop that copies s over the front of d, one store a turn
-copy-suc : (d s : List ℕ) (i : ℕ) → i < length d → i < length s → set (take i s ++ drop i d) i (getD s i 0) ≡ take (suc i) s ++ drop (suc i) d
+copy-suc : (d s : List ℕ) (i : ℕ) → i < length d → i < length s
+    → set (take i s ++ drop i d) i (getD s i 0) ≡ take (suc i) s ++ drop (suc i) d
 copy-suc [] s i h g = absurd (not-suc-le-zero h)
 copy-suc (x ∷ d) [] i h g = absurd (not-suc-le-zero g)
 copy-suc (x ∷ d) (y ∷ s) zero h g = refl
@@ -77,16 +79,22 @@ moved-more a b m n i l h e =
 pub moved-all : (a : List ℕ) (m n : ℕ) → length a ≡ m → n ≤ m → take (m - n) (drop n a) ++ drop (m - n) (replicate m 0) ≡ shifted a n
 moved-all a m n e h =
     let k : m ≡ (m - n) + n = omega arith in
-    let z : replicate {A = ℕ} m 0 ≡ replicate (m - n) 0 ++ replicate n 0 = ap (λ (j : ℕ). replicate {A = ℕ} j 0) k ∙ sym (replicate-append-replicate (m - n) n 0) in
+    let z : replicate {A = ℕ} m 0 ≡ replicate (m - n) 0 ++ replicate n 0 =
+    ap (λ (j : ℕ). replicate {A = ℕ} j 0) k ∙ sym (replicate-append-replicate (m - n) n 0) in
     let l : length (drop n a) ≤ m - n = simp length-drop (omega arith) in
-    rw (take-all (m - n) (drop n a) l, z, drop-at {A = ℕ} (replicate (m - n) 0) (replicate n 0) (m - n) (length-replicate {A = ℕ} (m - n) 0))
+    rw (
+      take-all (m - n) (drop n a) l,
+      z,
+      drop-at {A = ℕ} (replicate (m - n) 0) (replicate n 0) (m - n) (length-replicate {A = ℕ} (m - n) 0),
+    )
 
 -- a loop that puts f of each element in its place, one store a turn
 pub map-suc : {A : Type 0} (f : A → A) (z : A) (s : List A) (i : ℕ) → i < length s
     → set (map f (take i s) ++ drop i s) i (f (getD s i z)) ≡ map f (take (i + 1) s) ++ drop (i + 1) s
 map-suc {A = A} f z s i h = rw add-one (go s i h)
   where
-    go : (s : List A) (i : ℕ) → i < length s → set (map f (take i s) ++ drop i s) i (f (getD s i z)) ≡ map f (take (suc i) s) ++ drop (suc i) s
+    go : (s : List A) (i : ℕ) → i < length s
+        → set (map f (take i s) ++ drop i s) i (f (getD s i z)) ≡ map f (take (suc i) s) ++ drop (suc i) s
     go [] i h = absurd (not-suc-le-zero h)
     go (x ∷ s) zero h = refl
     go (x ∷ s) (suc i) h = ap (λ (t : List A). f x ∷ t) (go s i (le-of-suc-le-suc h))

@@ -23,9 +23,11 @@ use Rattle.wire.specs.Replies.{silent, Encoding}
 use Rattle.session.specs.Servers.{sameActive, changed, settle, start, stop, negotiate, offer, down, agree, malformed}
 use Rattle.session.specs.Queue.{Entry, sumOf, heldOctets, held}
 use Rattle.session.specs.Limits.{maxHeld}
-use Rattle.session.specs.Steps.{modulus, ackCount, Call, put, nextData, tick, ack, move, isDuplicate, headOf, written, isSessions, checks, soundFor, answer, after, settled, storeAfter, Outcome, step}
+use Rattle.session.specs.Steps.{modulus, ackCount, Call, put, nextData, tick, ack, move, isDuplicate, headOf, written, isSessions}
+use Rattle.session.specs.Steps.{checks, soundFor, answer, after, settled, storeAfter, Outcome, step}
 use Rattle.session.specs.History.{Ledger, History, dsnOf, ackPlace, deliveryAfter, ledgerAfter, afterAccepted, afterCall, writtenIn}
-use Rattle.session.specs.Claim.{Session, InRange, entryAt, nextPlace, isDuplicateFor, dueReply, octetsTogether, dueChecks, Named, ReleasedBy, Acknowledgeable, CallClaim, Account}
+use Rattle.session.specs.Claim.{Session, InRange, entryAt, nextPlace, isDuplicateFor, dueReply, octetsTogether, dueChecks, Named}
+use Rattle.session.specs.Claim.{ReleasedBy, Acknowledgeable, CallClaim, Account}
 use Rattle.session.specs.declared.state.Active.{Active}
 use Rattle.session.specs.declared.state.Active.the-variants.{Nobody, Server}
 use Rattle.session.specs.declared.state.Delivery.{Delivery}
@@ -38,7 +40,8 @@ use Rattle.session.proofs.Agrees.{Core, Agrees}
 use Rattle.session.proofs.SoundKept.{after-sized, accepted-sound}
 use Rattle.session.proofs.HeldLaws.{held-read}
 use Rattle.session.proofs.StepLaws.{step-answer}
-use Rattle.session.proofs.Keeps.{begun, begun-released, written-released, settle-keeps, held-dsn, acked, ack-dsn, ack-below, ack-named, call-keeps, call-delivery}
+use Rattle.session.proofs.Keeps.{begun, begun-released, written-released, settle-keeps, held-dsn, acked, ack-dsn, ack-below}
+use Rattle.session.proofs.Keeps.{ack-named, call-keeps, call-delivery}
 
 -- ---- the state is sound
 
@@ -110,7 +113,8 @@ never-unsound enc room (move v negotiate) s store f = judge-other unsoundState (
 never-unsound enc room (move v (offer table)) s store f = judge-other unsoundState (checks enc room (move v (offer table)) s store) refl
 never-unsound enc room (move v down) s store f = judge-other unsoundState (checks enc room (move v down) s store) refl
 never-unsound enc room (move v (agree config)) s store f = judge-other unsoundState (checks enc room (move v (agree config)) s store) refl
-never-unsound enc room (move v (malformed a)) s store f = judge-other unsoundState (checks enc room (move v (malformed a)) s store) (rw (form-other a (f .0)) refl)
+never-unsound enc room (move v (malformed a)) s store f =
+    judge-other unsoundState (checks enc room (move v (malformed a)) s store) (rw (form-other a (f .0)) refl)
 
 -- ---- the held records
 
@@ -128,7 +132,8 @@ held-entry {h} {s} {store} a i g =
 abbrev pub sessionAt : Encoding → State → Session
 sessionAt enc s = record { encoding = enc; settings = s .settings }
 
-module _ (enc : Encoding) (room : ℕ) (h : History) (s : State) (store : List ℕ) (wide : 64 < modulus (enc .width)) (a : Agrees (enc .width) h s store) where
+module _ (enc : Encoding) (room : ℕ) (h : History) (s : State) (store : List ℕ) (wide : 64 < modulus (enc .width))
+    (a : Agrees (enc .width) h s store) where
   -- how many bits a sequence number has
   abbrev w : ℕ
   w = enc .width
@@ -143,10 +148,12 @@ module _ (enc : Encoding) (room : ℕ) (h : History) (s : State) (store : List �
   unfolding afterAccepted settled
   accept-keeps k r e =
       let same : after w k s .settings ≡ s .settings = after-settings w k s in
-      let z : after w k s .delivery ≡ deliveryAfter w (s .settings) k (h .ledger) (s .delivery) = call-delivery enc (h .ledger) s store wide (a .isSound) (a .sized) (a .core) room k r e in
+      let z : after w k s .delivery ≡ deliveryAfter w (s .settings) k (h .ledger) (s .delivery) =
+      call-delivery enc (h .ledger) s store wide (a .isSound) (a .sized) (a .core) room k r e in
       let l : Ledger = ledgerAfter w (s .settings) k (s .delivery) (h .ledger) in
       let c = settle-keeps (call-keeps enc (h .ledger) s store wide (a .isSound) (a .sized) (a .core) room k r e) in
-      let q : changed (after w k s .settings) (after w k s .delivery) ≡ changed (s .settings) (deliveryAfter w (s .settings) k (h .ledger) (s .delivery)) =
+      let q : changed (after w k s .settings) (after w k s .delivery)
+      ≡ changed (s .settings) (deliveryAfter w (s .settings) k (h .ledger) (s .delivery)) =
       λ i. changed (same i) (z i) in
       rw (a .delivery) (record {
         delivery = λ i. settle (sym same i) (sym z i);
@@ -179,16 +186,19 @@ module _ (enc : Encoding) (room : ℕ) (h : History) (s : State) (store : List �
   next-place = ap (λ (n : ℕ). h .ledger .released + (n + 1)) sent-same
 
   -- the record at place "sent" of the queue is that of its place in the history
-  next-entry : s .delivery .sent < s .queue .count → entryAt (h .ledger) (h .ledger .released + (s .delivery .sent + 1)) ≡ heldAt s store (s .delivery .sent)
+  next-entry : s .delivery .sent < s .queue .count
+      → entryAt (h .ledger) (h .ledger .released + (s .delivery .sent + 1)) ≡ heldAt s store (s .delivery .sent)
   next-entry g =
       let e : h .ledger .released + (s .delivery .sent + 1) - 1 ≡ h .ledger .released + s .delivery .sent = omega arith in
       ap (λ (n : ℕ). getD (h .ledger .records) n noEntry) e ∙ held-entry a (s .delivery .sent) g
 
   duplicate-at : (v : Active) → s .delivery .sent < s .queue .count
-      → isDuplicate (s .settings) v (getD (s .queue .receivers) (s .delivery .sent) 0) ≡ isDuplicateFor v (h .ledger .writings) (h .ledger .released + (s .delivery .sent + 1))
+      → isDuplicate (s .settings) v (getD (s .queue .receivers) (s .delivery .sent) 0)
+      ≡ isDuplicateFor v (h .ledger .writings) (h .ledger .released + (s .delivery .sent + 1))
   duplicate-at Nobody g = refl
   duplicate-at (Server v) g =
-      duplicate-same (s .settings .servers) v (getD (s .queue .receivers) (s .delivery .sent) 0) (h .ledger .writings) (h .ledger .released + (s .delivery .sent + 1))
+      duplicate-same (s .settings .servers) v (getD (s .queue .receivers) (s .delivery .sent) 0) (h .ledger .writings)
+      (h .ledger .released + (s .delivery .sent + 1))
       (λ u. a .core .stock .marks (s .delivery .sent) u g)
       (a .core .stock .existing (h .ledger .released + (s .delivery .sent + 1)))
 
@@ -197,7 +207,13 @@ module _ (enc : Encoding) (room : ℕ) (h : History) (s : State) (store : List �
   next-written g =
       let e = next-entry g in
       let c = a .core in
-      rw (a .delivery, e, c .starts, held-dsn enc (h .ledger) s store wide (a .isSound) (a .sized) c (s .delivery .sent), duplicate-at (s .delivery .active) g) refl
+      rw (
+        a .delivery,
+        e,
+        c .starts,
+        held-dsn enc (h .ledger) s store wide (a .isSound) (a .sized) c (s .delivery .sent),
+        duplicate-at (s .delivery .active) g,
+      ) refl
 
   -- ---- the refusals that are due
 
@@ -208,10 +224,12 @@ module _ (enc : Encoding) (room : ℕ) (h : History) (s : State) (store : List �
   unfolding sumOf
   octets-held =
       let n : ℕ = s .queue .count in
-      sym (zero-add (octetsTogether (held s store))) ∙ held-octets s store 0 n (omega (arith, a .sized .lengths, facts .numbers .few)) ∙ ap (λ (i : ℕ). sumOf (take i (s .queue .lengths))) (zero-add n)
+      sym (zero-add (octetsTogether (held s store))) ∙ held-octets s store 0 n (omega (arith, a .sized .lengths, facts .numbers .few))
+      ∙ ap (λ (i : ℕ). sumOf (take i (s .queue .lengths))) (zero-add n)
 
   due-put : (table : List ℕ) (id : ℕ) (r : List ℕ)
-      → judge (checks enc room (put table id r) s store) ≡ judge (dueChecks (sessionAt enc s) (length store) room h (held s store) (put table id r))
+      → judge (checks enc room (put table id r) s store)
+      ≡ judge (dueChecks (sessionAt enc s) (length store) room h (held s store) (put table id r))
   unfolding checks
   due-put table id r = rw (count-held, octets-held, a .core .stored) refl
 
@@ -242,14 +260,16 @@ module _ (enc : Encoding) (room : ℕ) (h : History) (s : State) (store : List �
           ) refl
 
   due-ack : (v d config : ℕ) → d < modulus w
-      → judge (checks enc room (ack v d config) s store) ≡ judge (dueChecks (sessionAt enc s) (length store) room h (held s store) (ack v d config))
+      → judge (checks enc room (ack v d config) s store)
+      ≡ judge (dueChecks (sessionAt enc s) (length store) room h (held s store) (ack v d config))
   unfolding checks
   due-ack v d config r =
       let c = a .core in
       let l = h .ledger in
       rw (
         a .delivery,
-        reached-test w (s .settings) wide (s .delivery .reached) (l .released) (ackCount w s d) d (omega (arith, facts .numbers .reachedHeld, facts .numbers .few))
+        reached-test w (s .settings) wide (s .delivery .reached) (l .released) (ackCount w s d) d
+            (omega (arith, facts .numbers .reachedHeld, facts .numbers .few))
             (ack-below enc l s store wide (a .isSound) (a .sized) c d) (ack-dsn enc l s store wide (a .isSound) (a .sized) c d r),
       ) refl
 
@@ -285,7 +305,8 @@ module _ (enc : Encoding) (room : ℕ) (h : History) (s : State) (store : List �
   next-accepted : judge (checks enc room nextData s store) ≡ done → nextPlace h ≤ length (h .ledger .records)
   next-accepted e = omega (arith, next-place, sent-held e, a .core .stock .counted)
 
-  names-one : (v d config : ℕ) → d < modulus w → judge (checks enc room (ack v d config) s store) ≡ done → Named w (s .settings) (h .ledger) d
+  names-one : (v d config : ℕ) → d < modulus w → judge (checks enc room (ack v d config) s store) ≡ done
+      → Named w (s .settings) (h .ledger) d
   names-one v d config b e =
       let l = h .ledger in
       let c = a .core in
@@ -298,7 +319,8 @@ module _ (enc : Encoding) (room : ℕ) (h : History) (s : State) (store : List �
         carries = x;
         only = λ q lo hi k.
             one-place w (s .settings) wide q (ackPlace w (s .settings) l d)
-            (omega (arith, facts .numbers .reachedHeld, facts .numbers .few)) (omega (arith, facts .numbers .reachedHeld, facts .numbers .few)) (k ∙ sym x);
+            (omega (arith, facts .numbers .reachedHeld, facts .numbers .few))
+            (omega (arith, facts .numbers .reachedHeld, facts .numbers .few)) (k ∙ sym x);
         accepted = omega (arith, facts .numbers .reachedHeld, c .stock .counted);
       }
 
@@ -306,20 +328,25 @@ module _ (enc : Encoding) (room : ℕ) (h : History) (s : State) (store : List �
       → q ≤ ledgerAfter w (s .settings) k (h .delivery) (h .ledger) .released → ReleasedBy h k q
   unfolding ledgerAfter checks
   ledger-releases (put table id r) i e q lo hi = let y : ⊥ = omega arith in absurd y
-  ledger-releases nextData i e q lo hi = let y : ⊥ = omega (arith, written-released (h .delivery .active) (nextPlace h) (h .ledger)) in absurd y
+  ledger-releases nextData i e q lo hi =
+      let y : ⊥ = omega (arith, written-released (h .delivery .active) (nextPlace h) (h .ledger)) in
+      absurd y
   ledger-releases tick i e q lo hi = let y : ⊥ = omega arith in absurd y
   ledger-releases (move v m) i e q lo hi = let y : ⊥ = omega arith in absurd y
   ledger-releases (ack v d config) i e q lo hi =
       let t = passed (checks enc room (ack v d config) s store) tt e in
-      let active : s .delivery .active ≡ Server v = same-active (s .delivery .active) (Server v) (not-false (sameActive (s .delivery .active) (Server v)) (t .1 .0)) in
-      let n : ackCount w s d ≤ s .delivery .reached = acked enc (h .ledger) s store wide (a .isSound) (a .sized) (a .core) room v d config e in
+      let active : s .delivery .active ≡ Server v =
+      same-active (s .delivery .active) (Server v) (not-false (sameActive (s .delivery .active) (Server v)) (t .1 .0)) in
+      let n : ackCount w s d ≤ s .delivery .reached =
+      acked enc (h .ledger) s store wide (a .isSound) (a .sized) (a .core) room v d config e in
       record {
         server = v;
         dsn = d;
         config = config;
         acknowledges = refl;
         isActive = ap (λ (x : Delivery). x .active) (a .delivery) ∙ active;
-        wasWritten = a .core .since v q active lo (omega (arith, ack-named enc (h .ledger) s store wide (a .isSound) (a .sized) (a .core) d i n));
+        wasWritten =
+            a .core .since v q active lo (omega (arith, ack-named enc (h .ledger) s store wide (a .isSound) (a .sized) (a .core) d i n));
       }
 
   dsn-below : (q : ℕ) → dsnOf w (s .settings) q < modulus w
@@ -357,7 +384,8 @@ module _ (enc : Encoding) (room : ℕ) (h : History) (s : State) (store : List �
 
   due-putting : (table : List ℕ) (id : ℕ) (r : List ℕ) → isSessions (s .settings) table ≡ true → isMissing table id ≡ false
       → recordValid table (templateOf table id) r ≡ true → length r ≤ maxRecordOctets
-      → not (eqb (judge (checks enc room (put table id r) s store)) done) ≡ (leb maxHeld (length (held s store)) || ltb (length store) (octetsTogether (held s store) + length r))
+      → not (eqb (judge (checks enc room (put table id r) s store)) done)
+      ≡ (leb maxHeld (length (held s store)) || ltb (length store) (octetsTogether (held s store) + length r))
   due-putting table id r t m v b =
       rw (due-put table id r, t, m, v, le-ltb maxRecordOctets (length r) b)
       (go (leb maxHeld (length (held s store))) (ltb (length store) (octetsTogether (held s store) + length r)))
@@ -381,7 +409,8 @@ module _ (enc : Encoding) (room : ℕ) (h : History) (s : State) (store : List �
       b₀ = answer enc room k s store
 
       go : (b : Bool) → eqb b₀ done ≡ b
-          → let o = cond b (accepted w k s store) (refused b₀ s store) in o .written ≡ cond (eqb (o .answer) done) (dueReply (sessionAt enc s) h k) silent
+          → let o = cond b (accepted w k s store) (refused b₀ s store) in
+          o .written ≡ cond (eqb (o .answer) done) (dueReply (sessionAt enc s) h k) silent
       go true e = due-written k (sym (answer-checks enc a room k) ∙ eqb-true b₀ done e)
       go false e = rw e refl
 
@@ -393,7 +422,8 @@ module _ (enc : Encoding) (room : ℕ) (h : History) (s : State) (store : List �
       go : (b : Bool) → eqb n done ≡ b → q ≤ cond b (afterAccepted w (s .settings) k h) h .ledger .released → ReleasedBy h k q
       go true x y =
           ledger-releases k i (e ∙ eqb-true n done x) q lo
-          (rw (begun-released (changed (s .settings) (deliveryAfter w (s .settings) k (h .ledger) (h .delivery))) (ledgerAfter w (s .settings) k (h .delivery) (h .ledger))) at y)
+          (rw (begun-released (changed (s .settings) (deliveryAfter w (s .settings) k (h .ledger) (h .delivery)))
+          (ledgerAfter w (s .settings) k (h .delivery) (h .ledger))) at y)
       go false x y = let f : ⊥ = omega arith in absurd f
 
   pub call-claim : (k : Call) → InRange w k
@@ -404,7 +434,8 @@ module _ (enc : Encoding) (room : ℕ) (h : History) (s : State) (store : List �
       λ j e x. subst (λ (j : Call). judge (checks enc room j s store) ≡ done) e (sym (call-answer k) ∙ x) in
       record {
         answered = call-answer k ∙ due-answer k i;
-        neverUnsound = λ x. eqb-false (judge (checks enc room k s store)) unsoundState (never-unsound enc room k s store i) (sym (call-answer k) ∙ x);
+        neverUnsound =
+            λ x. eqb-false (judge (checks enc room k s store)) unsoundState (never-unsound enc room k s store i) (sym (call-answer k) ∙ x);
         writes = step-writes k;
         standsFor = λ e x. stands-for (checked nextData e x);
         accepted = λ e x. next-accepted (checked nextData e x);
@@ -424,9 +455,11 @@ module _ (enc : Encoding) (room : ℕ) (h : History) (s : State) (store : List �
 pub reached-written : {w : ℕ} {h : History} {s : State} {store : List ℕ} → Agrees w h s store → (v q : ℕ) → h .delivery .active ≡ Server v
     → h .ledger .released < q
     → writtenIn (h .ledger .writings) q v (h .ledger .activation) ≡ leb q (h .ledger .released + h .delivery .reached)
-reached-written {w} {h} {s} {store} a v q active lo = rw (a .delivery) (go (writtenIn (h .ledger .writings) q v (h .ledger .activation)) refl)
+reached-written {w} {h} {s} {store} a v q active lo =
+    rw (a .delivery) (go (writtenIn (h .ledger .writings) q v (h .ledger .activation)) refl)
   where
-    go : (b : Bool) → writtenIn (h .ledger .writings) q v (h .ledger .activation) ≡ b → b ≡ leb q (h .ledger .released + s .delivery .reached)
+    go : (b : Bool) → writtenIn (h .ledger .writings) q v (h .ledger .activation) ≡ b
+        → b ≡ leb q (h .ledger .released + s .delivery .reached)
     go true e = sym (le-leb q (h .ledger .released + s .delivery .reached) (a .core .until v q e))
     go false e =
         sym (lt-leb q (h .ledger .released + s .delivery .reached)
@@ -435,13 +468,16 @@ reached-written {w} {h} {s} {store} a v q active lo = rw (a .delivery) (go (writ
         beyond : Dec (h .ledger .released + s .delivery .reached < q) → h .ledger .released + s .delivery .reached < q
         beyond (yes y) = y
         beyond (no n) =
-            absurd (false≢true (sym e ∙ a .core .since v q (sym (ap (λ (y : Delivery). y .active) (a .delivery)) ∙ active) lo (omega (arith, n))))
+            absurd (false≢true (sym e
+            ∙ a .core .since v q (sym (ap (λ (y : Delivery). y .active) (a .delivery)) ∙ active) lo (omega (arith, n))))
 
 -- the accepted records are the released ones and the held ones
 pub account-of : {w : ℕ} {h : History} {s : State} {store : List ℕ} → Agrees w h s store → Account (h .ledger) (held s store)
 account-of {w} {h} {s} {store} a =
     let l = h .ledger in
     record {
-      accounted = sym (take-append-drop (l .released) (l .records)) ∙ ap (λ (t : List Entry). take (l .released) (l .records) ++ t) (a .core .behind);
+      accounted =
+          sym (take-append-drop (l .released) (l .records))
+          ∙ ap (λ (t : List Entry). take (l .released) (l .records) ++ t) (a .core .behind);
       counted = ap (λ (n : ℕ). l .released + n) (held-length s store 0 (s .queue .count)) ∙ a .core .stock .counted;
     }

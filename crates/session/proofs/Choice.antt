@@ -10,7 +10,8 @@ use lib.Dec.{eqb, ltb}
 use lib.ListN.{getD, set, replicate}
 use lib.Seq.{getD-set-other}
 use borrow.Author.Tests.{eq-eqb, ne-eqb, ltb-true, ltb-false}
-use Rattle.session.specs.Servers.{server, phaseAt, isAgreed, beats, choose, Best, IsChoice, isNobody, otherAgreed, sameActive, chosen, changed, activated, settle}
+use Rattle.session.specs.Servers.{server, phaseAt, isAgreed, beats, choose, Best, IsChoice, isNobody, otherAgreed, sameActive, chosen}
+use Rattle.session.specs.Servers.{changed, activated, settle}
 use Rattle.session.specs.declared.state.Phase.the-variants.{Closed, Late}
 use Rattle.session.specs.declared.state.Server as serverOf
 use Rattle.session.specs.declared.state.Active.{Active}
@@ -24,7 +25,8 @@ use Rattle.session.proofs.SoundFacts.{same-active}
 pub choice : (priorities : List ℕ) (servers : List serverOf.Server) (n : ℕ) → IsChoice priorities servers n (choose priorities servers n)
 unfolding choose
 choice priorities servers zero = λ u l. absurd (omega arith)
-choice priorities servers (suc n) = go (choose priorities servers n) (choice priorities servers n) (isAgreed (phaseAt servers n)) refl _ refl
+choice priorities servers (suc n) =
+    go (choose priorities servers n) (choice priorities servers n) (isAgreed (phaseAt servers n)) refl _ refl
   where
     agreed : ℕ → Type 0
     agreed u = isAgreed (phaseAt servers u) ≡ true
@@ -33,7 +35,8 @@ choice priorities servers (suc n) = go (choose priorities servers n) (choice pri
     each : (P : ℕ → Type 0) → ((u : ℕ) → u < n → P u) → P n → (u : ℕ) → u < suc n → P u
     each P h k u l = last-cases P n u (omega (arith, l)) (h u) k
 
-    more : (v : ℕ) → Best priorities servers n v → (agreed n → getD priorities n 0 ≤ getD priorities v 0) → Best priorities servers (suc n) v
+    more : (v : ℕ) → Best priorities servers n v → (agreed n → getD priorities n 0 ≤ getD priorities v 0)
+        → Best priorities servers (suc n) v
     more v b k =
         record {
           inside = omega (arith, b .inside);
@@ -51,8 +54,8 @@ choice priorities servers (suc n) = go (choose priorities servers n) (choice pri
           lowest = λ u l x e. absurd (omega (arith, k u l x));
         }
 
-    go : (a : Active) → IsChoice priorities servers n a → (g : Bool) → isAgreed (phaseAt servers n) ≡ g → (t : Bool) → beats priorities n a ≡ t
-        → IsChoice priorities servers (suc n) (cond (g && t) (Server n) a)
+    go : (a : Active) → IsChoice priorities servers n a → (g : Bool) → isAgreed (phaseAt servers n) ≡ g → (t : Bool)
+        → beats priorities n a ≡ t → IsChoice priorities servers (suc n) (cond (g && t) (Server n) a)
     go Nobody h false p t q = each (λ u. isAgreed (phaseAt servers u) ≡ false) h p
     go Nobody h true p true q = new p (λ u l x. absurd (false≢true (sym (h u l) ∙ x)))
     go Nobody h true p false q = absurd (false≢true (sym q))

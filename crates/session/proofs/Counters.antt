@@ -43,7 +43,8 @@ module _ (enc : Encoding) (room : ℕ) (c : Call) (s : State) (store : List ℕ)
       ap (λ (o : Outcome). o .state) (step-done enc room c s store judged)
       ∙ settled-same (after (enc .width) c s) (a ∙ sound-facts s h .choice ∙ sym b)
 
-sent-one : (enc : Encoding) (s : State) (room : ℕ) (store : List ℕ) → let o = step enc room nextData s store in o .answer ≡ done → SentOne s (o .state)
+sent-one : (enc : Encoding) (s : State) (room : ℕ) (store : List ℕ) → let o = step enc room nextData s store in
+    o .answer ≡ done → SentOne s (o .state)
 unfolding after sentOne marked
 sent-one enc s room store e =
     let h : sound s ≡ true = and-left (sound s) (eqb (length store) (s .capacity)) (accepted-sound enc room nextData s store e) in

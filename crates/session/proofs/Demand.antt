@@ -13,7 +13,9 @@ use Rattle.session.specs.Queue.{heldFrom, held}
 use Rattle.session.specs.Sound.{settingsSound}
 use Rattle.session.specs.Steps.{modulus, Call, put, nextData, tick, ack, move, fresh, refusedState, setUp}
 use Rattle.session.specs.History.{History, deliveryAfter, ledgerAfter, afterAccepted, afterCall, freshHistory, anyWriting}
-use Rattle.session.specs.Claim.{Invocation, Session, dsnBits, Exporter, outcome, advance, run, begin, AnsweredCall, transcript, historyFrom, Premises, InRange, AllInRange, nextPlace, CallClaim, namedBy, lastNamed, Calls, historyOf, Demand3, Demand3Of64}
+use Rattle.session.specs.Claim.{Invocation, Session, dsnBits, Exporter, outcome, advance, run, begin, AnsweredCall, transcript}
+use Rattle.session.specs.Claim.{historyFrom, Premises, InRange, AllInRange, nextPlace, CallClaim, namedBy, lastNamed, Calls}
+use Rattle.session.specs.Claim.{historyOf, Demand3, Demand3Of64}
 use Rattle.session.specs.declared.state.Settings.{Settings}
 use Rattle.session.specs.declared.state.State.{State}
 use Rattle.session.specs.declared.state.Made.{Made}
@@ -36,14 +38,17 @@ module _ (z : Session) (wide : 64 < modulus (dsnBits z)) where
   advance-keeps x h i m k =
       record {
         settings = step-settings (z .encoding) (i .room) (i .call) (x .state) (x .store) ∙ k .settings;
-        agrees = subst (λ (p : Settings). let o = outcome z x i in Agrees (dsnBits z) (afterCall (dsnBits z) p (i .call) (o .answer) h) (o .state) (o .store)) (k .settings)
+        agrees =
+            subst (λ (p : Settings). let o = outcome z x i in
+            Agrees (dsnBits z) (afterCall (dsnBits z) p (i .call) (o .answer) h) (o .state) (o .store)) (k .settings)
             (step-keeps (z .encoding) (i .room) h (x .state) (x .store) wide (k .agrees) (i .call) m);
       }
 
   claim-of : (x : Exporter) (h : History) (i : Invocation) → InRange (dsnBits z) (i .call) → Kept z h x
       → CallClaim z (length (x .store)) (i .room) h (held (x .state) (x .store)) (i .call) (outcome z x i)
   claim-of x h i m k =
-      subst (λ (p : Settings). CallClaim (record { encoding = z .encoding; settings = p }) (length (x .store)) (i .room) h (held (x .state) (x .store)) (i .call) (outcome z x i)) (k .settings)
+      subst (λ (p : Settings). CallClaim (record { encoding = z .encoding; settings = p }) (length (x .store)) (i .room) h
+      (held (x .state) (x .store)) (i .call) (outcome z x i)) (k .settings)
       (call-claim (z .encoding) (i .room) h (x .state) (x .store) wide (k .agrees) (i .call) m)
 
   run-keeps : (x : Exporter) (h : History) (is : List Invocation) → AllInRange (dsnBits z) is → Kept z h x
@@ -51,13 +56,15 @@ module _ (z : Session) (wide : 64 < modulus (dsnBits z)) where
   unfolding run transcript historyFrom
   run-keeps x h [] m k = k
   run-keeps x h (i ∷ is) m k =
-      run-keeps (advance z x i) (afterCall (dsnBits z) (z .settings) (i .call) (outcome z x i .answer) h) is (m .1) (advance-keeps x h i (m .0) k)
+      run-keeps (advance z x i) (afterCall (dsnBits z) (z .settings) (i .call) (outcome z x i .answer) h) is (m .1)
+      (advance-keeps x h i (m .0) k)
 
   each-call : (x : Exporter) (h : History) (is : List Invocation) → AllInRange (dsnBits z) is → Kept z h x → Calls z x h is
   each-call x h [] m k = tt
   each-call x h (i ∷ is) m k = (
     claim-of x h i (m .0) k,
-    each-call (advance z x i) (afterCall (dsnBits z) (z .settings) (i .call) (outcome z x i .answer) h) is (m .1) (advance-keeps x h i (m .0) k),
+    each-call (advance z x i) (afterCall (dsnBits z) (z .settings) (i .call) (outcome z x i .answer) h) is (m .1)
+        (advance-keeps x h i (m .0) k),
   )
 
 -- the number released is the place named last
@@ -67,9 +74,11 @@ unfolding afterCall afterAccepted ledgerAfter
 released-by w p k n h = go (eqb n done) refl k
   where
     after-choice : (k : Call) → afterAccepted w p k h .ledger .released ≡ ledgerAfter w p k (h .delivery) (h .ledger) .released
-    after-choice k = begun-released (changed p (deliveryAfter w p k (h .ledger) (h .delivery))) (ledgerAfter w p k (h .delivery) (h .ledger))
+    after-choice k =
+        begun-released (changed p (deliveryAfter w p k (h .ledger) (h .delivery))) (ledgerAfter w p k (h .delivery) (h .ledger))
 
-    go : (b : Bool) → eqb n done ≡ b → (k : Call) → cond b (afterAccepted w p k h) h .ledger .released ≡ namedBy w p (h .ledger) k n (h .ledger .released)
+    go : (b : Bool) → eqb n done ≡ b → (k : Call)
+        → cond b (afterAccepted w p k h) h .ledger .released ≡ namedBy w p (h .ledger) k n (h .ledger .released)
     go true e (put table id r) = after-choice (put table id r)
     go true e nextData = after-choice nextData ∙ written-released (h .delivery .active) (nextPlace h) (h .ledger)
     go true e tick = after-choice tick
@@ -99,7 +108,9 @@ set-up : (p : Settings) (room : ℕ) → setUp p room .answer ≡ done → Accep
 unfolding setUp
 set-up p room e = go (settingsSound p room) refl e
   where
-    go : (b : Bool) → settingsSound p room ≡ b → cond {A = Made} b (record { answer = done; state = fresh p room }) (record { answer = settingsOutsideLimits; state = refusedState }) .answer ≡ done → Accepted p room
+    go : (b : Bool) → settingsSound p room ≡ b
+        → cond {A = Made} b (record { answer = done; state = fresh p room })
+        (record { answer = settingsOutsideLimits; state = refusedState }) .answer ≡ done → Accepted p room
     go true x y = record { limits = x; state = rw x refl }
     go false x y = let z : ⊥ = omega arith in absurd z
 
@@ -145,7 +156,8 @@ unfolding freshHistory
 demand3 z store m is i =
     let wide : 64 < modulus (dsnBits z) = wide-modulus (dsnBits z) (m .wide) in
     let k : Kept z freshHistory (begin z store) = begin-kept z store m in
-    let c : Kept z (historyOf z (transcript z (begin z store) is)) (run z (begin z store) is) = run-keeps z wide (begin z store) freshHistory is i k in
+    let c : Kept z (historyOf z (transcript z (begin z store) is)) (run z (begin z store) is) =
+    run-keeps z wide (begin z store) freshHistory is i k in
     record {
       account = account-of (c .agrees);
       last = last-named (dsnBits z) (z .settings) freshHistory 0 (transcript z (begin z store) is) refl;

@@ -13,14 +13,29 @@ use Rattle.session.specs.Steps.{ackCount, answer, checks, after, settled
 use Rattle.session.specs.Examples.{stars, AllHold}
 
 pub examples : AllHold stars
-unfolding numberOf uintIn octetsIn every firstFrom isType widthOf isMessage bodyFits messageOf layoutOf readAnswer dataHeadOf meaningOf readOf partAt partOf keySound blockEnd headSound paddingSound blockSound blockAt tableSound templateIndex templateAt fixedLength fieldLength fieldAt recordValid recordAnswer choose changed settle acknowledged sumOf has dropFront settingsSound numbersSound sound ackCount answer checks after settled storeAfter written step
+unfolding numberOf uintIn octetsIn every firstFrom isType widthOf isMessage bodyFits messageOf layoutOf readAnswer dataHeadOf meaningOf
+    readOf partAt partOf keySound blockEnd headSound paddingSound blockSound blockAt tableSound templateIndex templateAt fixedLength
+    fieldLength fieldAt recordValid recordAnswer choose changed settle acknowledged sumOf has dropFront settingsSound numbersSound sound
+    ackCount answer checks after settled storeAfter written step
 examples = (
   (refl, (refl, refl)),
   (
     (refl, (refl, refl)),
     (
       refl,
-      (refl, (refl, (refl, ((refl, (refl, refl)), ((refl, (refl, refl)), ((refl, (refl, refl)), ((refl, (refl, refl)), ((refl, (refl, refl)), tt)))))))),
+      (
+        refl,
+        (
+          refl,
+          (
+            refl,
+            (
+              (refl, (refl, refl)),
+              ((refl, (refl, refl)), ((refl, (refl, refl)), ((refl, (refl, refl)), ((refl, (refl, refl)), tt)))),
+            ),
+          ),
+        ),
+      ),
     ),
   ),
 )

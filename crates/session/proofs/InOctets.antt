@@ -16,13 +16,18 @@ use Rattle.wire.specs.Messages.{headerChecks, sessionOf, messageNumber, headerO
 use Rattle.wire.specs.Messages as wire
 use Rattle.wire.specs.Replies.{Reply, silent, crane, layout}
 use Rattle.messages.specs.declared.message.Message.{Message}
-use Rattle.messages.specs.declared.message.Message.the-variants.{Start, StartAck, Stop, StopAck, TmplData, FinalTmplDataAck, StartNegotiate, StartNegotiateAck, Data, DataAck}
+use Rattle.messages.specs.declared.message.Message.the-variants.{Start, StartAck, Stop, StopAck, TmplData, FinalTmplDataAck, StartNegotiate}
+use Rattle.messages.specs.declared.message.Message.the-variants.{StartNegotiateAck, Data, DataAck}
 use Rattle.session.specs.Servers.{offer, down, malformed}
 use Rattle.session.specs.Queue.{held}
-use Rattle.session.specs.Steps.{Call, put, nextData, tick, ack, move, isReceived, formAnswer, callOfMessage, received, written, checks, answer, after, settled, storeAfter, Outcome, step, octetsWritten, outputAfter}
+use Rattle.session.specs.Steps.{Call, put, nextData, tick, ack, move, isReceived, formAnswer, callOfMessage, received, written}
+use Rattle.session.specs.Steps.{checks, answer, after, settled, storeAfter, Outcome, step, octetsWritten, outputAfter}
 use Rattle.session.specs.History.{History, afterCall, freshHistory}
-use Rattle.session.specs.Claim.{Invocation, Session, Exporter, outcome, advance, run, AnsweredCall, transcript, Premises, InRange, AllInRange, dueReply, CallClaim, Calls, Claim, ClaimByMeaning}
-use Rattle.session.specs.InOctets.{Event, Put, NextData, Receive, OfferTemplates, LineDown, Tick, eventStep, eventOutcome, afterEvent, afterEvents, outputOf, roomOf, callOf, invocationOf, craneSession, freshOver, eventTranscript, EventClaim, EventClaims, AllOctets, Demand3InOctets}
+use Rattle.session.specs.Claim.{Invocation, Session, Exporter, outcome, advance, run, AnsweredCall, transcript, Premises, InRange}
+use Rattle.session.specs.Claim.{AllInRange, dueReply, CallClaim, Calls, Claim, ClaimByMeaning}
+use Rattle.session.specs.InOctets.{Event, Put, NextData, Receive, OfferTemplates, LineDown, Tick, eventStep, eventOutcome, afterEvent}
+use Rattle.session.specs.InOctets.{afterEvents, outputOf, roomOf, callOf, invocationOf, craneSession, freshOver, eventTranscript}
+use Rattle.session.specs.InOctets.{EventClaim, EventClaims, AllOctets, Demand3InOctets}
 use Rattle.session.specs.declared.state.Settings.{Settings}
 use Rattle.session.specs.declared.state.State.{State}
 use Rattle.session.proofs.Calls.{step-settings}
@@ -47,7 +52,8 @@ lent room k s st st′ e f g = rw (e, f, g) (go (eqb (answer crane room k s st�
 
     go : (b : Bool) → let o = cond b x (record { answer = a; state = s; store = st; written = silent }) in
         _≡_ {A = Outcome} (record { answer = o .answer; state = o .state; store = st′; written = o .written })
-        (cond b (record { answer = done; state = settled (after 32 k s); store = st′; written = written 32 k s st′ }) (record { answer = a; state = s; store = st′; written = silent }))
+        (cond b (record { answer = done; state = settled (after 32 k s); store = st′; written = written 32 k s st′ })
+        (record { answer = a; state = s; store = st′; written = silent }))
     go true = refl
     go false = refl
 
@@ -88,7 +94,8 @@ received-without p v m = go (eqb (formAnswer p m) done) (meaningOf m)
     go false x = tt
 
 -- a call over octets does what it means
-own-meaning : (x : Exporter) (e : Event) → eventOutcome x e ≡ outcome (craneSession (x .state .settings)) x (invocationOf (x .state .settings) e)
+own-meaning : (x : Exporter) (e : Event)
+    → eventOutcome x e ≡ outcome (craneSession (x .state .settings)) x (invocationOf (x .state .settings) e)
 unfolding callOf answer checks written storeAfter
 own-meaning x (Put table id r) = refl
 own-meaning x (NextData out) = lent (length out) nextData (x .state) (x .store) (x .store) refl refl refl
@@ -161,7 +168,8 @@ module _ (p : Settings) where
 
   -- what is claimed of a meaning is claimed of the call
   event-claim : (x : Exporter) (h : History) (e : Event) → x .state .settings ≡ p
-      → CallClaim (craneSession p) (length (x .store)) (roomOf e) h (held (x .state) (x .store)) (callOf p e) (outcome (craneSession p) x (invocationOf p e))
+      → CallClaim (craneSession p) (length (x .store)) (roomOf e) h (held (x .state) (x .store)) (callOf p e)
+      (outcome (craneSession p) x (invocationOf p e))
       → EventClaim p x h e
   event-claim x h e k c =
       let q = event-means x e k in
@@ -214,7 +222,8 @@ meaning-range : (v : ℕ) (m : List ℕ) → Octets m → InRange 32 (callOfMess
 unfolding meaningOf callOfMessage
 meaning-range v m o =
     let n = messageNumber m in
-    go (eqb n wire.start) (eqb n wire.startAck) (eqb n wire.stop) (eqb n wire.stopAck) (eqb n wire.tmplData) (eqb n wire.finalTmplDataAck) (eqb n wire.startNegotiate) (eqb n wire.startNegotiateAck) (eqb n wire.dataNumber)
+    go (eqb n wire.start) (eqb n wire.startAck) (eqb n wire.stop) (eqb n wire.stopAck) (eqb n wire.tmplData) (eqb n wire.finalTmplDataAck)
+    (eqb n wire.startNegotiate) (eqb n wire.startNegotiateAck) (eqb n wire.dataNumber)
   where
     go : (b₁ b₂ b₃ b₄ b₅ b₆ b₇ b₈ b₉ : Bool) → let s = sessionOf m in InRange 32 (callOfMessage v
         (cond b₁ (Start s)
@@ -243,7 +252,8 @@ received-range : (p : Settings) (v : ℕ) (m : List ℕ) → Octets m → InRang
 unfolding received formAnswer
 received-range p v m o = go (eqb (formAnswer p m) done) refl
   where
-    go : (b : Bool) → eqb (formAnswer p m) done ≡ b → InRange 32 (cond b (callOfMessage v (meaningOf m)) (move v (malformed (formAnswer p m))))
+    go : (b : Bool) → eqb (formAnswer p m) done ≡ b
+        → InRange 32 (cond b (callOfMessage v (meaningOf m)) (move v (malformed (formAnswer p m))))
     go true e = meaning-range v m o
     go false e =
         judge-numbered shortMessage bodyLengthWrong

@@ -19,8 +19,10 @@ use Rattle.wire.specs.Replies.{Encoding}
 use Rattle.session.specs.Servers.{chosen, changed, settle, withServers, transition, sentOne, acknowledged, ticked}
 use Rattle.session.specs.Queue.{Entry, heldOctets, recordAt, has, with, pushed, dropFront, marked}
 use Rattle.session.specs.Sound.{sound}
-use Rattle.session.specs.Steps.{modulus, firstHeld, dsnAt, ackCount, Call, put, nextData, tick, ack, move, checks, withDelivery, after, settled, storeAfter}
-use Rattle.session.specs.History.{Writing, Ledger, withActivation, dsnOf, ackPlace, deliveryAfter, writtenBy, ledgerAfter, anyWriting, writtenIn, writtenDuring}
+use Rattle.session.specs.Steps.{modulus, firstHeld, dsnAt, ackCount, Call, put, nextData, tick, ack, move, checks, withDelivery}
+use Rattle.session.specs.Steps.{after, settled, storeAfter}
+use Rattle.session.specs.History.{Writing, Ledger, withActivation, dsnOf, ackPlace, deliveryAfter, writtenBy, ledgerAfter, anyWriting}
+use Rattle.session.specs.History.{writtenIn, writtenDuring}
 use Rattle.session.specs.Claim.{InRange}
 use Rattle.session.specs.declared.state.Active.{Active}
 use Rattle.session.specs.declared.state.Active.the-variants.{Nobody, Server}
@@ -52,7 +54,8 @@ written-released (Server v) q l = refl
 in-during : (ws : List Writing) (q v k : ℕ) → writtenIn ws q v k ≡ true → writtenDuring ws k ≡ true
 unfolding anyWriting
 in-during [] q v k e = e
-in-during (x ∷ xs) q v k e = go (eqb (x .place) q) (eqb (x .server) v) (eqb (x .activation) k) (writtenIn xs q v k) (writtenDuring xs k) e (in-during xs q v k)
+in-during (x ∷ xs) q v k e =
+    go (eqb (x .place) q) (eqb (x .server) v) (eqb (x .activation) k) (writtenIn xs q v k) (writtenDuring xs k) e (in-during xs q v k)
   where
     go : (a b c r d : Bool) → (a && b && c) || r ≡ true → (r ≡ true → d ≡ true) → c || d ≡ true
     go true true true r d e f = refl
@@ -94,7 +97,9 @@ settle-keeps {w} {l} {s} {store} c = go (changed (s .settings) (s .delivery))
           starts = rw (c .later (l .activation + 1) (omega arith));
           later = λ k h. c .later k (omega arith);
           since = λ v k e h b. let z : ⊥ = omega arith in absurd z;
-          until = λ v k e. absurd (false≢true (sym (c .later (l .activation + 1) (omega arith)) ∙ in-during (l .writings) k v (l .activation + 1) e));
+          until =
+              λ v k e. absurd (false≢true
+              (sym (c .later (l .activation + 1) (omega arith)) ∙ in-during (l .writings) k v (l .activation + 1) e));
         }
     go false =
         record {
@@ -124,7 +129,8 @@ calm-keeps {s} {store} d m c =
 
 -- ---- the calls
 
-module _ (enc : Encoding) (l : Ledger) (s : State) (store : List ℕ) (wide : 64 < modulus (enc .width)) (isSound : sound s ≡ true) (z : Sized (s .queue)) (c : Core (enc .width) l s store) where
+module _ (enc : Encoding) (l : Ledger) (s : State) (store : List ℕ) (wide : 64 < modulus (enc .width)) (isSound : sound s ≡ true)
+    (z : Sized (s .queue)) (c : Core (enc .width) l s store) where
   -- how many bits a sequence number has
   abbrev w : ℕ
   w = enc .width
@@ -138,7 +144,8 @@ module _ (enc : Encoding) (l : Ledger) (s : State) (store : List ℕ) (wide : 64
   below v e = chosen-below (s .settings .priorities) (s .delivery .servers) (s .settings .servers) v (sym (f .choice) ∙ e)
 
   put-keeps : (room : ℕ) (table : List ℕ) (id : ℕ) (r : List ℕ) → judge (checks enc room (put table id r) s store) ≡ done
-      → Core w (ledgerAfter w (s .settings) (put table id r) (s .delivery) l) (after w (put table id r) s) (storeAfter (put table id r) s store)
+      → Core w (ledgerAfter w (s .settings) (put table id r) (s .delivery) l) (after w (put table id r) s)
+      (storeAfter (put table id r) s store)
   unfolding checks ledgerAfter after storeAfter pushed
   put-keeps room table id r e =
       let a = passed (checks enc room (put table id r) s store) tt e in
@@ -207,17 +214,21 @@ module _ (enc : Encoding) (l : Ledger) (s : State) (store : List ℕ) (wide : 64
       })
     where
       far : (u j : ℕ)
-          → (eqb (l .released + (s .delivery .sent + 1)) j && eqb v u && eqb (l .activation) (l .activation)) || writtenIn (l .writings) j u (l .activation) ≡ true
+          → (eqb (l .released + (s .delivery .sent + 1)) j && eqb v u && eqb (l .activation) (l .activation))
+          || writtenIn (l .writings) j u (l .activation) ≡ true
           → Dec (j ≡ l .released + (s .delivery .sent + 1)) → j ≤ l .released + max (s .delivery .reached) (s .delivery .sent + 1)
       far u j e (yes z) = omega arith
       far u j e (no n) = omega (arith, c .until u j (rw (ne-eqb (l .released + (s .delivery .sent + 1)) j (λ y. n (sym y))) at e))
 
       recent : (u j : ℕ) → v ≡ u → l .released < j → j ≤ l .released + max (s .delivery .reached) (s .delivery .sent + 1)
           → Dec (j ≡ l .released + (s .delivery .sent + 1))
-          → (eqb (l .released + (s .delivery .sent + 1)) j && eqb v u && eqb (l .activation) (l .activation)) || writtenIn (l .writings) j u (l .activation) ≡ true
-      recent u j e lo hi (yes z) = rw (eq-eqb (l .released + (s .delivery .sent + 1)) j (sym z), eq-eqb v u e, eq-eqb (l .activation) (l .activation) refl)
+          → (eqb (l .released + (s .delivery .sent + 1)) j && eqb v u && eqb (l .activation) (l .activation))
+          || writtenIn (l .writings) j u (l .activation) ≡ true
+      recent u j e lo hi (yes z) =
+          rw (eq-eqb (l .released + (s .delivery .sent + 1)) j (sym z), eq-eqb v u e, eq-eqb (l .activation) (l .activation) refl)
       recent u j e lo hi (no n) =
-          or-right (eqb (l .released + (s .delivery .sent + 1)) j && eqb v u && eqb (l .activation) (l .activation)) (writtenIn (l .writings) j u (l .activation))
+          or-right (eqb (l .released + (s .delivery .sent + 1)) j && eqb v u && eqb (l .activation) (l .activation))
+          (writtenIn (l .writings) j u (l .activation))
           (c .since u j (ea ∙ ap Server e) lo (omega (arith, f .numbers .sentReached)))
 
   next-keeps : (room : ℕ) → judge (checks enc room nextData s store) ≡ done
@@ -255,9 +266,11 @@ module _ (enc : Encoding) (l : Ledger) (s : State) (store : List ℕ) (wide : 64
   ack-below d = mod-lt _ (omega arith)
 
   -- which is the place that it names
-  pub ack-named : (d : ℕ) → d < modulus w → ackCount w s d ≤ s .delivery .reached → ackPlace w (s .settings) l d ≡ l .released + ackCount w s d
+  pub ack-named : (d : ℕ) → d < modulus w → ackCount w s d ≤ s .delivery .reached
+      → ackPlace w (s .settings) l d ≡ l .released + ackCount w s d
   ack-named d h n =
-      place-found w (s .settings) wide 64 (l .released) (ackCount w s d) d (omega (arith, f .numbers .reachedHeld, f .numbers .few)) (ack-below d) (ack-dsn d h)
+      place-found w (s .settings) wide 64 (l .released) (ackCount w s d) d (omega (arith, f .numbers .reachedHeld, f .numbers .few))
+      (ack-below d) (ack-dsn d h)
 
   -- a DATA ACK that names no more records than were reached
   ack-at : (v d config : ℕ) → d < modulus w → ackCount w s d ≤ s .delivery .reached
@@ -272,7 +285,8 @@ module _ (enc : Encoding) (l : Ledger) (s : State) (store : List ℕ) (wide : 64
       let low = ack-lower s z f n in
       rw e (record {
         stored = c .stored;
-        behind = sym (drop-drop n (l .released) (l .records)) ∙ ap (drop n) (c .behind) ∙ sym (held-release w s store v d config z isSound nc);
+        behind =
+            sym (drop-drop n (l .released) (l .records)) ∙ ap (drop n) (c .behind) ∙ sym (held-release w s store v d config z isSound nc);
         stock = record {
           counted = omega (arith, k .counted);
           following = k .following;

@@ -13,7 +13,10 @@ use Rattle.session.specs.Steps.{ackCount, formAnswer, callOfMessage, rec
 use Rattle.session.specs.Order.{numbersWhere, RefusalOrder}
 
 pub refusal-order : RefusalOrder
-unfolding numberOf uintIn octetsIn every firstFrom isType widthOf isMessage bodyFits messageOf layoutOf readAnswer meaningOf writeAnswer headWriteAnswer keySound blockEnd headSound paddingSound blockSound blockAt tableSound templateIndex templateAt fixedLength fieldLength fieldAt recordValid choose ringRead sumOf recordAt has hasOther settingsSound numbersSound sound ackCount formAnswer callOfMessage received headOf written checks answer step setUp numbersWhere
+unfolding numberOf uintIn octetsIn every firstFrom isType widthOf isMessage bodyFits messageOf layoutOf readAnswer meaningOf writeAnswer
+    headWriteAnswer keySound blockEnd headSound paddingSound blockSound blockAt tableSound templateIndex templateAt fixedLength fieldLength
+    fieldAt recordValid choose ringRead sumOf recordAt has hasOther settingsSound numbersSound sound ackCount formAnswer callOfMessage
+    received headOf written checks answer step setUp numbersWhere
 refusal-order =
     record {
       setUps = (refl, (refl, (refl, refl)));

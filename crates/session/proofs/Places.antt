@@ -4,7 +4,8 @@ use mathlib.Core.Path.{_≡_, sym, ap, _∙_}
 use mathlib.Core.Logic.{_≢_}
 use mathlib.Core.Bool.{Bool, true, false, not, cond}
 use Prim.Native.Nat.{ℕ, zero, suc, _+_, _-_, _*_, _/_, _%_, _≤_, _<_}
-use native.Mathlib.Nat.{div-add-mod', mul-le-mul-right, suc-mul, mod-add-mod, mod-lt, mod-eq-of-lt, add-mul-mod-self-right, add-mod-right, pow-le-pow-right}
+use native.Mathlib.Nat.{div-add-mod', mul-le-mul-right, suc-mul, mod-add-mod, mod-lt, mod-eq-of-lt, add-mul-mod-self-right, add-mod-right}
+use native.Mathlib.Nat.{pow-le-pow-right}
 use native.Mathlib.Decide.{decLe, decLt}
 use native.Mathlib.Omega.{arith}
 use lib.Dec.{eqb, ltb}
@@ -68,8 +69,10 @@ module _ (w : ℕ) (p : Settings) (wide : 64 < modulus w) where
   pub dsn-back : (R count : ℕ) → count ≤ 64 → (dsnOf w p (R + count + 1) + (modulus w - count)) % modulus w ≡ dsnOf w p (R + 1)
   unfolding dsnOf
   dsn-back R count h =
-      let e : p .initial + (R + count + 1 + (modulus w - count)) + (modulus w - 1) ≡ p .initial + (R + 1) + (modulus w - 1) + modulus w = omega arith in
-      dsn-add (R + count + 1) (modulus w - count) ∙ ap (λ (k : ℕ). k % modulus w) e ∙ add-mod-right (p .initial + (R + 1) + (modulus w - 1)) (modulus w)
+      let e : p .initial + (R + count + 1 + (modulus w - count)) + (modulus w - 1) ≡ p .initial + (R + 1) + (modulus w - 1) + modulus w =
+      omega arith in
+      dsn-add (R + count + 1) (modulus w - count) ∙ ap (λ (k : ℕ). k % modulus w) e
+      ∙ add-mod-right (p .initial + (R + 1) + (modulus w - 1)) (modulus w)
 
   -- d is the number of the place that lies d minus the first held number plus 1 behind R
   pub dsn-ack : (R d : ℕ) → d < modulus w → dsnOf w p (R + (d + (modulus w - dsnOf w p (R + 1)) + 1) % modulus w) ≡ d
@@ -79,7 +82,8 @@ module _ (w : ℕ) (p : Settings) (wide : 64 < modulus w) where
       let x : ℕ = p .initial + (R + 1) + (m - 1) in
       let y : ℕ = d + (m - x % m) + 1 in
       let z : ℕ = p .initial + (R + y % m) + (m - 1) in
-      let e : z + y / m * m ≡ d + suc (x / m) * m = omega (arith, div-add-mod' x m, div-add-mod' y m, suc-mul (x / m) m, mod-lt x {m = m} (omega arith)) in
+      let e : z + y / m * m ≡ d + suc (x / m) * m =
+      omega (arith, div-add-mod' x m, div-add-mod' y m, suc-mul (x / m) m, mod-lt x {m = m} (omega arith)) in
       sym (add-mul-mod-self-right z (y / m) m) ∙ ap (λ (k : ℕ). k % m) e ∙ add-mul-mod-self-right d (suc (x / m)) m ∙ mod-eq-of-lt h
 
   -- a place that is looked for is one of the n + 1
@@ -103,7 +107,8 @@ module _ (w : ℕ) (p : Settings) (wide : 64 < modulus w) where
       rw (eq-eqb (dsnOf w p q) d (rw z at e)) (sym z)
   place-found (suc n) q (suc k) d h l e =
       let z : q + suc k ≡ q + 1 + k = omega arith in
-      let here : dsnOf w p q ≢ d = λ x. let y : q ≡ q + suc k = one-place q (q + suc k) (omega arith) (omega arith) (x ∙ sym e) in omega arith in
+      let here : dsnOf w p q ≢ d = λ x. let y : q ≡ q + suc k = one-place q (q + suc k) (omega arith) (omega arith) (x ∙ sym e) in
+      omega arith in
       rw (ne-eqb (dsnOf w p q) d here) (place-found n (q + 1) k d (omega arith) (omega arith) (rw z at e) ∙ sym z)
 
   -- a number is that of one of the first n places from R on exactly where it lies at most n behind R
@@ -115,5 +120,6 @@ module _ (w : ℕ) (p : Settings) (wide : 64 < modulus w) where
       go (no a) =
           let r = place-range n R d in
           let other : dsnOf w p (placeOf w p n R d) ≢ d =
-          λ x. let y : placeOf w p n R d ≡ R + k = one-place (placeOf w p n R d) (R + k) (omega arith) (omega arith) (x ∙ sym e) in omega arith in
+          λ x. let y : placeOf w p n R d ≡ R + k = one-place (placeOf w p n R d) (R + k) (omega arith) (omega arith) (x ∙ sym e) in
+          omega arith in
           rw (lt-ltb n k (omega arith), ne-eqb (dsnOf w p (placeOf w p n R d)) d other)

@@ -184,11 +184,12 @@ written-other-found ws q v u n e =
     let p = eqb (f .writing .place) q in
     let s = f .writing .server in
     let same : s ≡ u = eqb-true s u (and-right p (eqb s u) (f .passes)) in
-    f .among (λ x. eqb (x .place) q && not (eqb (x .server) v)) (rw (and-left p (eqb s u) (f .passes), ne-eqb s v (λ y. n (sym same ∙ y))) refl)
+    f .among (λ x. eqb (x .place) q && not (eqb (x .server) v))
+    (rw (and-left p (eqb s u) (f .passes), ne-eqb s v (λ y. n (sym same ∙ y))) refl)
 
 -- where the set has the servers that place q was written to, D is the same by both
-pub duplicate-same : (n v m : ℕ) (ws : List Writing) (q : ℕ) → ((u : ℕ) → has m u ≡ writtenTo ws q u) → ((u : ℕ) → writtenTo ws q u ≡ true → u < n)
-    → hasOther n v m ≡ writtenToOther ws q v
+pub duplicate-same : (n v m : ℕ) (ws : List Writing) (q : ℕ) → ((u : ℕ) → has m u ≡ writtenTo ws q u)
+    → ((u : ℕ) → writtenTo ws q u ≡ true → u < n) → hasOther n v m ≡ writtenToOther ws q v
 duplicate-same n v m ws q same below =
     iff-same (hasOther n v m) (writtenToOther ws q v)
     (λ e. let y = other-some n v m e in written-other-found ws q v (y .0) (y .1) (sym (same (y .0)) ∙ y .2))

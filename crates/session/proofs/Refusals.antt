@@ -12,10 +12,12 @@ use Rattle.octets.proofs.Stores.{sets-first}
 use Rattle.wire.specs.Replies.{Encoding, crane}
 use Rattle.session.specs.Servers.{offer, down}
 use Rattle.session.specs.Sound.{settingsSound, numbersSound, sound}
-use Rattle.session.specs.Steps.{Call, put, nextData, tick, ack, move, received, answer, soundFor, fresh, refusedState, setUp, step, octetsWritten}
+use Rattle.session.specs.Steps.{Call, put, nextData, tick, ack, move, received, answer, soundFor, fresh, refusedState, setUp, step}
+use Rattle.session.specs.Steps.{octetsWritten}
 use Rattle.session.specs.Claim.{Exporter, advance}
 use Rattle.session.specs.InOctets.{Event, Put, NextData, Receive, OfferTemplates, LineDown, Tick, eventStep, afterEvent}
-use Rattle.session.specs.Refusals.{StepRefused, CallRefused, CallRefusedInOctets, SetUpRefused, SetUpRefusedInOctets, OutputKept, Refusals}
+use Rattle.session.specs.Refusals.{StepRefused, CallRefused, CallRefusedInOctets, SetUpRefused, SetUpRefusedInOctets, OutputKept}
+use Rattle.session.specs.Refusals.{Refusals}
 use Rattle.session.specs.declared.state.Settings.{Settings}
 use Rattle.session.specs.declared.state.State.{State}
 use Rattle.session.proofs.StepLaws.{step-refused, step-answer}

@@ -62,7 +62,8 @@ read-far room st at n e l h k =
     ∙ read-join room st at a m
     ∙ ap (λ (xs : List ℕ). xs ++ ringRead room st (at + a) m) (read-near room st at a e (omega arith) ∙ take-all a (drop at st) w)
     ∙ ap (λ (xs : List ℕ). drop at st ++ xs)
-    (ap (λ (i : ℕ). ringRead room st i m) t ∙ read-same room st (0 + room) 0 m (add-mod-right 0 room) ∙ read-near room st 0 m e (omega arith))
+    (ap (λ (i : ℕ). ringRead room st i m) t ∙ read-same room st (0 + room) 0 m (add-mod-right 0 room)
+    ∙ read-near room st 0 m e (omega arith))
 
 -- ---- writing
 

@@ -18,7 +18,8 @@ use Rattle.session.specs.Servers.{server, phaseAt, restarted, restart, c
 use Rattle.session.specs.Servers.{start, stop, negotiate, offer, down, agree, malformed, transition}
 use Rattle.session.specs.Queue.{sumOf, has}
 use Rattle.session.specs.Sound.{settingsSound, numbersSound, sound}
-use Rattle.session.specs.Steps.{formAnswer, callOfMessage, received, written, checks, answer, after, settled, storeAfter, step, fresh, setUp}
+use Rattle.session.specs.Steps.{formAnswer, callOfMessage, received, written, checks, answer, after, settled, storeAfter, step, fresh}
+use Rattle.session.specs.Steps.{setUp}
 use Rattle.session.specs.Limits.{maxServers}
 use Rattle.session.specs.Rules.{otherAfter, OthersHold, Fresh, FreshHolds, ServerRules}
 use Rattle.session.specs.declared.state.Phase.{Phase}
@@ -27,7 +28,8 @@ use Rattle.session.specs.declared.state.Server as serverOf
 use Rattle.session.proofs.Choice.{each-closed}
 
 -- the phase of a server in a list with another one set, and with all restarted
-set-other : (servers : List serverOf.Server) (v u : ℕ) (phase : Phase) → u ≢ v → phaseAt (set servers v (server phase)) u ≡ phaseAt servers u
+set-other : (servers : List serverOf.Server) (v u : ℕ) (phase : Phase) → u ≢ v
+    → phaseAt (set servers v (server phase)) u ≡ phaseAt servers u
 set-other servers v u phase n = ap (λ (x : serverOf.Server). x .phase) (getD-set-other servers v u (server phase) (server Closed) n)
 
 restarted-each : (servers : List serverOf.Server) (u : ℕ) → phaseAt (map restart servers) u ≡ otherAfter negotiate (phaseAt servers u)
@@ -75,7 +77,9 @@ fresh-holds p octets e = go (settingsSound p octets) refl
         })
 
 pub server-rules : ServerRules
-unfolding numberOf uintIn octetsIn every firstFrom isType widthOf isMessage bodyFits messageOf layoutOf meaningOf keySound blockEnd headSound paddingSound blockSound blockAt tableSound choose changed settle transition otherAgreed expired ticked sumOf has settingsSound numbersSound sound formAnswer callOfMessage received written checks answer after settled storeAfter step
+unfolding numberOf uintIn octetsIn every firstFrom isType widthOf isMessage bodyFits messageOf layoutOf meaningOf keySound blockEnd
+    headSound paddingSound blockSound blockAt tableSound choose changed settle transition otherAgreed expired ticked sumOf has settingsSound
+    numbersSound sound formAnswer callOfMessage received written checks answer after settled storeAfter step
 server-rules =
     record {
       first = (refl, (refl, (refl, (refl, (refl, (refl, tt))))));

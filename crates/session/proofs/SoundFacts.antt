@@ -77,7 +77,8 @@ unfolding settingsSound
 settings-facts p room e =
     let at =
     both-at
-    (leb 1 (p .servers) ∷ leb (p .servers) maxServers ∷ leb 1 (p .threshold) ∷ leb (p .threshold) maxThreshold ∷ leb 1 (p .duration) ∷ leb minStoreOctets room ∷ leb room maxStoreOctets ∷ []) in
+    (leb 1 (p .servers) ∷ leb (p .servers) maxServers ∷ leb 1 (p .threshold) ∷ leb (p .threshold) maxThreshold ∷ leb 1 (p .duration)
+    ∷ leb minStoreOctets room ∷ leb room maxStoreOctets ∷ []) in
     record {
       someServers = leb-true _ _ (at 0 e);
       fewServers = leb-true _ _ (at 1 e);
@@ -116,7 +117,8 @@ unfolding numbersSound
 numbers-facts p room d due count start e =
     let at =
     both-at
-    (settingsSound p room ∷ leb count maxHeld ∷ ltb start room ∷ leb (d .sent) (d .reached) ∷ leb (d .reached) count ∷ ltb (d .timer) (p .duration) ∷ (not due || eqb (d .reached) 0) ∷ []) in
+    (settingsSound p room ∷ leb count maxHeld ∷ ltb start room ∷ leb (d .sent) (d .reached) ∷ leb (d .reached) count
+    ∷ ltb (d .timer) (p .duration) ∷ (not due || eqb (d .reached) 0) ∷ []) in
     record {
       settings = settings-facts p room (at 0 e);
       few = leb-true _ _ (at 1 e);
@@ -190,7 +192,8 @@ pub record SoundFacts (s : State) : Type 0 where
   pub fits : heldOctets (s .queue) ≤ s .capacity
   pub choice : s .delivery .active ≡ chosen (s .settings) (s .delivery)
   pub idle : s .delivery .active ≡ Nobody → IdleFacts (s .delivery)
-  pub received : (v : ℕ) → s .delivery .active ≡ Server v → (i : ℕ) → i < s .delivery .reached → has (getD (s .queue .receivers) i 0) v ≡ true
+  pub received : (v : ℕ) → s .delivery .active ≡ Server v → (i : ℕ) → i < s .delivery .reached
+      → has (getD (s .queue .receivers) i 0) v ≡ true
 
 pub sound-facts : (s : State) → sound s ≡ true → SoundFacts s
 unfolding sound
@@ -205,8 +208,12 @@ sound-facts s e =
     λ a k. ap (activationSound d (q .receivers)) (sym k) ∙ at 4 e in
     record {
       numbers = numbers-facts p (s .capacity) d (s .due) (q .count) (s .start) (at 0 e);
-      short = λ i l. leb-true _ _ (and-left (leb (getD (q .lengths) i 0) maxRecordOctets) (ltb (getD (q .receivers) i 0) (2 ^ p .servers)) (entry i l));
-      known = λ i l. ltb-true _ _ (and-right (leb (getD (q .lengths) i 0) maxRecordOctets) (ltb (getD (q .receivers) i 0) (2 ^ p .servers)) (entry i l));
+      short =
+          λ i l. leb-true _ _ (and-left (leb (getD (q .lengths) i 0) maxRecordOctets) (ltb (getD (q .receivers) i 0) (2 ^ p .servers))
+          (entry i l));
+      known =
+          λ i l. ltb-true _ _ (and-right (leb (getD (q .lengths) i 0) maxRecordOctets) (ltb (getD (q .receivers) i 0) (2 ^ p .servers))
+          (entry i l));
       fits = leb-true _ _ (at 2 e);
       choice = same-active (d .active) (chosen p d) (at 3 e);
       idle = λ k. idle-facts d (q .receivers) (sent Nobody k);
@@ -221,7 +228,8 @@ facts-sound s f =
     let d = s .delivery in
     let q = s .queue in
     let entry : (i : ℕ) → i < q .count → entrySound (p .servers) (q .lengths) (q .receivers) i ≡ true =
-    λ i l. rw (le-leb (getD (q .lengths) i 0) maxRecordOctets (f .short i l)) (lt-ltb (getD (q .receivers) i 0) (2 ^ p .servers) (f .known i l)) in
+    λ i l. rw (le-leb (getD (q .lengths) i 0) maxRecordOctets (f .short i l))
+    (lt-ltb (getD (q .receivers) i 0) (2 ^ p .servers) (f .known i l)) in
     let choice : sameActive (d .active) (chosen p d) ≡ true = rw (← f .choice) (active-same (d .active)) in
     rw (
       numbers-hold p (s .capacity) d (s .due) (q .count) (s .start) (f .numbers),

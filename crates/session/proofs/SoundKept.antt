@@ -19,11 +19,13 @@ use Rattle.octets.specs.Answers.{_when_, judge, done, unsoundState, settingsOut
 use Rattle.octets.proofs.Judging.{passed}
 use Rattle.wire.specs.Messages.{maxRecordOctets}
 use Rattle.wire.specs.Replies.{Encoding}
-use Rattle.session.specs.Servers.{isNobody, chosen, changed, settle, withServers, withCounts, transition, sentOne, acknowledged, lateServers, anotherAgreed, expired, tickedFor, ticked}
+use Rattle.session.specs.Servers.{isNobody, chosen, changed, settle, withServers, withCounts, transition, sentOne, acknowledged}
+use Rattle.session.specs.Servers.{lateServers, anotherAgreed, expired, tickedFor, ticked}
 use Rattle.session.specs.Queue.{sumOf, octetsTo, heldOctets, has, with, markedSet, pushed, dropFront, marked}
 use Rattle.session.specs.Limits.{maxHeld}
 use Rattle.session.specs.Sound.{settingsSound, sound}
-use Rattle.session.specs.Steps.{Call, put, nextData, tick, ack, move, ackCount, checks, soundFor, answer, withDelivery, after, settled, step, fresh, refusedState, setUp}
+use Rattle.session.specs.Steps.{Call, put, nextData, tick, ack, move, ackCount, checks, soundFor, answer, withDelivery, after}
+use Rattle.session.specs.Steps.{settled, step, fresh, refusedState, setUp}
 use Rattle.session.specs.declared.state.Server as serverOf
 use Rattle.session.specs.declared.state.Active.{Active}
 use Rattle.session.specs.declared.state.Active.the-variants.{Nobody, Server}
@@ -41,8 +43,8 @@ use Rattle.session.proofs.QueueLaws.{set-cases, shifted-length, shifted
 -- ---- set-up
 
 -- a state of which nothing was sent is sound by its limits, its records and its choice
-unsent-facts : (s : State) → IdleFacts (s .delivery) → SettingsFacts (s .settings) (s .capacity) → s .queue .count ≤ maxHeld → s .start < s .capacity
-    → ((i : ℕ) → i < s .queue .count → getD (s .queue .lengths) i 0 ≤ maxRecordOctets)
+unsent-facts : (s : State) → IdleFacts (s .delivery) → SettingsFacts (s .settings) (s .capacity) → s .queue .count ≤ maxHeld
+    → s .start < s .capacity → ((i : ℕ) → i < s .queue .count → getD (s .queue .lengths) i 0 ≤ maxRecordOctets)
     → ((i : ℕ) → i < s .queue .count → getD (s .queue .receivers) i 0 < 2 ^ s .settings .servers)
     → heldOctets (s .queue) ≤ s .capacity → s .delivery .active ≡ chosen (s .settings) (s .delivery) → SoundFacts s
 unsent-facts s z p few inside short known fits choice =
@@ -133,7 +135,15 @@ settle-fit s f = facts-sound (settled s) (go (changed (s .settings) (s .delivery
         unsent-facts (s′ true) (record { sent = refl; reached = refl; timer = refl }) (n .settings) (n .few) (n .inside)
         (f .short) (f .known) (f .fits) e
     go false e =
-        record { numbers = f .numbers; short = f .short; known = f .known; fits = f .fits; choice = e; idle = f .idle; received = f .received }
+        record {
+          numbers = f .numbers;
+          short = f .short;
+          known = f .known;
+          fits = f .fits;
+          choice = e;
+          idle = f .idle;
+          received = f .received;
+        }
 
 -- ---- deliveries with the same choice, and as many records reached
 
@@ -197,7 +207,15 @@ module _ (s : State) (z : Sized (s .queue)) (f : SoundFacts s) where
       → ((i : ℕ) → n + i < s .queue .count → getD (q .lengths) i 0 ≡ getD (s .queue .lengths) (n + i) 0)
       → ((i : ℕ) → n + i < s .queue .count → getD (q .receivers) i 0 ≡ getD (s .queue .receivers) (n + i) 0)
       → heldOctets q ≤ s .capacity
-      → Fit (record { settings = s .settings; capacity = s .capacity; delivery = d; due = s .due; queue = q; start = start; next = s .next })
+      → Fit (record {
+        settings = s .settings;
+        capacity = s .capacity;
+        delivery = d;
+        due = s .due;
+        queue = q;
+        start = start;
+        next = s .next;
+      })
   lower-fit n d q start m inside counted lengths receivers fits =
       let k = f .numbers in
       record {
@@ -278,8 +296,8 @@ module _ (s : State) (z : Sized (s .queue)) (f : SoundFacts s) where
       (omega (arith, rw whole at (sum-shifted (q .lengths) n (q .count - n) (omega (arith, z .lengths, k .few))), f .fits))
 
   -- a record of at most 1,024 octets put where there is room
-  put-fit : (w : ℕ) (table : List ℕ) (id : ℕ) (r : List ℕ) → length r ≤ maxRecordOctets → s .queue .count < maxHeld → heldOctets (s .queue) + length r ≤ s .capacity
-      → Fit (after w (put table id r) s)
+  put-fit : (w : ℕ) (table : List ℕ) (id : ℕ) (r : List ℕ) → length r ≤ maxRecordOctets → s .queue .count < maxHeld
+      → heldOctets (s .queue) + length r ≤ s .capacity → Fit (after w (put table id r) s)
   unfolding after pushed
   put-fit w table id r brief free room =
       let k = f .numbers in
@@ -346,7 +364,8 @@ module _ (s : State) (z : Sized (s .queue)) (f : SoundFacts s) where
       })
 
   -- every accepted call
-  after-fit : (enc : Encoding) (room : ℕ) (c : Call) (store : List ℕ) → judge (checks enc room c s store) ≡ done → Fit (after (enc .width) c s)
+  after-fit : (enc : Encoding) (room : ℕ) (c : Call) (store : List ℕ) → judge (checks enc room c s store) ≡ done
+      → Fit (after (enc .width) c s)
   unfolding checks after
   after-fit enc room (put table id r) store e =
       let p = passed (checks enc room (put table id r) s store) tt e in

@@ -26,7 +26,13 @@ module _ (enc : Encoding) (room : ℕ) (c : Call) (s : State) (store : List ℕ)
   step-refused a h e = rw (e, ne-eqb a done h)
 
   pub step-done : answer enc room c s store ≡ done
-      → step enc room c s store ≡ record { answer = done; state = settled (after (enc .width) c s); store = storeAfter c s store; written = written (enc .width) c s store }
+      → step enc room c s store
+      ≡ record {
+        answer = done;
+        state = settled (after (enc .width) c s);
+        store = storeAfter c s store;
+        written = written (enc .width) c s store;
+      }
   unfolding step
   step-done e = rw e
 

@@ -1,5 +1,5 @@
--- The rules about the timer hold: a tick is judged by soundness alone, and each rule is a case of `ticked`. Where no phase changes the choice
--- stays; where the active server turns late another is chosen, since one is agreed.
+-- The rules about the timer hold: a tick is judged by soundness alone, and each rule is a case of `ticked`. Where no phase changes the
+-- choice stays; where the active server turns late another is chosen, since one is agreed.
 use mathlib.Core.Path.{_≡_, refl, sym, ap, _∙_, subst}
 use mathlib.Core.Logic.{_≢_}
 use mathlib.Core.Bool.{Bool, true, false, not, _&&_, _||_, cond, false≢true}
@@ -11,7 +11,8 @@ use lib.Dec.{eqb}
 use borrow.Author.Tests.{eq-eqb, ne-eqb, lt-ltb, le-ltb}
 use Rattle.octets.specs.Answers.{done}
 use Rattle.wire.specs.Replies.{Encoding}
-use Rattle.session.specs.Servers.{phaseAt, isAgreed, isNobody, chosen, changed, settle, sameActive, otherAgreed, expired, lateServers, withCounts, withServers, tickedFor, ticked, IsChoice}
+use Rattle.session.specs.Servers.{phaseAt, isAgreed, isNobody, chosen, changed, settle, sameActive, otherAgreed, expired, lateServers}
+use Rattle.session.specs.Servers.{withCounts, withServers, tickedFor, ticked, IsChoice}
 use Rattle.session.specs.Sound.{sound}
 use Rattle.session.specs.Steps.{tick, answer, checks, after, settled, withDelivery, Outcome, step}
 use Rattle.session.specs.Timer.{withSentAndTimer, Runs, OtherAgreed, TurnedLate, TimerRule}
@@ -44,7 +45,8 @@ finds-none : (servers : List serverOf.Server) (v n : ℕ) → ((u : ℕ) → u <
     → otherAgreed servers v n ≡ false
 unfolding otherAgreed
 finds-none servers v zero h = refl
-finds-none servers v (suc n) h = rw (finds-none servers v n (λ u l. h u (omega (arith, l)))) (go (ℕ-discrete n v) (isAgreed (phaseAt servers n)) refl)
+finds-none servers v (suc n) h =
+    rw (finds-none servers v n (λ u l. h u (omega (arith, l)))) (go (ℕ-discrete n v) (isAgreed (phaseAt servers n)) refl)
   where
     go : Dec (n ≡ v) → (a : Bool) → isAgreed (phaseAt servers n) ≡ a → (not (eqb n v) && a) || false ≡ false
     go (yes e) a x = rw (eq-eqb n v e)
@@ -64,7 +66,8 @@ module _ (enc : Encoding) (s : State) (isSound : sound s ≡ true) where
   same-choice : (sent timer : ℕ) → ticked (s .settings) (s .delivery) ≡ withCounts (s .delivery) sent (s .delivery .reached) timer
       → step enc 0 tick s [] .state ≡ withSentAndTimer s sent timer
   same-choice sent timer e =
-      after-tick ∙ ap (λ (d : Delivery). settled (withDelivery s d)) e ∙ settled-same (withSentAndTimer s sent timer) (sound-facts s isSound .choice)
+      after-tick ∙ ap (λ (d : Delivery). settled (withDelivery s d)) e
+      ∙ settled-same (withSentAndTimer s sent timer) (sound-facts s isSound .choice)
 
   -- ---- the counters alone
 
@@ -102,18 +105,22 @@ module _ (enc : Encoding) (s : State) (isSound : sound s ≡ true) where
       → ticked (s .settings) (s .delivery) ≡ expired (s .settings) v (s .delivery)
   ran-out v r e = running v r ∙ rw (eq-eqb (s .delivery .timer + 1) (s .settings .duration) e)
 
-  sent-again : (v : ℕ) → Runs s v → s .delivery .timer + 1 ≡ s .settings .duration → (OtherAgreed s v → ⊥) → step enc 0 tick s [] .state ≡ withSentAndTimer s 0 0
+  sent-again : (v : ℕ) → Runs s v → s .delivery .timer + 1 ≡ s .settings .duration → (OtherAgreed s v → ⊥)
+      → step enc 0 tick s [] .state ≡ withSentAndTimer s 0 0
   unfolding expired
   sent-again v r e h =
       same-choice 0 0
       (ran-out v r e
-      ∙ rw (finds-none (s .delivery .servers) v (s .settings .servers) (λ u l o a. h (record { server = u; exists = l; other = o; agreed = a }))))
+      ∙ rw (finds-none (s .delivery .servers) v (s .settings .servers)
+      (λ u l o a. h (record { server = u; exists = l; other = o; agreed = a }))))
 
   -- the state with v late, before the choice
   abbrev lateState : ℕ → State
-  lateState v = withDelivery s (withCounts (withServers (s .delivery) (lateServers (s .delivery) v)) (s .delivery .sent) (s .delivery .reached) 0)
+  lateState v =
+      withDelivery s (withCounts (withServers (s .delivery) (lateServers (s .delivery) v)) (s .delivery .sent) (s .delivery .reached) 0)
 
-  turned : (v : ℕ) → Runs s v → s .delivery .timer + 1 ≡ s .settings .duration → OtherAgreed s v → step enc 0 tick s [] .state ≡ settled (lateState v)
+  turned : (v : ℕ) → Runs s v → s .delivery .timer + 1 ≡ s .settings .duration → OtherAgreed s v
+      → step enc 0 tick s [] .state ≡ settled (lateState v)
   unfolding expired
   turned v r e o =
       after-tick
@@ -141,12 +148,26 @@ module _ (enc : Encoding) (s : State) (isSound : sound s ≡ true) where
       go Nobody e = refl
       go (Server u) e = rw (ne-eqb u v (λ x. others-turn v o (Server u) e .1 (ap Server x)))
 
-  turned-late : (v : ℕ) → Runs s v → s .delivery .timer + 1 ≡ s .settings .duration → OtherAgreed s v → TurnedLate s v (step enc 0 tick s [] .state)
+  turned-late : (v : ℕ) → Runs s v → s .delivery .timer + 1 ≡ s .settings .duration → OtherAgreed s v
+      → TurnedLate s v (step enc 0 tick s [] .state)
   unfolding settled settle
   turned-late v r e o =
       let f = others-turn v o (chosen (s .settings) (lateState v .delivery)) refl in
       rw (turned v r e o, choice-changed v r o)
-      (record { servers = refl; somebody = f .0; another = f .1; sent = refl; reached = refl; timer = refl; due = refl; queue = refl; settings = refl; capacity = refl; start = refl; next = refl })
+      (record {
+        servers = refl;
+        somebody = f .0;
+        another = f .1;
+        sent = refl;
+        reached = refl;
+        timer = refl;
+        due = refl;
+        queue = refl;
+        settings = refl;
+        capacity = refl;
+        start = refl;
+        next = refl;
+      })
 
 pub timer-rule : TimerRule
 timer-rule enc s isSound =

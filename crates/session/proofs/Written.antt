@@ -13,7 +13,8 @@ use Rattle.octets.proofs.Judging.{passed}
 use Rattle.octets.proofs.Stores.{cond-cases}
 use Rattle.wire.specs.Replies.{Reply, silent, message, Encoding, sizeOf, crane, layout}
 use Rattle.session.specs.Servers.{start, stop, negotiate, offer, down, agree, malformed}
-use Rattle.session.specs.Steps.{Call, put, nextData, tick, ack, move, answer, checks, soundFor, after, settled, storeAfter, written, Outcome, step, octetsWritten}
+use Rattle.session.specs.Steps.{Call, put, nextData, tick, ack, move, answer, checks, soundFor, after, settled, storeAfter, written}
+use Rattle.session.specs.Steps.{Outcome, step, octetsWritten}
 use Rattle.session.specs.declared.state.State.{State}
 
 -- a step whose call writes nothing where it is accepted writes nothing
@@ -23,7 +24,12 @@ unfolding step
 writes-nothing enc room c s store e =
     let a = answer enc room c s store in
     cond-cases (λ (o : Outcome). o .written ≡ silent) (eqb a done)
-    (record { answer = done; state = settled (after (enc .width) c s); store = storeAfter c s store; written = written (enc .width) c s store })
+    (record {
+      answer = done;
+      state = settled (after (enc .width) c s);
+      store = storeAfter c s store;
+      written = written (enc .width) c s store;
+    })
     (record { answer = a; state = s; store = store; written = silent })
     (λ h. e)
     (λ h. refl)
@@ -40,10 +46,18 @@ accepted-fits enc room (put table id r) s store e = omega arith
 accepted-fits enc room nextData s store e = let p = passed (allChecks enc room nextData s store) tt e in ltb-false _ _ (p .1 .1 .1 .0)
 accepted-fits enc room tick s store e = omega arith
 accepted-fits enc room (ack v d config) s store e = omega arith
-accepted-fits enc room (move v start) s store e = let p = passed (allChecks enc room (move v start) s store) tt e in ltb-false _ _ (p .1 .1 .0)
-accepted-fits enc room (move v stop) s store e = let p = passed (allChecks enc room (move v stop) s store) tt e in ltb-false _ _ (p .1 .1 .0)
-accepted-fits enc room (move v negotiate) s store e = let p = passed (allChecks enc room (move v negotiate) s store) tt e in ltb-false _ _ (p .1 .1 .1 .0)
-accepted-fits enc room (move v (offer table)) s store e = let p = passed (allChecks enc room (move v (offer table)) s store) tt e in ltb-false _ _ (p .1 .1 .1 .1 .0)
+accepted-fits enc room (move v start) s store e =
+    let p = passed (allChecks enc room (move v start) s store) tt e in
+    ltb-false _ _ (p .1 .1 .0)
+accepted-fits enc room (move v stop) s store e =
+    let p = passed (allChecks enc room (move v stop) s store) tt e in
+    ltb-false _ _ (p .1 .1 .0)
+accepted-fits enc room (move v negotiate) s store e =
+    let p = passed (allChecks enc room (move v negotiate) s store) tt e in
+    ltb-false _ _ (p .1 .1 .1 .0)
+accepted-fits enc room (move v (offer table)) s store e =
+    let p = passed (allChecks enc room (move v (offer table)) s store) tt e in
+    ltb-false _ _ (p .1 .1 .1 .1 .0)
 accepted-fits enc room (move v down) s store e = omega arith
 accepted-fits enc room (move v (agree config)) s store e = omega arith
 accepted-fits enc room (move v (malformed a)) s store e = omega arith
@@ -53,7 +67,12 @@ unfolding step
 step-fits enc room c s store =
     let a = answer enc room c s store in
     cond-cases (λ (o : Outcome). sizeOf enc (o .written) ≤ room) (eqb a done)
-    (record { answer = done; state = settled (after (enc .width) c s); store = storeAfter c s store; written = written (enc .width) c s store })
+    (record {
+      answer = done;
+      state = settled (after (enc .width) c s);
+      store = storeAfter c s store;
+      written = written (enc .width) c s store;
+    })
     (record { answer = a; state = s; store = store; written = silent })
     (λ h. accepted-fits enc room c s store (eqb-true a done h))
     (λ h. omega arith)

@@ -7,7 +7,9 @@ use mathlib.Core.Bool.{Bool, true, false, not, _&&_, _||_, cond}
 use mathlib.Core.List.{List, [], _∷_, _++_}
 use lib.Dec.{eqb, leb, ltb}
 use lib.ListN.{length, getD, take}
-use Rattle.octets.specs.Answers.{Check, _when_, judge, done, unsoundState, noSuchServer, shortMessage, bodyLengthWrong, outOfTurn, otherConfiguration, dsnNotAcknowledgeable, outputTooShort, noActiveServer, nothingToSend, templateNotFound, recordTooLong, recordInvalid, queueFull, storeFull, unsoundTable}
+use Rattle.octets.specs.Answers.{Check, _when_, judge, done, unsoundState, noSuchServer, shortMessage, bodyLengthWrong, outOfTurn}
+use Rattle.octets.specs.Answers.{otherConfiguration, dsnNotAcknowledgeable, outputTooShort, noActiveServer, nothingToSend, templateNotFound}
+use Rattle.octets.specs.Answers.{recordTooLong, recordInvalid, queueFull, storeFull, unsoundTable}
 use Rattle.wire.specs.Table.{isMissing, templateOf}
 use Rattle.wire.specs.Record.{recordValid}
 use Rattle.wire.specs.Messages.{maxRecordOctets}
@@ -19,8 +21,10 @@ use Rattle.session.specs.Servers.{sameActive, isNobody, phaseAt, Transit
 use Rattle.session.specs.Queue.{Entry, held}
 use Rattle.session.specs.Limits.{maxHeld}
 use Rattle.session.specs.Sound.{sound}
-use Rattle.session.specs.Steps.{modulus, Call, put, nextData, tick, ack, move, isSessions, replyTo, transitionChecks, Outcome, step, setUp}
-use Rattle.session.specs.History.{Writing, Ledger, History, dsnOf, placeOf, ackPlace, afterCall, freshHistory, anyWriting, writtenIn, writtenDuring}
+use Rattle.session.specs.Steps.{modulus, Call, put, nextData, tick, ack, move, isSessions, replyTo, transitionChecks, Outcome, step}
+use Rattle.session.specs.Steps.{setUp}
+use Rattle.session.specs.History.{Writing, Ledger, History, dsnOf, placeOf, ackPlace, afterCall, freshHistory, anyWriting, writtenIn}
+use Rattle.session.specs.History.{writtenDuring}
 use Rattle.session.specs.declared.state.Active.{Active}
 use Rattle.session.specs.declared.state.Active.the-variants as active
 use Rattle.session.specs.declared.state.Settings.{Settings}

@@ -11,9 +11,11 @@ use Rattle.octets.specs.Numbers.{Octets}
 use Rattle.wire.specs.Replies.{crane, layout}
 use Rattle.session.specs.Servers.{offer, down}
 use Rattle.session.specs.Queue.{held}
-use Rattle.session.specs.Steps.{modulus, Call, put, nextData, tick, move, received, Outcome, putStep, nextDataStep, receiveStep, offerStep, lineDownStep, tickStep, octetsWritten, outputAfter, setUp}
+use Rattle.session.specs.Steps.{modulus, Call, put, nextData, tick, move, received, Outcome, putStep, nextDataStep, receiveStep}
+use Rattle.session.specs.Steps.{offerStep, lineDownStep, tickStep, octetsWritten, outputAfter, setUp}
 use Rattle.session.specs.History.{History, afterCall, freshHistory}
-use Rattle.session.specs.Claim.{Invocation, Session, dsnBits, Exporter, outcome, run, begin, AnsweredCall, transcript, dueReply, CallClaim, Claim}
+use Rattle.session.specs.Claim.{Invocation, Session, dsnBits, Exporter, outcome, run, begin, AnsweredCall, transcript, dueReply}
+use Rattle.session.specs.Claim.{CallClaim, Claim}
 use Rattle.session.specs.declared.state.Settings.{Settings}
 
 -- ---- calls over octets

@@ -7,7 +7,8 @@ use lib.Dec.{eqb, leb, ltb}
 use lib.ListN.{length, getD, replicate}
 use lib.Seq.{sets}
 use Rattle.octets.specs.Answers.{Check, _when_, judge, done, unsoundState, noSuchServer, otherSession, messageNotAccepted}
-use Rattle.octets.specs.Answers.{bodyLengthWrong, outOfTurn, otherConfiguration, dsnNotAcknowledgeable, outputTooShort, noActiveServer, nothingToSend}
+use Rattle.octets.specs.Answers.{bodyLengthWrong, outOfTurn, otherConfiguration, dsnNotAcknowledgeable, outputTooShort, noActiveServer}
+use Rattle.octets.specs.Answers.{nothingToSend}
 use Rattle.octets.specs.Answers.{templateNotFound, recordInvalid, recordTooLong, queueFull, storeFull, settingsOutsideLimits, unsoundTable}
 use Rattle.wire.specs.Table.{configurationId, tableSound, isMissing, templateOf}
 use Rattle.wire.specs.Record.{recordValid}
@@ -19,7 +20,8 @@ use Rattle.messages.specs.declared.message.Message.the-variants.{Start, StartAc
 use Rattle.messages.specs.declared.message.Message.the-variants.{StartNegotiate, StartNegotiateAck, Data, DataAck}
 use Rattle.messages.specs.declared.message.DataHead.{DataHead}
 use Rattle.session.specs.Servers.{phaseAt, isClosed, isOffered, canOffer, sameActive, isNobody, changed, settle, freshDelivery}
-use Rattle.session.specs.Servers.{withServers, Transition, start, stop, negotiate, offer, down, agree, malformed, transition, sentOne, acknowledged, ticked}
+use Rattle.session.specs.Servers.{withServers, Transition, start, stop, negotiate, offer, down, agree, malformed, transition, sentOne}
+use Rattle.session.specs.Servers.{acknowledged, ticked}
 use Rattle.session.specs.Queue.{heldOctets, ringPlace, recordAt, ringWrite, markedSet, hasOther, pushed, dropFront, marked}
 use Rattle.session.specs.Limits.{maxServers, maxHeld}
 use Rattle.session.specs.Sound.{settingsSound, sound}

@@ -1,5 +1,5 @@
--- Laws of a session: what one event is, what a call's answer leaves of a session, and one event more. Each call's law takes what the exporter
--- ensures of it to what the definition has after that event.
+-- Laws of a session: what one event is, what a call's answer leaves of a session, and one event more. Each call's law takes what the
+-- exporter ensures of it to what the definition has after that event.
 use mathlib.Core.Path.{_≡_, refl, sym, ap, _∙_}
 use mathlib.Core.List.{List}
 use Prim.Native.Nat.{ℕ, _+_, _*_}
@@ -13,7 +13,8 @@ use Rattle.session.specs.InOctets.{Event, Put, NextData, Receive, OfferTemplate
 use Rattle.session.specs.declared.state.State.{State}
 use Rattle.session.specs.declared.state.Stepped.{Stepped}
 use Rattle.session.specs.declared.state.Wrote.{Wrote}
-use Rattle.sessions.specs.Sessions.{Lent, messageAt, eventAt, eventOctets, Progress, progress, exporterOf, added, after, played, PlayedTo}
+use Rattle.sessions.specs.Sessions.{Lent, messageAt, eventAt, eventOctets, Progress, progress, exporterOf, added, after, played}
+use Rattle.sessions.specs.Sessions.{PlayedTo}
 
 -- ---- the event at a place, by the number of its call
 
@@ -42,7 +43,8 @@ module _ (l : Lent) (at : ℕ) (out : List ℕ) where
 -- ---- what a call's answer leaves
 
 -- a put and a tick write nothing, accepted or not
-pub put-writes-nothing : (table : List ℕ) (room id : ℕ) (r : List ℕ) (s : State) (store : List ℕ) → step crane room (put table id r) s store .written ≡ silent
+pub put-writes-nothing : (table : List ℕ) (room id : ℕ) (r : List ℕ) (s : State) (store : List ℕ)
+    → step crane room (put table id r) s store .written ≡ silent
 unfolding written
 put-writes-nothing table room id r s store = writes-nothing crane room (put table id r) s store refl
 
@@ -67,7 +69,8 @@ module _ (l : Lent) (q : Progress) (e : Event) where
 
 -- ---- one event more, and the end
 
-pub same-progress : {s s′ : State} {a a′ b b′ : List ℕ} {t t′ : ℕ} → s ≡ s′ → a ≡ a′ → b ≡ b′ → t ≡ t′ → progress s a b t ≡ progress s′ a′ b′ t′
+pub same-progress : {s s′ : State} {a a′ b b′ : List ℕ} {t t′ : ℕ} → s ≡ s′ → a ≡ a′ → b ≡ b′ → t ≡ t′
+    → progress s a b t ≡ progress s′ a′ b′ t′
 same-progress es ea eb et = rw (es, ea, eb, et)
 
 pub played-more : (l : Lent) (p q next : Progress) (i : ℕ) (e : Event) → q ≡ played l i p → eventAt l (eventOctets * i) (q .out) ≡ e

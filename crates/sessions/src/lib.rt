@@ -4,7 +4,8 @@
 ghost use mathlib.Core.Path.{_≡_};
 ghost use Prim.Native.Nat.{_+_, _≤_};
 ghost use lib.ListN.{length};
-ghost use Rattle.sessions.specs.Sessions.{settingsOf, eventOctets, messageAt, added, eventCount, progress, played, sessionEnd, PlayedTo};
+ghost use Rattle.sessions.specs.Sessions.{settingsOf, eventOctets, messageAt, added, eventCount, progress, played, sessionEnd};
+ghost use Rattle.sessions.specs.Sessions.{PlayedTo};
 use exporter::limits::SERVER_ENTRIES;
 use exporter::state::Made;
 use exporter::state::Settings;

@@ -1,4 +1,5 @@
--- Laws of a state by its parts: soundness looks at no others, and the active server of a sound state is one of those that there are at most.
+-- Laws of a state by its parts: soundness looks at no others, and the active server of a sound state is one of those that there are at
+-- most.
 use mathlib.Core.Path.{_≡_, refl, sym, _∙_}
 use mathlib.Core.Bool.{true}
 use Prim.Native.Nat.{ℕ, _≤_}
@@ -30,4 +31,6 @@ choice-below p d m e l = go (d .active) refl
 
 -- a sound state's active server is one of those that an exporter has at most
 pub active-below : (s : State) → sound s ≡ true → Below maxServers (s .delivery .active)
-active-below s e = let f = sound-facts s e in choice-below (s .settings) (s .delivery) maxServers (f .choice) (f .numbers .settings .fewServers)
+active-below s e =
+    let f = sound-facts s e in
+    choice-below (s .settings) (s .delivery) maxServers (f .choice) (f .numbers .settings .fewServers)

@@ -13,7 +13,10 @@ use lib.ListN.{length}
 use Rattle.octets.specs.Answers.{Check, _when_, judge, done, unsoundTable, templateNotFound}
 use Rattle.octets.proofs.Judging.{kept}
 use Rattle.octets.specs.Each.{every, absent, differ}
-use Rattle.tables.specs.Table.{keyOctets, blockHeadOctets, maxKeys, maxTableOctets, maxTemplates, tableHeadOctets, flagsSound, keyCount, blockFlags, blockLength, blockOctets, blockEnd, headSound, blockSound, blockAt, blocksSound, templatesDiffer, tableFlags, templateCount, tableSound, isMissing, templateIndex, templateAt, templateOf, templateChecks, findAnswer, findOf, locateOf, foundAnswer}
+use Rattle.tables.specs.Table.{keyOctets, blockHeadOctets, maxKeys, maxTableOctets, maxTemplates, tableHeadOctets, flagsSound}
+use Rattle.tables.specs.Table.{keyCount, blockFlags, blockLength, blockOctets, blockEnd, headSound, blockSound, blockAt, blocksSound}
+use Rattle.tables.specs.Table.{templatesDiffer, tableFlags, templateCount, tableSound, isMissing, templateIndex, templateAt}
+use Rattle.tables.specs.Table.{templateOf, templateChecks, findAnswer, findOf, locateOf, foundAnswer}
 use Rattle.tables.specs.declared.table.Template.{Template}
 use Rattle.tables.specs.declared.table.Found.the-variants.{At, Refused}
 use Rattle.octets.proofs.Each.{clause-first, clause-rest, every-at, every-step, every-intro, and-left, and-right}

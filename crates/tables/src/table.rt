@@ -1,4 +1,4 @@
-// Template tables: whether octets are a sound one, and where a template's key blocks lie.
+// Template tables: whether octets are a sound one, the octet order of its record data, and where a template's key blocks lie.
 ghost use mathlib.Core.Path.{_≡_};
 ghost use mathlib.Core.Bool.{true};
 ghost use mathlib.Core.List.{[], _∷_};
@@ -7,7 +7,10 @@ ghost use lib.Dec.{eqb};
 ghost use lib.ListN.{length, getD};
 ghost use Rattle.octets.specs.Answers.{Answered};
 ghost use Rattle.octets.specs.Each.{every, absent, allOf};
-ghost use Rattle.tables.specs.Table.{maxTableOctets, maxKeys, keyOctets, blockHeadOctets, configurationId, keyId, keyAt, keySound, keysSound, keysDiffer, keysAt, padded, blockEnd, headSound, paddingSound, blockSound, blockAt, idAt, blocksSound, templatesDiffer, flagsSound, orderOf, tableOrder, tableSound, templateAt, locateOf, findAnswer, findOf, foundAnswer};
+ghost use Rattle.tables.specs.Table.{maxTableOctets, maxKeys, keyOctets, blockHeadOctets, configurationId, keyId, keyAt, keySound};
+ghost use Rattle.tables.specs.Table.{keysSound, keysDiffer, keysAt, padded, blockEnd, headSound, paddingSound, blockSound, blockAt};
+ghost use Rattle.tables.specs.Table.{idAt, blocksSound, templatesDiffer, flagsSound, orderOf, tableOrder, tableSound, templateAt};
+ghost use Rattle.tables.specs.Table.{locateOf, findAnswer, findOf, foundAnswer};
 use field_types::field_type::FieldType;
 use octets::Answer;
 use octets::OctetOrder;

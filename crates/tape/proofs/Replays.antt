@@ -20,7 +20,8 @@ use Rattle.session.specs.Claim.{Exporter, begin}
 use Rattle.session.specs.InOctets.{Event, eventStep, storeLeft, afterEvent, freshOver, AllOctets}
 use Rattle.session.proofs.InOctets.{demand3-in-octets}
 use Rattle.session.specs.declared.state.State.{State}
-use Rattle.contents.specs.Tape.{eventCount, kindAt, serverAt, bodyLength, bodyAt, octetsAt, bodyOf, eventSound, maxTapeOctets, minEvents, maxEvents, tapeSound}
+use Rattle.contents.specs.Tape.{eventCount, kindAt, serverAt, bodyLength, bodyAt, octetsAt, bodyOf, eventSound, maxTapeOctets, minEvents}
+use Rattle.contents.specs.Tape.{maxEvents, tapeSound}
 use Rattle.lines.specs.Lines.{lineOf}
 use Rattle.tape.specs.Replay.{outputBuffer, callsFrom, linesOf, ifDone, tapeSettings, tapeStore, tapeCalls, replay}
 use Rattle.events.specs.Events.{tableAnswer, eventCall, settingsOf}
@@ -50,7 +51,9 @@ pub record Bounded (t : List ℕ) : Type 0 where
 pub bounded : (t : List ℕ) → tapeSound t ≡ true → Bounded t
 unfolding tapeSound
 bounded t e =
-    let f = go (leb (length t) maxTapeOctets) (leb minEvents (eventCount t)) (leb (eventCount t) maxEvents) (every (eventCount t) (eventSound t)) (eqb (bodyAt t (eventCount t)) (length t)) e in
+    let f =
+    go (leb (length t) maxTapeOctets) (leb minEvents (eventCount t)) (leb (eventCount t) maxEvents)
+    (every (eventCount t) (eventSound t)) (eqb (bodyAt t (eventCount t)) (length t)) e in
     record { some = leb-true _ _ (f .0); whole = eqb-true _ _ (f .1) }
   where
     go : (a b c d f : Bool) → cond a (cond b (cond c (cond d (cond f true false) false) false) false) false ≡ true → (b ≡ true) × (f ≡ true)
@@ -86,7 +89,8 @@ unfolding played
 played-at t f n i c h x =
     let z : eventCount t - suc n ≡ i = omega arith in
     let e = eventCall (kindAt t i) (serverAt t i) (bodyOf t i) outputBuffer (bodyOf t 1) in
-    let w : bodyAt t i + length (bodyOf t i) ≡ bodyAt t (i + 1) = ap (λ (j : ℕ). bodyAt t i + j) (body-whole t i f (omega arith)) ∙ sym (body-sum t i) in
+    let w : bodyAt t i + length (bodyOf t i) ≡ bodyAt t (i + 1) =
+    ap (λ (j : ℕ). bodyAt t i + j) (body-whole t i f (omega arith)) ∙ sym (body-sum t i) in
     let less : suc n - 1 ≡ n = omega arith in
     rw (ne-eqb (suc n) 0 (λ y. absurd (omega (arith, y))), z, ne-eqb i 1 (λ y. absurd (omega (arith, y)))) (rw (w, less) refl)
 
@@ -116,11 +120,17 @@ calls-turns t f (suc n) i (suc fuel) c h k x p r s =
 pub table-at : (t store : List ℕ) → Bounded t → (m : ℕ) → m + 2 ≡ eventCount t → (s : State)
     → let a = tableAnswer (tapeSettings t) (bodyOf t 1) in
     played t (record { state = s; left = suc m; at = bodyAt t 1 }) store
-    ≡ record { line = lineOf 1 a []; written = []; progress = record { state = s; left = cond (eqb a done) m 0; at = bodyAt t 2 }; store = store }
+    ≡ record {
+      line = lineOf 1 a [];
+      written = [];
+      progress = record { state = s; left = cond (eqb a done) m 0; at = bodyAt t 2 };
+      store = store;
+    }
 unfolding played
 table-at t store f m c s =
     let z : eventCount t - suc m ≡ 1 = omega arith in
-    let w : bodyAt t 1 + length (bodyOf t 1) ≡ bodyAt t 2 = ap (λ (j : ℕ). bodyAt t 1 + j) (body-whole t 1 f (omega arith)) ∙ sym (body-sum t 1) in
+    let w : bodyAt t 1 + length (bodyOf t 1) ≡ bodyAt t 2 =
+    ap (λ (j : ℕ). bodyAt t 1 + j) (body-whole t 1 f (omega arith)) ∙ sym (body-sum t 1) in
     let less : suc m - 1 ≡ m = omega arith in
     rw (ne-eqb (suc m) 0 (λ y. absurd (omega (arith, y))), z) (rw (w, less) refl)
 
@@ -137,7 +147,12 @@ table-turns t f m fuel c k p x r s =
     (ap (λ (ls : List (List ℕ)). lineOf 1 a [] ∷ ls) (go (eqb a done))))
   where
     go : (b : Bool)
-        → turnsFrom t fuel (record { line = lineOf 1 (tableAnswer (tapeSettings t) (bodyOf t 1)) []; written = []; progress = record { state = x .state; left = cond b m 0; at = bodyAt t 2 }; store = x .store })
+        → turnsFrom t fuel (record {
+          line = lineOf 1 (tableAnswer (tapeSettings t) (bodyOf t 1)) [];
+          written = [];
+          progress = record { state = x .state; left = cond b m 0; at = bodyAt t 2 };
+          store = x .store;
+        })
         ≡ cond b (linesOf x 2 (callsFrom t 2 m)) []
     go true = calls-turns t f m 2 fuel (omega arith) (omega arith) k x _ refl refl
     go false = none-left t fuel _ refl
@@ -159,7 +174,8 @@ turn-by-turn t = sound? (tapeSound t) refl
         let all : suc (eventCount t - 1) ≡ eventCount t = omega (arith, f .some) in
         let more : eventCount t - 1 ≡ suc m = omega (arith, f .some) in
         let q =
-        table-turns t f m (eventCount t - 1) (omega (arith, f .some)) (omega arith) (opened t (tapeStore t)) (freshOver (tapeSettings t) (tapeStore t))
+        table-turns t f m (eventCount t - 1) (omega (arith, f .some)) (omega arith) (opened t (tapeStore t))
+        (freshOver (tapeSettings t) (tapeStore t))
         (rw (e, g, more) refl) refl in
         rw (rw all at q, e, g) refl
 
@@ -170,7 +186,8 @@ turn-by-turn t = sound? (tapeSound t) refl
 -- ---- demand 3
 
 -- one call more, whose message, if it is one, is octets
-one-octets : (kind v : ℕ) (b table : List ℕ) (es : List Event) → Octets b → AllOctets es → AllOctets (eventCall kind v b outputBuffer table ∷ es)
+one-octets : (kind v : ℕ) (b table : List ℕ) (es : List Event) → Octets b → AllOctets es
+    → AllOctets (eventCall kind v b outputBuffer table ∷ es)
 one-octets kind v b table es h rest =
     by-kind (λ (e f : Event). AllOctets (e ∷ es)) kind v b outputBuffer outputBuffer table rest (h, rest) rest rest rest rest
 
@@ -179,7 +196,8 @@ calls-octets : (t : List ℕ) → Octets t → (i n : ℕ) → AllOctets (callsF
 unfolding callsFrom
 calls-octets t h i zero = tt
 calls-octets t h i (suc n) =
-    one-octets (kindAt t i) (serverAt t i) (bodyOf t i) (bodyOf t 1) (callsFrom t (i + 1) n) (octets-part t h (bodyAt t i) (bodyLength t i)) (calls-octets t h (i + 1) n)
+    one-octets (kindAt t i) (serverAt t i) (bodyOf t i) (bodyOf t 1) (callsFrom t (i + 1) n) (octets-part t h (bodyAt t i) (bodyLength t i))
+    (calls-octets t h (i + 1) n)
 
 pub calls-claimed : CallsClaimed
 unfolding settingsOf

@@ -21,7 +21,8 @@ use Rattle.contents.specs.Tape.{eventCount, kindAt, serverAt, bodyLength, bodyA
 use Rattle.lines.specs.Lines.{lineOf, tapeRefused, lineOctets}
 use Rattle.tape.specs.Replay.{outputBufferOctets, outputBuffer, tapeSettings}
 use Rattle.events.specs.Events.{tableAnswer, eventCall}
-use Rattle.tape.specs.Turns.{opened, indexOf, nextBody, nextEnd, tableTurn, nextCall, callTurn, played, CallReady, turnOf, Lined, Turned}
+use Rattle.tape.specs.Turns.{opened, indexOf, nextBody, nextEnd, tableTurn, nextCall, callTurn, played, CallReady, turnOf, Lined}
+use Rattle.tape.specs.Turns.{Turned}
 use Rattle.events.specs.Events.{effect, Gives, Called}
 use Rattle.tape.specs.declared.replay.Progress.{Progress}
 use Rattle.tape.specs.declared.replay.Turn.{Turn}
@@ -40,16 +41,19 @@ effect-fits s store Tick = octets-fit _ _ _ _
 -- the call of an event is lent no more than the output
 pub call-room : (kind server : ℕ) (b out table : List ℕ) → roomOf (eventCall kind server b out table) ≤ length out
 call-room kind server b out table =
-    by-kind (λ (e f : Event). roomOf e ≤ length out) kind server b out out table (omega arith) (le-refl _) (omega arith) (omega arith) (le-refl _) (le-refl _)
+    by-kind (λ (e f : Event). roomOf e ≤ length out) kind server b out out table (omega arith) (le-refl _) (omega arith) (omega arith)
+    (le-refl _) (le-refl _)
 
 -- what a call says that it wrote fits the output
-pub called-fits : (table : List ℕ) (s : State) (store out : List ℕ) (kind server : ℕ) (b : List ℕ) (w : Wrote) (storeAfter outAfter : List ℕ)
+pub called-fits : (table : List ℕ) (s : State) (store out : List ℕ) (kind server : ℕ) (b : List ℕ) (w : Wrote)
+    (storeAfter outAfter : List ℕ)
     → Called table s store out (eventCall kind server b out) w storeAfter outAfter → w .written ≤ length out
 called-fits table s store out kind server b w storeAfter outAfter called =
     rw (called .0) (le-trans (effect-fits s store (eventCall kind server b out table)) (call-room kind server b out table))
 
 -- a line of it fits the text
-pub line-fits : (n : ℕ) (o out text : List ℕ) → n ≤ length out → lineOctets (length out) ≤ length text → lineOctets (length (take n o)) ≤ length text
+pub line-fits : (n : ℕ) (o out text : List ℕ) → n ≤ length out → lineOctets (length out) ≤ length text
+    → lineOctets (length (take n o)) ≤ length text
 line-fits n o out text h k = omega (arith, length-take n o)
 
 -- what was stored from the first octet on is what is taken there
@@ -57,8 +61,8 @@ pub take-sets : (out vs : List ℕ) → length vs ≤ length out → take (lengt
 take-sets out vs h = ap (take (length vs)) (sets-eq vs out 0 (omega arith)) ∙ take-append-seam vs _
 
 -- what a call wrote is what stands in the output
-pub call-wrote : (o : Outcome) (w : Wrote) (out outAfter : List ℕ) → length (octetsWritten o) ≤ length out → w ≡ wroteOf o → outAfter ≡ outputAfter out o
-    → take (w .written) outAfter ≡ octetsWritten o
+pub call-wrote : (o : Outcome) (w : Wrote) (out outAfter : List ℕ) → length (octetsWritten o) ≤ length out → w ≡ wroteOf o
+    → outAfter ≡ outputAfter out o → take (w .written) outAfter ≡ octetsWritten o
 call-wrote o w out outAfter h e f = rw (e, f) (take-sets out (octetsWritten o) h)
 
 -- ---- turns
@@ -82,8 +86,10 @@ pub call-turn : (t : List ℕ) (r : Progress) (store out text : List ℕ) (i kin
     (storeAfter outAfter textAfter : List ℕ) (len at : ℕ)
     → CallReady t r i b at out text → table ≡ bodyOf t 1 → kind ≡ kindAt t i → server ≡ serverAt t i
     → Called table (r .state) store out (eventCall kind server b out) w storeAfter outAfter
-    → len ≡ length (lineOf i (w .answer) (take (w .written) outAfter)) → textAfter ≡ sets text 0 (lineOf i (w .answer) (take (w .written) outAfter))
-    → Turned (callTurn t r store) out text (record { len = len; progress = record { state = w .state; left = r .left - 1; at = at } }) storeAfter outAfter textAfter
+    → len ≡ length (lineOf i (w .answer) (take (w .written) outAfter))
+    → textAfter ≡ sets text 0 (lineOf i (w .answer) (take (w .written) outAfter))
+    → Turned (callTurn t r store) out text
+    (record { len = len; progress = record { state = w .state; left = r .left - 1; at = at } }) storeAfter outAfter textAfter
 call-turn t r store out text i kind server b table w storeAfter outAfter textAfter len at ready et ek es called el ex =
     let e = nextCall t r in
     let o = effect (r .state) store e in
@@ -92,14 +98,17 @@ call-turn t r store out text i kind server b table w storeAfter outAfter textAft
     let f : Gives (r .state) store out (eventCall kind server b outputBuffer table) w storeAfter outAfter =
     (called .0 ∙ ap wroteOf (same .0), (called .1 .0 ∙ same .1, called .1 .1 ∙ ap (outputAfter out) (same .0))) in
     let k : Gives (r .state) store out e w storeAfter outAfter = rw (ek, es, ready .body, et, ready .place) at f in
-    let n = le-trans (effect-fits (r .state) store e) (call-room (kindAt t (indexOf t r)) (serverAt t (indexOf t r)) (nextBody t r) outputBuffer (bodyOf t 1)) in
+    let n =
+    le-trans (effect-fits (r .state) store e)
+    (call-room (kindAt t (indexOf t r)) (serverAt t (indexOf t r)) (nextBody t r) outputBuffer (bodyOf t 1)) in
     let q = call-wrote o w out outAfter (omega (arith, n, ready .lent, buffer)) (k .0) (k .1 .1) in
     (rw (el, q, ready .end, ready .body, ready .place, k .0) refl, (k .1 .0, (k .1 .1, rw (ex, q, ready .place, k .0) refl)))
 
 -- ---- one event more
 
 -- the part that is taken at the replay's place, of the length that the contents give, is the next body
-pub next-part : (t : List ℕ) (r : Progress) (i n : ℕ) (b : List ℕ) → i ≡ indexOf t r → n ≡ bodyLength t i → b ≡ octetsAt t (r .at) n → b ≡ nextBody t r
+pub next-part : (t : List ℕ) (r : Progress) (i n : ℕ) (b : List ℕ) → i ≡ indexOf t r → n ≡ bodyLength t i → b ≡ octetsAt t (r .at) n
+    → b ≡ nextBody t r
 next-part t r i n b e f g = rw (g, f, e) refl
 
 pub played-none : (t : List ℕ) (r : Progress) (store out text : List ℕ) → r .left ≡ 0

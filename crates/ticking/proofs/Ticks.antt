@@ -9,7 +9,8 @@ use borrow.Author.Tests.{not-true}
 use lib.Dec.{eqb, ltb}
 use Rattle.octets.specs.Answers.{done, unsoundState}
 use Rattle.octets.proofs.Each.{and-left}
-use Rattle.session.specs.Servers.{choose, IsChoice, sameActive, isNobody, chosen, changed, activated, settle, withServers, withCounts, lateServers, expired, tickedFor, ticked}
+use Rattle.session.specs.Servers.{choose, IsChoice, sameActive, isNobody, chosen, changed, activated, settle, withServers, withCounts}
+use Rattle.session.specs.Servers.{lateServers, expired, tickedFor, ticked}
 use Rattle.session.specs.Sound.{sound}
 use Rattle.wire.specs.Replies.{crane}
 use Rattle.session.specs.Steps.{tick, answer, checks, after, settled, tickStep, steppedOf}
@@ -72,20 +73,27 @@ turned-settled p d due e = go (d .active) refl
     -- the timer has run out: with the active server late another is chosen, or nobody
     out : (v : ℕ) → d .active ≡ Server v → (a : Active) → choose (p .priorities) (lateServers d v) (p .servers) ≡ a
         → tickChangeTo true d due (record { timer = 0; expired = true }) (lateServers d v) a
-        ≡ settledChange p (cond (not (isNobody a)) (withCounts (withServers d (lateServers d v)) (d .sent) (d .reached) 0) (withCounts d 0 (d .reached) 0)) due 0
+        ≡ settledChange p (cond (not (isNobody a)) (withCounts (withServers d (lateServers d v)) (d .sent) (d .reached) 0)
+        (withCounts d 0 (d .reached) 0)) due 0
     out v k Nobody q = sym (settle-kept p (withCounts d 0 (d .reached) 0) due e)
     out v k (Server w) q =
         let b = subst (IsChoice (p .priorities) (lateServers d v) (p .servers)) q (choice (p .priorities) (lateServers d v) (p .servers)) in
         let n = and-left (not (eqb w v)) _ (sym (late-phase (d .servers) v w) ∙ b .agreed) in
-        sym (settle-moved p (withCounts (withServers d (lateServers d v)) (d .sent) (d .reached) 0) due w q (ap (sameActive (Server w)) k ∙ not-true (eqb w v) n))
+        sym (settle-moved p (withCounts (withServers d (lateServers d v)) (d .sent) (d .reached) 0) due w q
+        (ap (sameActive (Server w)) k ∙ not-true (eqb w v) n))
 
     -- a server is active: below the threshold or not, run out or not
     run : (v : ℕ) → d .active ≡ Server v → (t u : Bool)
-        → tickChangeBy true p d due (cond t (record { timer = 0; expired = false }) (cond u (record { timer = 0; expired = true }) (record { timer = d .timer + 1; expired = false })))
-        ≡ settledChange p (cond t (withCounts d (d .sent) (d .reached) 0) (cond u (expired p v d) (withCounts d (d .sent) (d .reached) (d .timer + 1)))) due 0
+        → tickChangeBy true p d due
+        (cond t (record { timer = 0; expired = false })
+        (cond u (record { timer = 0; expired = true }) (record { timer = d .timer + 1; expired = false })))
+        ≡ settledChange p (cond t (withCounts d (d .sent) (d .reached) 0)
+        (cond u (expired p v d) (withCounts d (d .sent) (d .reached) (d .timer + 1)))) due 0
     run v k true u = sym (settle-kept p (withCounts d (d .sent) (d .reached) 0) due e)
     run v k false false = sym (settle-kept p (withCounts d (d .sent) (d .reached) (d .timer + 1)) due e)
-    run v k false true = rw (ap numberOf k, ← other-chosen (p .priorities) (d .servers) v (p .servers)) (out v k (choose (p .priorities) (lateServers d v) (p .servers)) refl)
+    run v k false true =
+        rw (ap numberOf k, ← other-chosen (p .priorities) (d .servers) v (p .servers))
+        (out v k (choose (p .priorities) (lateServers d v) (p .servers)) refl)
 
     go : (a : Active) → d .active ≡ a → tickChangeBy true p d due (clockFor p d a) ≡ settledChange p (tickedFor p d a) due 0
     go Nobody k = sym (settle-kept p (withCounts d (d .sent) (d .reached) 0) due e)

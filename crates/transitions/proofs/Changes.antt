@@ -12,7 +12,8 @@ use Rattle.octets.specs.Answers.{judge, done, unsoundState, noSuchServer}
 use Rattle.session.specs.Servers.{chosen, settle, changed, phaseAt, withServers, Transition, transition}
 use Rattle.session.specs.Sound.{sound}
 use Rattle.wire.specs.Replies.{silent, Encoding, layout}
-use Rattle.session.specs.Steps.{Outcome, Call, step, answer, checks, after, settled, storeAfter, written, move, replyTo, transitionChecks, outputAfter, wroteOf}
+use Rattle.session.specs.Steps.{Outcome, Call, step, answer, checks, after, settled, storeAfter, written, move, replyTo, transitionChecks}
+use Rattle.session.specs.Steps.{outputAfter, wroteOf}
 use Rattle.servers.specs.Changes.{changeOf, appliedTo, settledChange, refusedChange}
 use Rattle.soundness.specs.Parts.{stateOf, partsIn}
 use Rattle.servers.specs.declared.change.Change.{Change}

@@ -45,7 +45,8 @@ none-short room = le-ltb room 0 (omega arith)
 module _ (p : Settings) (room : ℕ) (phase : Phase) where
   -- the output's length is judged last
   room-last : (t : Transition)
-      → judge (transitionChecks crane p room t phase) ≡ judge (turnChecks p t phase ++ ((outputTooShort when ltb room (length (layout (replyTo p t)))) ∷ []))
+      → judge (transitionChecks crane p room t phase)
+      ≡ judge (turnChecks p t phase ++ ((outputTooShort when ltb room (length (layout (replyTo p t)))) ∷ []))
   room-last start = refl
   room-last stop = refl
   room-last negotiate = refl
@@ -57,15 +58,18 @@ module _ (p : Settings) (room : ℕ) (phase : Phase) where
   -- a refusal but for the output's length stays
   pub turn-refused : (t : Transition) → (judge (turnChecks p t phase) ≡ done → ⊥)
       → judge (transitionChecks crane p room t phase) ≡ judge (turnChecks p t phase)
-  turn-refused t h = room-last t ∙ judged-first (turnChecks p t phase) ((outputTooShort when ltb room (length (layout (replyTo p t)))) ∷ []) h
+  turn-refused t h =
+      room-last t ∙ judged-first (turnChecks p t phase) ((outputTooShort when ltb room (length (layout (replyTo p t)))) ∷ []) h
 
   -- where there is none, the output's length decides
   pub turn-passed : (t : Transition) → judge (turnChecks p t phase) ≡ done
       → judge (transitionChecks crane p room t phase) ≡ cond (ltb room (length (layout (replyTo p t)))) outputTooShort done
   turn-passed start e = refl
   turn-passed stop e = refl
-  turn-passed negotiate e = judged-next (turnChecks p negotiate phase) ((outputTooShort when ltb room (length (layout (replyTo p negotiate)))) ∷ []) tt e
-  turn-passed (offer table) e = judged-next (turnChecks p (offer table) phase) ((outputTooShort when ltb room (length (layout (replyTo p (offer table))))) ∷ []) tt e
+  turn-passed negotiate e =
+      judged-next (turnChecks p negotiate phase) ((outputTooShort when ltb room (length (layout (replyTo p negotiate)))) ∷ []) tt e
+  turn-passed (offer table) e =
+      judged-next (turnChecks p (offer table) phase) ((outputTooShort when ltb room (length (layout (replyTo p (offer table))))) ∷ []) tt e
   turn-passed down e = rw none-short
   turn-passed (agree config) e = rw none-short e
   turn-passed (malformed a) e = rw none-short e
@@ -76,7 +80,8 @@ table-passed p phase start e = refl
 table-passed p phase stop e = refl
 table-passed p phase negotiate e = refl
 table-passed p phase (offer table) e =
-    and-left (tableSound table) (eqb (configurationId table) (p .config)) (not-false (isSessions p table) (passed (turnChecks p (offer table) phase) tt e .0))
+    and-left (tableSound table) (eqb (configurationId table) (p .config))
+    (not-false (isSessions p table) (passed (turnChecks p (offer table) phase) tt e .0))
 table-passed p phase down e = refl
 table-passed p phase (agree config) e = refl
 table-passed p phase (malformed a) e = refl
@@ -95,7 +100,9 @@ written-placed : (m : Message) (part out : List ℕ) (answer : Written) (after :
     → Placed (layoutOf m part) out answer after
 written-placed m part out answer after t d w =
     let octets = layoutOf m part in
-    let q = allowed m part out (cond (ltb (length out) (length octets)) (written.Refused outputTooShort) (written.Octets (length octets))) (putAt out 0 octets) t d (record { answered = refl; left = refl }) in
+    let q =
+    allowed m part out (cond (ltb (length out) (length octets)) (written.Refused outputTooShort) (written.Octets (length octets)))
+    (putAt out 0 octets) t d (record { answered = refl; left = refl }) in
     record { answered = w .0 ∙ sym (q .0); left = w .1 ∙ sym (q .1) }
 
 -- no octets
@@ -109,7 +116,8 @@ pub reply-placed : (p : Settings) (table out : List ℕ) (move : Move) (r : Repl
     → Placed (layout (replyTo p (transitionOf table move))) out answer after
 unfolding layoutOf
 reply-placed p table out code.Start r m answer after e k f w =
-    let q : m ≡ StartAck (p .session) (p .boot) = cc in written-placed (StartAck (p .session) (p .boot)) table out answer after refl refl (rw q at w)
+    let q : m ≡ StartAck (p .session) (p .boot) = cc in
+    written-placed (StartAck (p .session) (p .boot)) table out answer after refl refl (rw q at w)
 reply-placed p table out code.Stop r m answer after e k f w =
     let q : m ≡ StopAck (p .session) = cc in written-placed (StopAck (p .session)) table out answer after refl refl (rw q at w)
 reply-placed p table out code.Negotiate r m answer after e k f w =
@@ -143,11 +151,13 @@ pub record Unfitted (octets out : List ℕ) (a : ℕ) (after : List ℕ) : Type 
   pub number : a ≡ outputTooShort
   pub left : after ≡ out
 
-octets-told : (short : Bool) (n k : ℕ) → written.Octets n ≡ cond short (written.Refused outputTooShort) (written.Octets k) → (short ≡ false) × (n ≡ k)
+octets-told : (short : Bool) (n k : ℕ) → written.Octets n ≡ cond short (written.Refused outputTooShort) (written.Octets k)
+    → (short ≡ false) × (n ≡ k)
 octets-told true n k e = let z : _≡_ {A = ℕ} 0 1 = cc in absurd (omega arith)
 octets-told false n k e = (refl, cc)
 
-refused-told : (short : Bool) (a k : ℕ) → written.Refused a ≡ cond short (written.Refused outputTooShort) (written.Octets k) → (short ≡ true) × (a ≡ outputTooShort)
+refused-told : (short : Bool) (a k : ℕ) → written.Refused a ≡ cond short (written.Refused outputTooShort) (written.Octets k)
+    → (short ≡ true) × (a ≡ outputTooShort)
 refused-told true a k e = (refl, cc)
 refused-told false a k e = let z : _≡_ {A = ℕ} 0 1 = cc in absurd (omega arith)
 
@@ -170,7 +180,8 @@ module _ (room v : ℕ) (t : Transition) (s : State) (a : ℕ)
     (q : a ≡ judge (turnChecks (s .settings) t (phaseAt (s .delivery .servers) v))) where
   -- refused, but not for the output's length
   pub move-refused : (a ≡ done → ⊥) → answer crane room (move v t) s [] ≡ a
-  move-refused h = move-judged crane room v t s e k ∙ turn-refused (s .settings) room (phaseAt (s .delivery .servers) v) t (λ z. h (q ∙ z)) ∙ sym q
+  move-refused h =
+      move-judged crane room v t s e k ∙ turn-refused (s .settings) room (phaseAt (s .delivery .servers) v) t (λ z. h (q ∙ z)) ∙ sym q
 
   -- not refused so far: the output's length decides
   pub move-roomed : a ≡ done → (short : Bool) → ltb room (length (layout (replyTo (s .settings) t))) ≡ short

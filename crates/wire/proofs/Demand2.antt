@@ -18,7 +18,9 @@ fields-read-back order type value octets out at h =
       len = b .len;
       same = b .same;
       exact = append-exact order type value octets out at h;
-      stands = rw (eq-eqb (appendAnswer order type value octets out at) done h) (stored-part out (fieldOctets order type value octets) at (d .1));
+      stands =
+          rw (eq-eqb (appendAnswer order type value octets out at) done h)
+          (stored-part out (fieldOctets order type value octets) at (d .1));
       content = b .stands;
     }
 

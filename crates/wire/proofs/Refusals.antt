@@ -14,7 +14,8 @@ use Rattle.octets.proofs.Judging.{passed}
 use Rattle.appending.specs.Append.{fieldOctets, appendAnswer, appendOf, appendOut}
 use Rattle.appending.specs.declared.append.Appended.the-variants as appended
 use Rattle.appending.proofs.ReadBack.{append-done}
-use Rattle.messages.specs.Messages.{layoutOf, dataHeadLength, maxRecordOctets, dataHeadOctets, writeAnswer, writeOf, writeOut, headWriteAnswer, headWriteOf, headWriteOut}
+use Rattle.messages.specs.Messages.{layoutOf, dataHeadLength, maxRecordOctets, dataHeadOctets, writeAnswer, writeOf, writeOut}
+use Rattle.messages.specs.Messages.{headWriteAnswer, headWriteOf, headWriteOut}
 use Rattle.messages.specs.declared.message.DataHead.{DataHead}
 use Rattle.messages.specs.declared.message.Written.the-variants as written
 use Rattle.messages.proofs.RoundTrip.{done-fits}
@@ -23,7 +24,8 @@ use Rattle.wire.specs.Refusals.{KeptOrWritten, WireRefusals}
 -- the choice
 kept-or-written : {A : Type 0} (number : ℕ) (refusal : ℕ → A) (ok : A) (at : ℕ) (octets out : List ℕ)
     → (number ≡ done → at + length octets ≤ length out)
-    → KeptOrWritten number refusal ok (cond (eqb number done) ok (refusal number)) at octets out (cond (eqb number done) (sets out at octets) out)
+    → KeptOrWritten number refusal ok (cond (eqb number done) ok (refusal number)) at octets out
+    (cond (eqb number done) (sets out at octets) out)
 kept-or-written number refusal ok at octets out room =
     record {
       refused = λ h. (rw (ne-eqb number done h), rw (ne-eqb number done h));
@@ -43,12 +45,14 @@ unfolding writeOf writeOut headWriteOf headWriteOut appendOf appendOut
 wire-refusals =
     record {
       message = λ m part out.
-          kept-or-written (writeAnswer m part (length out)) written.Refused (written.Octets (length (layoutOf m part))) 0 (layoutOf m part) out
+          kept-or-written (writeAnswer m part (length out)) written.Refused (written.Octets (length (layoutOf m part))) 0
+          (layoutOf m part) out
           (λ e. omega (arith, done-fits m part out e));
       head = λ h n out.
           kept-or-written (headWriteAnswer n (length out)) written.Refused (written.Octets (dataHeadLength + n)) 0 (dataHeadOctets h n) out
           (λ e. omega (arith, head-fits h n (length out) e));
       field = λ order type value octets out at.
-          kept-or-written (appendAnswer order type value octets out at) appended.Refused (appended.Next (at + length (fieldOctets order type value octets)))
+          kept-or-written (appendAnswer order type value octets out at) appended.Refused
+          (appended.Next (at + length (fieldOctets order type value octets)))
           at (fieldOctets order type value octets) out (λ e. append-done order type value octets out at e .1);
     }

@@ -38,19 +38,24 @@ stored-part l vs i h =
     let front = length-take-le i l (omega arith) in
     let whole = length-append (take i l) vs in
     ap (λ (s : List ℕ). take (length vs) (drop i s)) (sets-eq vs l i h)
-    ∙ ap (take (length vs)) (drop-append-le i (take i l ++ vs) rest (omega (arith, front, whole)) ∙ ap (λ (s : List ℕ). s ++ rest) (drop-at (take i l) vs i front))
+    ∙ ap (take (length vs))
+    (drop-append-le i (take i l ++ vs) rest (omega (arith, front, whole))
+    ∙ ap (λ (s : List ℕ). s ++ rest) (drop-at (take i l) vs i front))
     ∙ take-append-seam vs rest
 
 -- values from a place on
-append-all : (order : OctetOrder) (values : List TypedValue) (at : ℕ) (out : List ℕ) → allOf (map fits values) ≡ true → at + length (recordOctets order values) ≤ length out
-    → appendAll order values (appended.Next at) out ≡ record { answer = appended.Next (at + length (recordOctets order values)); out = sets out at (recordOctets order values) }
+append-all : (order : OctetOrder) (values : List TypedValue) (at : ℕ) (out : List ℕ) → allOf (map fits values) ≡ true
+    → at + length (recordOctets order values) ≤ length out
+    → appendAll order values (appended.Next at) out
+    ≡ record { answer = appended.Next (at + length (recordOctets order values)); out = sets out at (recordOctets order values) }
 unfolding appendAll recordOctets
 append-all order [] at out h room = ap (λ (k : ℕ). record { answer = appended.Next k; out = out }) (sym (add-zero at))
 append-all order (v ∷ values) at out h room =
     let field = octetsFor order v in
     let rest = recordOctets order values in
     let n = length-append field rest in
-    let a = append-accepts order (v .type) (v .value) (v .octets) out at (clause-first (fits v) (allOf (map fits values)) h) (omega arith) in
+    let a =
+    append-accepts order (v .type) (v .value) (v .octets) out at (clause-first (fits v) (allOf (map fits values)) h) (omega arith) in
     let l = length-sets out at field in
     rw (a .0, a .1)
     (append-all order values (at + length field) (sets out at field) (clause-rest (fits v) (allOf (map fits values)) h) (omega arith)
@@ -90,13 +95,14 @@ typeAt t m k = keyType t (keyAt (m .keys) k)
 
 module _ (t : List ℕ) (m : Template) (r : List ℕ) where
   -- an enabled key at whose place the field of a value of its type stands: its field is valid, is the value's, and the next one follows it
-  value-stands : (k at : ℕ) (v : TypedValue) (rest : List ℕ) → isEnabled t (keyAt (m .keys) k) ≡ true → v .type ≡ typeAt t m k → fits v ≡ true
-      → fieldAt t m r k ≡ at → at ≤ length r → drop at r ≡ octetsFor (tableOrder t) v ++ rest
+  value-stands : (k at : ℕ) (v : TypedValue) (rest : List ℕ) → isEnabled t (keyAt (m .keys) k) ≡ true → v .type ≡ typeAt t m k
+      → fits v ≡ true → fieldAt t m r k ≡ at → at ≤ length r → drop at r ≡ octetsFor (tableOrder t) v ++ rest
       → (fieldValid t m r k ≡ true)
       × ((fieldUnder t m r k ≡ record { kind = v .type; at = at; len = length (octetsFor (tableOrder t) v); value = v .value })
       × (fieldAt t m r (k + 1) ≡ at + length (octetsFor (tableOrder t) v)))
   value-stands k at v rest on type fit place h e =
-      let b = reads-back (tableOrder t) (v .type) (v .value) (v .octets) r at fit (front-holds r at (octetsFor (tableOrder t) v) rest h e) in (
+      let b =
+      reads-back (tableOrder t) (v .type) (v .value) (v .octets) r at fit (front-holds r at (octetsFor (tableOrder t) v) rest h e) in (
         rw (on, place, ← type, b .len) (lt-ltb 0 (length (octetsFor (tableOrder t) v)) (b .some)),
         (
           rw (place, ← type, b .len, b .same),
@@ -105,8 +111,9 @@ module _ (t : List ℕ) (m : Template) (r : List ℕ) where
       )
 
   -- From key k on, where the octets from its field's place on are the record of values for the l keys that are left.
-  laid-from : (l k at : ℕ) (values : List TypedValue) → k + l ≡ m .count → fieldAt t m r k ≡ at → at ≤ length r → drop at r ≡ recordOctets (tableOrder t) values
-      → map (λ v. v .type) values ≡ map (typeAt t m) (enabledFrom t m k l) → allOf (map fits values) ≡ true → LaidFrom t m r k l values at
+  laid-from : (l k at : ℕ) (values : List TypedValue) → k + l ≡ m .count → fieldAt t m r k ≡ at → at ≤ length r
+      → drop at r ≡ recordOctets (tableOrder t) values → map (λ v. v .type) values ≡ map (typeAt t m) (enabledFrom t m k l)
+      → allOf (map fits values) ≡ true → LaidFrom t m r k l values at
   unfolding enabledFrom recordOctets fieldsOf
   laid-from zero k at [] e place h octets types fit =
       let q : k ≡ m .count = omega arith in
@@ -132,7 +139,9 @@ module _ (t : List ℕ) (m : Template) (r : List ℕ) where
       go true on [] octets types fit rest = let y : _≡_ {A = ℕ} 0 1 = cc in absurd (omega arith)
       go true on (v ∷ values) octets types fit rest =
           let field = octetsFor (tableOrder t) v in
-          let s = value-stands k at v (recordOctets (tableOrder t) values) on (cc) (clause-first (fits v) (allOf (map fits values)) fit) place h octets in
+          let s =
+          value-stands k at v (recordOctets (tableOrder t) values) on (cc)
+          (clause-first (fits v) (allOf (map fits values)) fit) place h octets in
           let w = front-holds r at field (recordOctets (tableOrder t) values) h octets .within in
           let x =
           rest (at + length field) values (s .1 .1) w (behind-field r at field (recordOctets (tableOrder t) values) octets) (cc)
@@ -152,8 +161,8 @@ module _ (t : List ℕ) (m : Template) (r : List ℕ) where
           }
 
 -- a value whose field stands in front of others from a place on is the field there
-pub field-of : (order : OctetOrder) (v : TypedValue) (r : List ℕ) (at : ℕ) (rest : List ℕ) → fits v ≡ true → at ≤ length r → drop at r ≡ octetsFor order v ++ rest
-    → FieldOf order (v .type) (v .value) (v .octets) r at
+pub field-of : (order : OctetOrder) (v : TypedValue) (r : List ℕ) (at : ℕ) (rest : List ℕ) → fits v ≡ true → at ≤ length r
+    → drop at r ≡ octetsFor order v ++ rest → FieldOf order (v .type) (v .value) (v .octets) r at
 field-of order v r at rest h inside e =
     let holds = front-holds r at (octetsFor order v) rest inside e in
     let b = reads-back order (v .type) (v .value) (v .octets) r at h holds in
@@ -166,8 +175,8 @@ field-of order v r at rest h inside e =
     }
 
 -- so is each of the values whose fields are what is left from a place on
-each-field : (order : OctetOrder) (values : List TypedValue) (r : List ℕ) (at : ℕ) → allOf (map fits values) ≡ true → at ≤ length r → drop at r ≡ recordOctets order values
-    → EachField order values at r
+each-field : (order : OctetOrder) (values : List TypedValue) (r : List ℕ) (at : ℕ) → allOf (map fits values) ≡ true → at ≤ length r
+    → drop at r ≡ recordOctets order values → EachField order values at r
 unfolding recordOctets
 each-field order [] r at h inside e = tt
 each-field order (v ∷ values) r at h inside e =
@@ -175,7 +184,8 @@ each-field order (v ∷ values) r at h inside e =
     let rest = recordOctets order values in
     let long : length r - at ≡ length field + length rest = sym (length-drop at r) ∙ ap length e ∙ length-append field rest in (
       field-of order v r at rest (clause-first (fits v) (allOf (map fits values)) h) inside e,
-      each-field order values r (at + length field) (clause-rest (fits v) (allOf (map fits values)) h) (omega arith) (behind-field r at field rest e),
+      each-field order values r (at + length field) (clause-rest (fits v) (allOf (map fits values)) h) (omega arith)
+          (behind-field r at field rest e),
     )
 
 fields-length : (order : OctetOrder) (values : List TypedValue) (at : ℕ) → length (fieldsOf order values at) ≡ length values
@@ -186,13 +196,18 @@ fields-length order (v ∷ values) at = ap suc (fields-length order values (at +
 -- ---- the theorems
 
 -- fields of all keys that end where the record ends are a valid record
-all-valid : (t : List ℕ) (m : Template) (r : List ℕ) (values : List TypedValue) → LaidFrom t m r 0 (m .count) values 0 → recordValid t m r ≡ true
+all-valid : (t : List ℕ) (m : Template) (r : List ℕ) (values : List TypedValue) → LaidFrom t m r 0 (m .count) values 0
+    → recordValid t m r ≡ true
 unfolding recordValid
 all-valid t m r values laid =
-    rw (every-intro (m .count) (fieldValid t m r) (λ i l. laid .valid i (omega arith) l), eq-eqb (fieldAt t m r (m .count)) (length r) (laid .ends))
+    rw (
+      every-intro (m .count) (fieldValid t m r) (λ i l. laid .valid i (omega arith) l),
+      eq-eqb (fieldAt t m r (m .count)) (length r) (laid .ends),
+    )
 
 -- the record of the values reads back
-record-of : (t : List ℕ) (id : ℕ) (values : List TypedValue) → findAnswer t id ≡ done → ValuesFor t id values → RecordOf t id values (recordOctets (tableOrder t) values)
+record-of : (t : List ℕ) (id : ℕ) (values : List TypedValue) → findAnswer t id ≡ done → ValuesFor t id values
+    → RecordOf t id values (recordOctets (tableOrder t) values)
 unfolding fieldAt
 record-of t id values found given =
     let m = templateOf t id in

@@ -1,4 +1,5 @@
--- Demand 2: what is written reads back as the same meaning: messages, single fields, whole records (01, "Messages", "Template table").
+-- Demand 2: what is written reads back as the same meaning: messages, single fields, whole records (01, "Messages", "Template table"; 02,
+-- ask 6).
 use Prim.Native.Nat.{ℕ, _+_, _≤_}
 use mathlib.Core.Path.{_≡_}
 use mathlib.Core.Bool.{Bool, true}

@@ -129,11 +129,17 @@ integers =
     ++ limits 6 7 3 4294967295 2147483647
     ++ limits 8 9 7 18446744073709551615 9223372036854775807
 
--- An integer of eight different octets, float and double 1, Booleans, the five times, both addresses, a string, a blob and a null
--- terminated string.
+-- Integers of different octets, float and double 1, Booleans, the five times, both addresses, a string, a blob and a null terminated
+-- string.
 abbrev pub others : List Row
 others =
-    number 8 (Number 9332165983064197000) (pos 9332165983064197000)
+    number 4 (Number 258) (pos 258) (1 ∷ 2 ∷ []) (2 ∷ 1 ∷ [])
+    ∷ number 5 (Negative 32510) (negsuc 32509) (0x81 ∷ 2 ∷ []) (2 ∷ 0x81 ∷ [])
+    ∷ number 6 (Number 16909060) (pos 16909060) (1 ∷ 2 ∷ 3 ∷ 4 ∷ []) (4 ∷ 3 ∷ 2 ∷ 1 ∷ [])
+    ∷ number 7 (Negative 2130574588) (negsuc 2130574587) (0x81 ∷ 2 ∷ 3 ∷ 4 ∷ []) (4 ∷ 3 ∷ 2 ∷ 0x81 ∷ [])
+    ∷ number 9 (Negative 9150748177064392952) (negsuc 9150748177064392951)
+    (0x81 ∷ 2 ∷ 3 ∷ 4 ∷ 5 ∷ 6 ∷ 7 ∷ 8 ∷ []) (8 ∷ 7 ∷ 6 ∷ 5 ∷ 4 ∷ 3 ∷ 2 ∷ 0x81 ∷ [])
+    ∷ number 8 (Number 9332165983064197000) (pos 9332165983064197000)
     (0x81 ∷ 0x82 ∷ 0x83 ∷ 0x84 ∷ 0x85 ∷ 0x86 ∷ 0x87 ∷ 0x88 ∷ []) (0x88 ∷ 0x87 ∷ 0x86 ∷ 0x85 ∷ 0x84 ∷ 0x83 ∷ 0x82 ∷ 0x81 ∷ [])
     ∷ number 0xa (Number 1065353216) (pos 1065353216) (0x3F ∷ 0x80 ∷ 0 ∷ 0 ∷ []) (0 ∷ 0 ∷ 0x80 ∷ 0x3F ∷ [])
     ∷ number 0xb (Number 4607182418800017408) (pos 4607182418800017408)
@@ -164,11 +170,13 @@ invalid =
     ∷ lengths 0x400c (0 ∷ 0 ∷ 0 ∷ 3 ∷ 0x61 ∷ 0x62 ∷ 0x80 ∷ []) 0 0
     ∷ lengths 0x400c (3 ∷ 0 ∷ 0 ∷ 0 ∷ 0x61 ∷ 0x62 ∷ 0x80 ∷ []) 0 0
     ∷ lengths 0x4015 (3 ∷ 0 ∷ 0 ∷ 0 ∷ 0x61 ∷ 0x62 ∷ 0x80 ∷ []) 0 7
+    ∷ lengths 0x4015 (0 ∷ 0 ∷ 1 ∷ 2 ∷ replicate 258 0x61) 262 0
+    ∷ lengths 0x4015 (2 ∷ 1 ∷ 0 ∷ 0 ∷ replicate 258 0x61) 0 262
     ∷ lengths 1 (2 ∷ []) 0 0
     ∷ []
 
--- Tables of flags 0 to 2 and 255, with a template count whose octets are turned, empty, and of a head alone; records under the first two,
--- judged and walked; and widths that no type has.
+-- Tables of flags 0 to 2 and 255, with a template count whose octets are turned, empty, and of a head alone; records judged under flags 0
+-- to 2 and walked under 0 and 1; and widths that no type has.
 abbrev pub whole : List Row
 whole =
     sound (tableOf 0 0 1) true ∷ sound (tableOf 1 0 1) true ∷ sound (tableOf 2 0 1) false ∷ sound (tableOf 255 0 1) false

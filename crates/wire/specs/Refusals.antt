@@ -9,7 +9,8 @@ use Rattle.numbers.specs.declared.OctetOrder.{OctetOrder}
 use Rattle.records.specs.declared.walk.Value.{Value}
 use Rattle.appending.specs.Append.{fieldOctets, appendAnswer, appendOf, appendOut}
 use Rattle.appending.specs.declared.append.Appended.the-variants as appended
-use Rattle.messages.specs.Messages.{layoutOf, dataHeadLength, dataHeadOctets, writeAnswer, writeOf, writeOut, headWriteAnswer, headWriteOf, headWriteOut}
+use Rattle.messages.specs.Messages.{layoutOf, dataHeadLength, dataHeadOctets, writeAnswer, writeOf, writeOut, headWriteAnswer, headWriteOf}
+use Rattle.messages.specs.Messages.{headWriteOut}
 use Rattle.messages.specs.declared.message.DataHead.{DataHead}
 use Rattle.messages.specs.declared.message.Message.{Message}
 use Rattle.messages.specs.declared.message.Written.the-variants as written

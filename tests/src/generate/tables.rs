@@ -6,8 +6,8 @@ use crate::tables::{
     MAX_TABLE_OCTETS, MAX_TEMPLATES, STRING, TABLE_HEAD_OCTETS, ZERO_STRING,
 };
 
-/// The order of a made table: little-endian once in `times`. It is drawn beside the source, so that everything else about
-/// the table and all that follows it do not depend on it.
+/// The order of a made table: little-endian once in `times`. It is drawn beside the source, so that it moves none of the
+/// other numbers that are drawn.
 pub fn order(random: &Random, times: usize) -> Order {
     if random.beside(0x0de2).once_in(times) {
         Order::Little

@@ -45,7 +45,9 @@ unfolding bodyAt
 loop-again c = (omega arith, (omega arith, rw add-one (rw (c .before .before .loop .inv .1 .1, c .body-length .ensures) refl)))
 
 returns : tie.Need-returns Inv-loop μ-loop
-returns c = let e : c .before .loop .k ≡ c .before .before .before .before .before .args .i = omega arith in rw (← e) (c .before .loop .inv .1 .1)
+returns c =
+    let e : c .before .loop .k ≡ c .before .before .before .before .before .args .i = omega arith in
+    rw (← e) (c .before .loop .inv .1 .1)
 
 pub body-at-spec : {M : Type 1} → statement M
 body-at-spec =

@@ -1,4 +1,5 @@
--- `contents_at` meets its contract: the entries before an event's stand behind the count. No sum wraps, since an event's number has 16 bits.
+-- `contents_at` meets its contract: the entries before an event's stand behind the count. No sum wraps, since an event's number has 16
+-- bits.
 use mathlib.Core.Path.{refl}
 use native.Mathlib.Omega.{arith}
 use Rattle.contents.proofs.contents_at.Statement.{statement}

@@ -27,7 +27,15 @@ body-length-fits-requires c κs = search needs
 
 returns : tie.Need-returns
 unfolding eventSound
-returns c = rw (c .body-length-fits .ensures, c .before .body-length .ensures, c .before .before .server-fits .ensures, c .before .before .before .server-at .ensures, c .before .before .before .before .kind-fits .ensures, c .before .before .before .before .before .kind-at .ensures) refl
+returns c =
+    rw (
+      c .body-length-fits .ensures,
+      c .before .body-length .ensures,
+      c .before .before .server-fits .ensures,
+      c .before .before .before .server-at .ensures,
+      c .before .before .before .before .kind-fits .ensures,
+      c .before .before .before .before .before .kind-at .ensures,
+    ) refl
 
 pub event-sound-spec : {M : Type 1} → statement M
 event-sound-spec =

@@ -31,7 +31,8 @@ events-sound-requires c κs = search needs
 returns-4 : tie.Need-returns-4
 returns-4 c =
     let a = c .before .before .before .before .before .before .before .args in
-    rw (tape-judged (a .tape .now) _ _ _ (c .before .before .before .before .event-count .ensures) (c .before .events-sound .ensures) refl) (search (tests, c .if4 .taken))
+    rw (tape-judged (a .tape .now) _ _ _ (c .before .before .before .before .event-count .ensures) (c .before .events-sound .ensures) refl)
+    (search (tests, c .if4 .taken))
 
 body-at-requires : tie.Need-body-at-requires
 body-at-requires c κs = search needs
@@ -39,12 +40,14 @@ body-at-requires c κs = search needs
 returns-5 : tie.Need-returns-5
 returns-5 c =
     let a = c .before .before .before .before .before .before .before .before .before .args in
-    rw (tape-judged (a .tape .now) _ _ _ (c .before .before .before .before .before .before .event-count .ensures) (c .before .before .before .events-sound .ensures) (c .before .body-at .ensures)) (search (tests, c .before .before .if4 .left))
+    rw (tape-judged (a .tape .now) _ _ _ (c .before .before .before .before .before .before .event-count .ensures)
+    (c .before .before .before .events-sound .ensures) (c .before .body-at .ensures)) (search (tests, c .before .before .if4 .left))
 
 returns-6 : tie.Need-returns-6
 returns-6 c =
     let a = c .before .before .before .before .before .before .before .before .before .args in
-    rw (tape-judged (a .tape .now) _ _ _ (c .before .before .before .before .before .before .event-count .ensures) (c .before .before .before .events-sound .ensures) (c .before .body-at .ensures)) (search (tests, c .before .before .if4 .left))
+    rw (tape-judged (a .tape .now) _ _ _ (c .before .before .before .before .before .before .event-count .ensures)
+    (c .before .before .before .events-sound .ensures) (c .before .body-at .ensures)) (search (tests, c .before .before .if4 .left))
 
 pub tape-answer-spec : {M : Type 1} → statement M
 tape-answer-spec =

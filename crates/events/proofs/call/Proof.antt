@@ -1,7 +1,8 @@
 -- `call` meets its contract: the tests on the way to each call say which kind the event has, and the call is that kind's. What the
 -- exporter ensures of the call is its outcome by the definition.
 use mathlib.Core.Path.{refl}
-use Rattle.events.proofs.Events.{is-put, is-message, is-down, is-tick, is-next, is-offer, put-called, down-called, tick-called, wrote-called}
+use Rattle.events.proofs.Events.{is-put, is-message, is-down, is-tick, is-next, is-offer, put-called, down-called, tick-called}
+use Rattle.events.proofs.Events.{wrote-called}
 use borrow.Author.Needs.{needs}
 use Rattle.events.proofs.call.Statement.{statement}
 use Rattle.events.proofs.call.Tie as tie
@@ -25,7 +26,8 @@ returns : tie.Need-returns
 returns c =
     let a = c .before .before .before .before .before .before .before .before .before .before .before .before .args in
     put-called _ _ _ _ _ _ _ _ _ _
-    (is-put _ _ _ _ _ _ _ (c .before .before .before .before .before .before .before .if1 .taken) (c .before .before .before .before .before .before .get-u16 .ensures) (c .before .before .before .before .record-of .ensures))
+    (is-put _ _ _ _ _ _ _ (c .before .before .before .before .before .before .before .if1 .taken)
+    (c .before .before .before .before .before .before .get-u16 .ensures) (c .before .before .before .before .record-of .ensures))
     (c .before .before .before .put .ensures .0) (c .before .before .before .put .ensures .1) (c .wrote .ensures)
 
 receive-requires : tie.Need-receive-requires
@@ -35,7 +37,9 @@ same-length-2 : tie.Need-same-length-2
 same-length-2 c = search needs
 
 returns-2 : tie.Need-returns-2
-returns-2 c = wrote-called _ _ _ _ _ _ _ (is-message _ _ _ _ _ (c .before .before .before .before .if2 .taken)) (c .before .before .receive .ensures .0) (c .before .before .receive .ensures .1) refl
+returns-2 c =
+    wrote-called _ _ _ _ _ _ _ (is-message _ _ _ _ _ (c .before .before .before .before .if2 .taken))
+    (c .before .before .receive .ensures .0) (c .before .before .receive .ensures .1) refl
 
 line-down-requires : tie.Need-line-down-requires
 line-down-requires c κs = search needs
@@ -44,7 +48,8 @@ wrote-requires-2 : tie.Need-wrote-requires-2
 wrote-requires-2 c κs = search needs
 
 returns-3 : tie.Need-returns-3
-returns-3 c = down-called _ _ _ _ _ _ _ (is-down _ _ _ _ _ (c .before .before .if3 .taken)) (c .before .line-down .ensures) (c .wrote2 .ensures)
+returns-3 c =
+    down-called _ _ _ _ _ _ _ (is-down _ _ _ _ _ (c .before .before .if3 .taken)) (c .before .line-down .ensures) (c .wrote2 .ensures)
 
 tick-requires : tie.Need-tick-requires
 tick-requires c κs = search needs
@@ -65,7 +70,9 @@ same-length-4 : tie.Need-same-length-4
 same-length-4 c = search needs
 
 returns-5 : tie.Need-returns-5
-returns-5 c = wrote-called _ _ _ _ _ _ _ (is-next _ _ _ _ _ (c .before .before .before .before .before .if5 .taken)) (c .before .before .next-data .ensures .0) (c .before .before .next-data .ensures .1) refl
+returns-5 c =
+    wrote-called _ _ _ _ _ _ _ (is-next _ _ _ _ _ (c .before .before .before .before .before .if5 .taken))
+    (c .before .before .next-data .ensures .0) (c .before .before .next-data .ensures .1) refl
 
 offer-templates-requires : tie.Need-offer-templates-requires
 offer-templates-requires c κs = search needs
@@ -74,7 +81,12 @@ same-length-5 : tie.Need-same-length-5
 same-length-5 c = search needs
 
 returns-6 : tie.Need-returns-6
-returns-6 c = wrote-called _ _ _ _ _ _ _ (is-offer _ _ _ _ _ (c .before .before .before .before .before .before .before .before .if1 .left) (c .before .before .before .before .before .before .before .if2 .left) (c .before .before .before .before .before .before .if3 .left) (c .before .before .before .before .before .if4 .left) (c .before .before .before .before .if5 .left)) (c .before .before .offer-templates .ensures .0) (c .before .before .offer-templates .ensures .1) refl
+returns-6 c =
+    wrote-called _ _ _ _ _ _ _
+    (is-offer _ _ _ _ _ (c .before .before .before .before .before .before .before .before .if1 .left)
+    (c .before .before .before .before .before .before .before .if2 .left) (c .before .before .before .before .before .before .if3 .left)
+    (c .before .before .before .before .before .if4 .left) (c .before .before .before .before .if5 .left))
+    (c .before .before .offer-templates .ensures .0) (c .before .before .offer-templates .ensures .1) refl
 
 pub call-spec : {M : Type 1} → statement M
 call-spec =

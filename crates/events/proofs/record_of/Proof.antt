@@ -17,7 +17,9 @@ part-result-end : tie.Need-part-result-end
 part-result-end c = search needs
 
 returns : tie.Need-returns
-returns c = let s = c .before .before .args .b .now in take-rest s (length s) ∙ drop-of-length-le s {i = length s} (omega arith) ∙ sym (drop-of-length-le s {i = 2} (omega arith))
+returns c =
+    let s = c .before .before .args .b .now in
+    take-rest s (length s) ∙ drop-of-length-le s {i = length s} (omega arith) ∙ sym (drop-of-length-le s {i = 2} (omega arith))
 
 sub-result-2 : tie.Need-sub-result-2
 sub-result-2 c = search needs

@@ -47,7 +47,9 @@ same-length-2 : tie.Need-same-length-2
 same-length-2 c = search needs
 
 returns-2 : tie.Need-returns-2
-returns-2 c = two-digits _ _ _ _ _ (c .before .before .if1 .left) (c .if2 .taken) (c .before .digit-of2 .ensures) (c .before .before .before .digit-of .ensures)
+returns-2 c =
+    two-digits _ _ _ _ _ (c .before .before .if1 .left) (c .if2 .taken) (c .before .digit-of2 .ensures)
+    (c .before .before .before .digit-of .ensures)
 
 cast-digit-of-3 : tie.Need-cast-digit-of-3
 cast-digit-of-3 c = search needs
@@ -77,7 +79,9 @@ same-length-3 : tie.Need-same-length-3
 same-length-3 c = search needs
 
 returns-3 : tie.Need-returns-3
-returns-3 c = three-digits _ _ _ _ _ _ (c .before .if2 .left) (c .digit-of3 .ensures) (c .before .before .digit-of2 .ensures) (c .before .before .before .before .digit-of .ensures)
+returns-3 c =
+    three-digits _ _ _ _ _ _ (c .before .if2 .left) (c .digit-of3 .ensures) (c .before .before .digit-of2 .ensures)
+    (c .before .before .before .before .digit-of .ensures)
 
 pub write-decimal-spec : {M : Type 1} → statement M
 write-decimal-spec =

@@ -12,7 +12,8 @@ use Rattle.lines.proofs.write_hex.Statement.{statement}
 use Rattle.lines.proofs.write_hex.Tie as tie
 
 abbrev Inv-loop : tie.InvT-loop
-Inv-loop octets text₀ at i₀ text i = (i ≤ length octets) × ((length text ≡ length text₀) × (sets text (at + 2 * i) (hex (drop i octets)) ≡ sets text₀ at (hex octets)))
+Inv-loop octets text₀ at i₀ text i =
+    (i ≤ length octets) × ((length text ≡ length text₀) × (sets text (at + 2 * i) (hex (drop i octets)) ≡ sets text₀ at (hex octets)))
 
 abbrev μ-loop : tie.MeasureT-loop
 μ-loop octets text₀ at i₀ text i = length octets - i
@@ -59,8 +60,14 @@ loop-less c = omega arith
 loop-again : tie.Need-loop-again Inv-loop μ-loop
 loop-again c =
     let l = c .before .before .before .before .loop in
-    let a = c .before .before .before .before .before .before .before .args in
-    (omega arith, (simp length-set (omega arith), hex-step (l .text) (a .at) (a .octets .now) (l .i) _ _ (c .before .before .before .loop-test .taken) (c .before .digit-of .ensures) (c .digit-of2 .ensures) ∙ l .inv .1 .1))
+    let a = c .before .before .before .before .before .before .before .args in (
+      omega arith,
+      (
+        simp length-set (omega arith),
+        hex-step (l .text) (a .at) (a .octets .now) (l .i) _ _ (c .before .before .before .loop-test .taken) (c .before .digit-of .ensures)
+            (c .digit-of2 .ensures) ∙ l .inv .1 .1,
+      ),
+    )
 
 same-length : tie.Need-same-length Inv-loop μ-loop
 same-length c = omega arith

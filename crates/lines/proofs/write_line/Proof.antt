@@ -13,7 +13,9 @@ returns : tie.Need-returns
 returns c = let a = c .before .before .before .args in printed-none (a .text .now) _ (lineOctets (length (a .octets .now))) (omega arith)
 
 returns-2 : tie.Need-returns-2
-returns-2 c = let a = c .before .before .before .before .args in printed-none (a .text .now) _ (lineOctets (length (a .octets .now))) (omega arith)
+returns-2 c =
+    let a = c .before .before .before .before .args in
+    printed-none (a .text .now) _ (lineOctets (length (a .octets .now))) (omega arith)
 
 store-line-requires : tie.Need-store-line-requires
 store-line-requires c κs = search needs

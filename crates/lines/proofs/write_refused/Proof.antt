@@ -24,7 +24,8 @@ same-length c = search needs
 returns-2 : tie.Need-returns-2
 returns-2 c =
     let a = c .before .before .before .before .before .before .before .args in
-    whole-printed (a .text .now) tapeRefused (length tapeRefused) _ _ (omega arith) (refl, c .before .before .copy .ensures ∙ put-fits _ _ _ (omega arith))
+    whole-printed (a .text .now) tapeRefused (length tapeRefused) _ _ (omega arith)
+    (refl, c .before .before .copy .ensures ∙ put-fits _ _ _ (omega arith))
 
 pub write-refused-spec : {M : Type 1} → statement M
 write-refused-spec = tie.close (tie.spec returns slice-aggregate-copy copy-requires same-length returns-2)

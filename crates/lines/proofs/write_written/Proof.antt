@@ -34,7 +34,8 @@ same-length c = search needs
 returns-2 : tie.Need-returns-2
 returns-2 c =
     let a = c .before .before .before .before .before .before .before .before .before .before .before .args in
-    some-shown (a .text .now) (a .at) (a .octets .now) _ _ (c .before .before .before .before .before .before .before .before .if1 .left) (omega arith) (c .before .before .before .before .before .before .put-u8 .ensures) (c .before .before .write-hex .ensures)
+    some-shown (a .text .now) (a .at) (a .octets .now) _ _ (c .before .before .before .before .before .before .before .before .if1 .left)
+    (omega arith) (c .before .before .before .before .before .before .put-u8 .ensures) (c .before .before .write-hex .ensures)
 
 pub write-written-spec : {M : Type 1} → statement M
 write-written-spec =

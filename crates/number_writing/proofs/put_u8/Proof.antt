@@ -22,7 +22,8 @@ returns : tie.Need-returns
 unfolding octetsIn
 returns c =
     let a = c .before .args in
-    ap (set (a .out .now) (a .at)) (sym (mod-eq-of-lt (search needs))) ∙ sym (put-fits (a .out .now) (a .at) (a .v % 256 ∷ []) (omega arith))
+    ap (set (a .out .now) (a .at)) (sym (mod-eq-of-lt (search needs)))
+    ∙ sym (put-fits (a .out .now) (a .at) (a .v % 256 ∷ []) (omega arith))
 
 returns-2 : tie.Need-returns-2
 returns-2 c = sym (put-short _ _ _ (omega (arith, octets-length 1 (c .before .args .v))))

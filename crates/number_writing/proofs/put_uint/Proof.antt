@@ -21,13 +21,17 @@ abbrev μ-loop : tie.MeasureT-loop
 μ-loop order out₀ at w v n₀ i₀ out n i = i
 
 returns : tie.Need-returns Inv-loop μ-loop
-returns c = sym (put-short _ _ _ (omega (arith, octets-in-length (c .before .before .args .order) (c .before .before .args .w) (c .before .before .args .v))))
+returns c =
+    sym (put-short _ _ _ (omega
+    (arith, octets-in-length (c .before .before .args .order) (c .before .before .args .w) (c .before .before .args .v))))
 
 saturating-sub-requires : tie.Need-saturating-sub-requires Inv-loop μ-loop
 saturating-sub-requires c κs = search needs
 
 returns-2 : tie.Need-returns-2 Inv-loop μ-loop
-returns-2 c = let a = c .before .before .before .before .args in sym (put-short _ _ _ (omega (arith, octets-in-length (a .order) (a .w) (a .v))))
+returns-2 c =
+    let a = c .before .before .before .before .args in
+    sym (put-short _ _ _ (omega (arith, octets-in-length (a .order) (a .w) (a .v))))
 
 loop-holds : tie.Need-loop-holds Inv-loop μ-loop
 loop-holds c =
@@ -62,7 +66,8 @@ loop-again : tie.Need-loop-again Inv-loop μ-loop
 loop-again c =
     let l = c .before .before .loop in
     let a = c .before .before .before .before .before .before .before .args in
-    let rest : List ℕ → List ℕ = λ out. sets out (highAt (a .order) (a .at) (a .w - (l .i - 1))) (octetsIn (a .order) (l .i - 1) (l .n / 256)) in (
+    let rest : List ℕ → List ℕ =
+    λ out. sets out (highAt (a .order) (a .at) (a .w - (l .i - 1))) (octetsIn (a .order) (l .i - 1) (l .n / 256)) in (
       omega arith,
       (
         simp length-set (omega arith),

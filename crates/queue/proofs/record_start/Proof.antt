@@ -25,7 +25,8 @@ add-result c = search needs
 returns-2 : tie.Need-returns-2
 returns-2 c =
     let z = c .before .before .before in
-    start-near (z .args .capacity) (z .args .start) (z .args .lengths .now) (z .args .i) _ (c .before .octets-to .ensures) (omega arith) (c .if2 .taken)
+    start-near (z .args .capacity) (z .args .start) (z .args .lengths .now) (z .args .i) _ (c .before .octets-to .ensures) (omega arith)
+    (c .if2 .taken)
 
 wrapped-requires : tie.Need-wrapped-requires
 wrapped-requires c κs = search needs
@@ -34,7 +35,8 @@ returns-3 : tie.Need-returns-3
 returns-3 c =
     let z = c .before .before .before .before in
     c .wrapped .ensures
-    ∙ start-far (z .args .capacity) (z .args .start) (z .args .lengths .now) (z .args .i) _ (c .before .before .octets-to .ensures) (omega arith) (c .before .if2 .left)
+    ∙ start-far (z .args .capacity) (z .args .start) (z .args .lengths .now) (z .args .i) _ (c .before .before .octets-to .ensures)
+    (omega arith) (c .before .if2 .left)
 
 pub record-start-spec : {M : Type 1} → statement M
 record-start-spec =

@@ -1,5 +1,5 @@
--- `lend` lends what `replay` requires: the largest store is all 0, and the length that a tape's settings name, a number of 16 bits and 1, is at
--- most its own. So the part lies within it, and is the store that the settings name.
+-- `lend` lends what `replay` requires: the largest store is all 0, and the length that a tape's settings name, a number of 16 bits and 1,
+-- is at most its own. So the part lies within it, and is the store that the settings name.
 use mathlib.Core.Path.{_≡_, refl, sym, ap, _∙_}
 use mathlib.Core.List.{List, _∷_}
 use Prim.Native.Nat.{ℕ, zero, suc, _≤_}

@@ -13,10 +13,22 @@ beats-best-requires : tie.Need-beats-best-requires
 beats-best-requires c κs = search needs
 
 returns : tie.Need-returns
-returns c = rw (← c .before .before .before .phase-at .ensures, ← c .before .before .is-agreed .ensures, ← c .before .beats-best .ensures, c .if1 .taken)
+returns c =
+    rw (
+      ← c .before .before .before .phase-at .ensures,
+      ← c .before .before .is-agreed .ensures,
+      ← c .before .beats-best .ensures,
+      c .if1 .taken,
+    )
 
 returns-2 : tie.Need-returns-2
-returns-2 c = rw (← c .before .before .before .phase-at .ensures, ← c .before .before .is-agreed .ensures, ← c .before .beats-best .ensures, c .if1 .left)
+returns-2 c =
+    rw (
+      ← c .before .before .before .phase-at .ensures,
+      ← c .before .before .is-agreed .ensures,
+      ← c .before .beats-best .ensures,
+      c .if1 .left,
+    )
 
 pub better-spec : {M : Type 1} → statement M
 better-spec =

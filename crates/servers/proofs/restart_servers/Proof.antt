@@ -39,8 +39,11 @@ loop-less c = search needs
 loop-again : tie.Need-loop-again Inv-loop μ-loop
 loop-again c =
     let xs = c .before .before .before .before .args .t1 in
-    let l : length xs ≡ 8 = search needs in
-    (omega arith, rw (c .before .before .before .loop .inv .1, c .restart-server .ensures) (map-suc restart (server Closed) xs (c .before .before .before .loop .i) (omega arith)))
+    let l : length xs ≡ 8 = search needs in (
+      omega arith,
+      rw (c .before .before .before .loop .inv .1, c .restart-server .ensures)
+          (map-suc restart (server Closed) xs (c .before .before .before .loop .i) (omega arith)),
+    )
 
 returns : tie.Need-returns Inv-loop μ-loop
 returns c =

@@ -8,7 +8,8 @@ use lib.ListN.{length, getD}
 use Rattle.session.specs.InOctets.{Event, Put, NextData, Receive, OfferTemplates, Tick}
 use borrow.Author.Needs.{needs}
 use Rattle.sessions.specs.Sessions.{Lent, messageAt, Progress, progress, played}
-use Rattle.sessions.proofs.Turns.{event-put, event-next, event-tick, event-offer, event-receive, put-writes-nothing, tick-writes-nothing, stepped-after, wrote-after, same-progress, played-more, played-to}
+use Rattle.sessions.proofs.Turns.{event-put, event-next, event-tick, event-offer, event-receive, put-writes-nothing}
+use Rattle.sessions.proofs.Turns.{tick-writes-nothing, stepped-after, wrote-after, same-progress, played-more, played-to}
 use Rattle.sessions.proofs.play.Statement.{statement}
 use Rattle.sessions.proofs.play.Tie as tie
 
@@ -17,7 +18,8 @@ Inv-loop store₀ table id r events out₀ state₀ total₀ n i₀ store out st
     (i ≤ n)
     × ((length store ≡ length store₀)
     × ((length out ≡ length out₀)
-    × (progress state store out total ≡ played (record { table = table; template = id; octets = r; events = events }) i (progress state₀ store₀ out₀ total₀))))
+    × (progress state store out total
+    ≡ played (record { table = table; template = id; octets = r; events = events }) i (progress state₀ store₀ out₀ total₀))))
 
 abbrev μ-loop : tie.MeasureT-loop
 μ-loop store₀ table id r events out₀ state₀ total₀ n i₀ store out state total i = n - i
@@ -155,9 +157,11 @@ loop-again c =
         ap length (w .8) ∙ h .inv .1 .0,
         (
           ap length (w .9) ∙ w .4 .given ∙ h .inv .1 .1 .0,
-          played-more l _ q _ (h .i) e (h .inv .1 .1 .1) (event-receive l at (h .out) (others .0 .0 .0 .1) (others .0 .0 .1) (others .0 .1) (others .1))
+          played-more l _ q _ (h .i) e (h .inv .1 .1 .1)
+              (event-receive l at (h .out) (others .0 .0 .0 .1) (others .0 .0 .1) (others .0 .1) (others .1))
               (same-progress (w .10) (w .8) (w .9) (w .11 ∙ w .7 .ensures)
-              ∙ wrote-after l q e (w .3 .result) _ refl (rw (w .1 .ensures) at (w .3 .ensures .0)) (rw (w .1 .ensures) at (w .3 .ensures .1))),
+              ∙ wrote-after l q e (w .3 .result) _ refl (rw (w .1 .ensures) at (w .3 .ensures .0))
+              (rw (w .1 .ensures) at (w .3 .ensures .1))),
         ),
       ),
     ))

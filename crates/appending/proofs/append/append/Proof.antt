@@ -1,5 +1,5 @@
--- `append` meets its contract: a value that does not fit is refused, and the field of any other is stored; minus n is written as 256 to the w
--- minus n.
+-- `append` meets its contract: a value that does not fit is refused, and the field of any other is stored; minus n is written as 256 to the
+-- w minus n.
 use mathlib.Core.Path.{_≡_, sym, ap, _∙_}
 use Prim.Native.Nat.{ℕ, _+_, _-_, _^_}
 use native.Mathlib.Omega.{arith}
@@ -38,7 +38,8 @@ returns c =
     let f = c .before .before .before .before .before in
     let o = f .before .before .before .field-order in
     answered-with (append-answer _ _ _ _ _ _)
-    (append-stored _ _ _ Octets _ _ _ _ _ (f .before .enum-told .given .1) (sym (f .octets-fit .ensures) ∙ c .before .before .before .before .if1 .taken)
+    (append-stored _ _ _ Octets _ _ _ _ _ (f .before .enum-told .given .1)
+    (sym (f .octets-fit .ensures) ∙ c .before .before .before .before .if1 .taken)
     (rw (o .ensures) at (c .before .before .store-octets .ensures)))
 
 enum-known-value : tie.Need-enum-known-value
@@ -59,7 +60,8 @@ returns-2 c =
     let v = f .before .before .value in
     let o = f .before .before .before .before in
     answered-with (append-answer _ _ _ _ _ _)
-    (append-stored _ _ _ (Number (v .given .0 .0)) _ _ _ _ _ (v .given .1) (sym (f .number-fits .ensures) ∙ c .before .before .before .before .if2 .taken)
+    (append-stored _ _ _ (Number (v .given .0 .0)) _ _ _ _ _ (v .given .1)
+    (sym (f .number-fits .ensures) ∙ c .before .before .before .before .if2 .taken)
     (rw (o .field-order .ensures, o .before .width .ensures) at (c .before .before .store-number .ensures)))
 
 enum-known-value-2 : tie.Need-enum-known-value-2
@@ -98,7 +100,8 @@ returns-3 c =
     let w = o .before .width in
     let f = sym (r .before .before .negative-fits .ensures) ∙ r .before .if3 .taken in
     let g = greatest-of (w .result) (omega (arith, negative-range _ _ f, w .ensures)) (r .greatest .ensures) in
-    let e : r .greatest .result - n + 1 ≡ 256 ^ w .result - n = omega (arith, negative-range _ _ f, ap (λ (w : ℕ). 256 ^ w) (w .ensures), g) in
+    let e : r .greatest .result - n + 1 ≡ 256 ^ w .result - n =
+    omega (arith, negative-range _ _ f, ap (λ (w : ℕ). 256 ^ w) (w .ensures), g) in
     answered-with (append-answer _ _ _ _ _ _)
     (append-stored _ _ _ (Negative n) _ _ _ _ _ (v .given .1) f
     (rw (o .field-order .ensures, w .ensures) at (rw e at (c .before .before .store-number2 .ensures))))
@@ -111,12 +114,14 @@ returns-4 c =
 returns-5 : tie.Need-returns-5
 returns-5 c =
     answered-with (append-answer _ _ _ _ _ _)
-    (append-refused _ _ _ (Number _) _ _ _ (c .before .before .before .value .given .1) (sym (c .before .number-fits .ensures) ∙ c .if2 .left))
+    (append-refused _ _ _ (Number _) _ _ _ (c .before .before .before .value .given .1)
+    (sym (c .before .number-fits .ensures) ∙ c .if2 .left))
 
 returns-6 : tie.Need-returns-6
 returns-6 c =
     answered-with (append-answer _ _ _ _ _ _)
-    (append-refused _ _ _ (Negative _) _ _ _ (c .before .before .before .value2 .given .1) (sym (c .before .negative-fits .ensures) ∙ c .if3 .left))
+    (append-refused _ _ _ (Negative _) _ _ _ (c .before .before .before .value2 .given .1)
+    (sym (c .before .negative-fits .ensures) ∙ c .if3 .left))
 
 pub append-spec : {M : Type 1} → statement M
 append-spec =

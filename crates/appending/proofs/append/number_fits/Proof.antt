@@ -36,7 +36,8 @@ returns-2 c =
     let a = c .before .before .before .before .before .args in
     let s : isSigned (a .kind) ≡ true = sym (c .before .before .is-signed .ensures) ∙ c .before .if2 .taken in
     let w = c .before .before .before .width in
-    let g = greatest-of (w .result) (omega (arith, number-width (a .kind) (signed-number (a .kind) s), w .ensures)) (c .greatest .ensures) in
+    let g =
+    greatest-of (w .result) (omega (arith, number-width (a .kind) (signed-number (a .kind) s), w .ensures)) (c .greatest .ensures) in
     rw (ne-eqb (a .kind) booleanType (c .before .before .before .before .if1 .left), s, ← (w .ensures), g)
     (half-test (a .n) (w .result))
 
@@ -50,7 +51,8 @@ returns-3 : tie.Need-returns-3
 unfolding numberFits
 returns-3 c =
     let a = c .before .before .before .before .before .before .before .args in
-    let s : isSigned (a .kind) ≡ false = sym (c .before .before .before .before .is-signed .ensures) ∙ c .before .before .before .if2 .left in
+    let s : isSigned (a .kind) ≡ false =
+    sym (c .before .before .before .before .is-signed .ensures) ∙ c .before .before .before .if2 .left in
     let n : isNumber (a .kind) ≡ true = sym (c .before .before .is-number .ensures) ∙ c .before .if3 .taken in
     let w = c .before .before .before .before .before .width in
     let g = greatest-of (w .result) (omega (arith, number-width (a .kind) n, w .ensures)) (c .greatest2 .ensures) in

@@ -21,11 +21,17 @@ none-zero-requires c κs = search needs
 
 returns-2 : tie.Need-returns-2
 unfolding octetsFit
-returns-2 c = rw (ne-eqb _ stringType (c .before .before .if1 .left), eq-eqb _ terminatedType (c .before .if2 .taken)) (c .none-zero .ensures)
+returns-2 c =
+    rw (ne-eqb _ stringType (c .before .before .if1 .left), eq-eqb _ terminatedType (c .before .if2 .taken)) (c .none-zero .ensures)
 
 returns-3 : tie.Need-returns-3
 unfolding octetsFit
-returns-3 c = rw (ne-eqb _ stringType (c .before .before .if1 .left), ne-eqb _ terminatedType (c .before .if2 .left), eq-eqb _ blobType (c .if3 .taken))
+returns-3 c =
+    rw (
+      ne-eqb _ stringType (c .before .before .if1 .left),
+      ne-eqb _ terminatedType (c .before .if2 .left),
+      eq-eqb _ blobType (c .if3 .taken),
+    )
 
 width-requires : tie.Need-width-requires
 width-requires c κs = search needs
@@ -39,7 +45,13 @@ is-number-requires c κs = search needs
 returns-4 : tie.Need-returns-4
 unfolding octetsFit
 returns-4 c =
-    rw (ne-eqb _ stringType (c .before .before .before .before .if1 .left), ne-eqb _ terminatedType (c .before .before .before .if2 .left), ne-eqb _ blobType (c .before .before .if3 .left), c .before .width .ensures, c .is-number .ensures)
+    rw (
+      ne-eqb _ stringType (c .before .before .before .before .if1 .left),
+      ne-eqb _ terminatedType (c .before .before .before .if2 .left),
+      ne-eqb _ blobType (c .before .before .if3 .left),
+      c .before .width .ensures,
+      c .is-number .ensures,
+    )
 
 pub octets-fit-spec : {M : Type 1} → statement M
 octets-fit-spec =

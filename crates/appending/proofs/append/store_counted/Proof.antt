@@ -17,7 +17,8 @@ saturating-sub-requires c κs = search needs
 returns : tie.Need-returns
 returns c =
     let a = c .before .before .before .before .args in
-    joined-short (octetsIn (a .order) 4 (length (a .octets .now))) (a .octets .now) _ _ (omega (arith, octets-in-length (a .order) 4 (length (a .octets .now))))
+    joined-short (octetsIn (a .order) 4 (length (a .octets .now))) (a .octets .now) _ _
+    (omega (arith, octets-in-length (a .order) 4 (length (a .octets .now))))
 
 add-start : tie.Need-add-start
 add-start c = search needs
@@ -28,7 +29,8 @@ saturating-sub-requires-2 c κs = search needs
 returns-2 : tie.Need-returns-2
 returns-2 c =
     let a = c .before .before .before .before .before .before .args in
-    joined-short (octetsIn (a .order) 4 (length (a .octets .now))) (a .octets .now) _ _ (omega (arith, octets-in-length (a .order) 4 (length (a .octets .now))))
+    joined-short (octetsIn (a .order) 4 (length (a .octets .now))) (a .octets .now) _ _
+    (omega (arith, octets-in-length (a .order) 4 (length (a .octets .now))))
 
 put-uint-requires : tie.Need-put-uint-requires
 put-uint-requires c κs = search needs
@@ -48,7 +50,8 @@ returns-3 c =
     let front = octetsIn (a .order) 4 (length (a .octets .now)) in
     let n : length front ≡ 4 = octets-in-length (a .order) 4 (length (a .octets .now)) in
     joined-fits front (a .octets .now) (a .out .now) _ _ _ (omega arith) (omega arith)
-    (rw n (c .before .before .copy .ensures ∙ ap (λ (o : List ℕ). putAt o (a .at + 4) (a .octets .now)) (c .before .before .before .before .before .before .put-uint .ensures)))
+    (rw n (c .before .before .copy .ensures
+    ∙ ap (λ (o : List ℕ). putAt o (a .at + 4) (a .octets .now)) (c .before .before .before .before .before .before .put-uint .ensures)))
 
 pub store-counted-spec : {M : Type 1} → statement M
 store-counted-spec =

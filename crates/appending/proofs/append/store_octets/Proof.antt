@@ -27,7 +27,13 @@ same-length-2 c = search needs
 
 returns-2 : tie.Need-returns-2
 unfolding octetsField
-returns-2 c = rw (ne-eqb _ terminatedType (c .before .before .before .before .before .before .if1 .left), ← (c .before .before .before .before .before .width .ensures), lt-ltb 0 _ (c .before .before .before .before .if2 .taken)) (c .before .before .store-plain .ensures)
+returns-2 c =
+    rw (
+      ne-eqb _ terminatedType (c .before .before .before .before .before .before .if1 .left),
+      ← (c .before .before .before .before .before .width .ensures),
+      lt-ltb 0 _ (c .before .before .before .before .if2 .taken),
+    )
+    (c .before .before .store-plain .ensures)
 
 store-counted-requires : tie.Need-store-counted-requires
 store-counted-requires c κs = search needs
@@ -37,7 +43,13 @@ same-length-3 c = search needs
 
 returns-3 : tie.Need-returns-3
 unfolding octetsField
-returns-3 c = rw (ne-eqb _ terminatedType (c .before .before .before .before .before .before .if1 .left), ← (c .before .before .before .before .before .width .ensures), le-ltb 0 _ (c .before .before .before .before .if2 .left)) (c .before .before .store-counted .ensures)
+returns-3 c =
+    rw (
+      ne-eqb _ terminatedType (c .before .before .before .before .before .before .if1 .left),
+      ← (c .before .before .before .before .before .width .ensures),
+      le-ltb 0 _ (c .before .before .before .before .if2 .left),
+    )
+    (c .before .before .store-counted .ensures)
 
 pub store-octets-spec : {M : Type 1} → statement M
 store-octets-spec =

@@ -36,7 +36,9 @@ unfolding octetsIn
 returns-2 c =
     let a = c .before .before .before .before .before .before .before .before .before .before .before .before .args in
     joined-fits (a .octets .now) (0 ∷ []) (a .out .now) _ _ _ (omega arith) refl
-    (c .before .before .put-u8 .ensures ∙ ap (λ (o : List ℕ). putAt o (a .at + length (a .octets .now)) (0 ∷ [])) (c .before .before .before .before .before .before .copy .ensures))
+    (c .before .before .put-u8 .ensures
+    ∙ ap (λ (o : List ℕ). putAt o (a .at + length (a .octets .now)) (0 ∷ []))
+    (c .before .before .before .before .before .before .copy .ensures))
 
 pub store-terminated-spec : {M : Type 1} → statement M
 store-terminated-spec =

@@ -37,8 +37,10 @@ unfolding appendUnder appendUnderOut
 returns-2 c =
     let a = c .before .before .before .append .ensures in
     let v = c .before .before .before .before .before in
-    let l = sym (v .before .before .before .flags-sound .ensures) ∙ not-false _ (v .before .before .if1 .left) in
-    (rw (l, c .appended-number .ensures, a .0 .same, v .value-of .ensures, v .before .order-of .ensures), rw (l, a .1, v .value-of .ensures, v .before .order-of .ensures))
+    let l = sym (v .before .before .before .flags-sound .ensures) ∙ not-false _ (v .before .before .if1 .left) in (
+      rw (l, c .appended-number .ensures, a .0 .same, v .value-of .ensures, v .before .order-of .ensures),
+      rw (l, a .1, v .value-of .ensures, v .before .order-of .ensures),
+    )
 
 pub crane-append-spec : {M : Type 1} → statement M
 crane-append-spec =

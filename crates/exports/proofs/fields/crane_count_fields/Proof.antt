@@ -20,7 +20,8 @@ cast-result : tie.Need-cast-result
 cast-result c = search needs
 
 returns : tie.Need-returns
-returns c = rw (sym (c .before .before .before .before .count-fields .ensures .same) ∙ c .before .before .counted .given .1) (c .accepted .ensures)
+returns c =
+    rw (sym (c .before .before .before .before .count-fields .ensures .same) ∙ c .before .before .counted .given .1) (c .accepted .ensures)
 
 returns-2 : tie.Need-returns-2
 returns-2 c = rw (sym (c .before .before .before .count-fields .ensures .same) ∙ c .before .counted2 .given .1)

@@ -29,13 +29,15 @@ sole-part-requires-2 : tie.Need-sole-part-requires-2
 sole-part-requires-2 c κs = search needs
 
 returns : tie.Need-returns
-returns c = rw (sym (c .before .before .before .before .step-walk .ensures .0 .same) ∙ c .before .before .step .given .1) (c .field-part .ensures)
+returns c =
+    rw (sym (c .before .before .before .before .step-walk .ensures .0 .same) ∙ c .before .before .step .given .1) (c .field-part .ensures)
 
 returns-2 : tie.Need-returns-2
 returns-2 c = rw (sym (c .before .before .before .step-walk .ensures .0 .same) ∙ c .before .enum-told .given .1) (c .sole-part .ensures)
 
 returns-3 : tie.Need-returns-3
-returns-3 c = rw (sym (c .before .before .before .before .step-walk .ensures .0 .same) ∙ c .before .before .step2 .given .1) (c .sole-part2 .ensures)
+returns-3 c =
+    rw (sym (c .before .before .before .before .step-walk .ensures .0 .same) ∙ c .before .before .step2 .given .1) (c .sole-part2 .ensures)
 
 pub crane-step-part-spec : {M : Type 1} → statement M
 crane-step-part-spec =

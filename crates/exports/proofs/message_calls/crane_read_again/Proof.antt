@@ -33,14 +33,18 @@ same-length c = search needs
 
 returns : tie.Need-returns
 returns c =
-    let read = sym (c .before .before .before .before .before .before .before .before .before .before .read-message .ensures .same) ∙ c .before .before .before .before .before .before .before .before .reading .given .1 in
+    let read =
+    sym (c .before .before .before .before .before .before .before .before .before .before .read-message .ensures .same)
+    ∙ c .before .before .before .before .before .before .before .before .reading .given .1 in
     let part = c .before .before .before .before .before .before .message-part .ensures .0 in
     let wrote = c .before .before .before .before .write-message .ensures in
     (rw (read, c .if1 .taken, c .before .written-number .ensures, wrote .0 .same, part), rw (read, wrote .1, part))
 
 part-place-requires : tie.Need-part-place-requires
 part-place-requires c κs =
-    let read = sym (c .before .before .before .before .before .before .before .before .before .before .read-message .ensures .same) ∙ c .before .before .before .before .before .before .before .before .reading .given .1 in
+    let read =
+    sym (c .before .before .before .before .before .before .before .before .before .before .read-message .ensures .same)
+    ∙ c .before .before .before .before .before .before .before .before .reading .given .1 in
     sym (reading-number _) ∙ ap readingAnswer read
 
 message-parts-requires : tie.Need-message-parts-requires
@@ -71,8 +75,12 @@ same-part m i w at at' part part' out answer p q r s =
 
 returns-2 : tie.Need-returns-2
 returns-2 c =
-    let a = c .before .before .before .before .before .before .before .before .before .before .before .before .before .before .before .before .args in
-    let read = sym (c .before .before .before .before .before .before .before .before .before .before .before .before .before .read-message .ensures .same) ∙ c .before .before .before .before .before .before .before .before .before .before .before .reading .given .1 in
+    let a =
+    c .before .before .before .before .before .before .before .before .before .before .before .before .before .before .before .before
+    .args in
+    let read =
+    sym (c .before .before .before .before .before .before .before .before .before .before .before .before .before .read-message
+    .ensures .same) ∙ c .before .before .before .before .before .before .before .before .before .before .before .reading .given .1 in
     let part = c .before .before .before .before .before .before .before .before .before .message-part .ensures .0 in
     let wrote = c .before .before .before .before .before .before .before .write-message .ensures in
     let at = c .before .before .part-place .ensures in

@@ -23,10 +23,13 @@ sole-part-requires : tie.Need-sole-part-requires
 sole-part-requires c κs = search needs
 
 returns : tie.Need-returns
-returns c = rw (sym (c .before .before .before .before .find-template .ensures .same) ∙ c .before .before .found .given .1) (c .template-part .ensures)
+returns c =
+    rw (sym (c .before .before .before .before .find-template .ensures .same) ∙ c .before .before .found .given .1)
+    (c .template-part .ensures)
 
 returns-2 : tie.Need-returns-2
-returns-2 c = rw (sym (c .before .before .before .before .find-template .ensures .same) ∙ c .before .before .found2 .given .1) (c .sole-part .ensures)
+returns-2 c =
+    rw (sym (c .before .before .before .before .find-template .ensures .same) ∙ c .before .before .found2 .given .1) (c .sole-part .ensures)
 
 pub crane-find-part-spec : {M : Type 1} → statement M
 crane-find-part-spec =

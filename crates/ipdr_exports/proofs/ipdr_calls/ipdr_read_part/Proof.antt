@@ -27,7 +27,9 @@ place-of-requires c κs = search needs
 returns-2 : tie.Need-returns-2
 returns-2 c =
     let m = c .before .before .before .before .before .before .before .before .args .message .now in
-    let read = sym (c .before .before .before .before .before .before .read-message .ensures .same) ∙ c .before .before .before .before .reading .given .1 in
+    let read =
+    sym (c .before .before .before .before .before .before .read-message .ensures .same)
+    ∙ c .before .before .before .before .reading .given .1 in
     rw (read, c .before .if2 .taken) (c .place-of .ensures ∙ sym (part-at m _ read))
 
 message-part-requires : tie.Need-message-part-requires
@@ -74,7 +76,13 @@ returns-5 c =
     )
     (c .said-at .ensures
     ∙ sym (behind-four _ _ _ _ (contentNumbers (c .before .before .before .before .before .before .reading .given .0 .0 .content)) (a .part)
-    (omega (arith, c .before .if4 .left, c .before .before .if3 .left, c .before .before .before .if2 .left, c .before .before .before .before .if1 .left))))
+    (omega (
+      arith,
+      c .before .if4 .left,
+      c .before .before .if3 .left,
+      c .before .before .before .if2 .left,
+      c .before .before .before .before .if1 .left,
+    ))))
 
 returns-6 : tie.Need-returns-6
 returns-6 c =

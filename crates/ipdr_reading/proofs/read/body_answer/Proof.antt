@@ -1,6 +1,7 @@
 -- `body_answer` meets its contract: each arm judges the length of its row, and the last is told that there is none.
 use mathlib.Core.Path.{refl, sym, _∙_}
-use Rattle.ipdr.specs.Messages.{flowStart, flowStop, connect, connectResponse, disconnect, sessionStart, sessionStop, dataNumber, dataAcknowledge}
+use Rattle.ipdr.specs.Messages.{flowStart, flowStop, connect, connectResponse, disconnect, sessionStart, sessionStop, dataNumber}
+use Rattle.ipdr.specs.Messages.{dataAcknowledge}
 use Rattle.ipdr.specs.Messages.{errorNumber, isMessage, widthsOf, isCounted}
 use Rattle.ipdr.proofs.Messages.{body-bare, body-counted, body-unknown}
 use borrow.Author.Needs.{needs}

@@ -34,7 +34,9 @@ refuse-put-requires c κs = search needs
 returns : tie.Need-returns
 returns c =
     let a = c .before .before .before .before .before .before .before .before .before .before .before .args in
-    let s = stateOf (a .p) (a .capacity) (a .d) (a .due) (a .count) (a .lengths .now) (a .templates .now) (a .receivers .now) (a .start) (a .next) in
+    let s =
+    stateOf (a .p) (a .capacity) (a .d) (a .due) (a .count) (a .lengths .now) (a .templates .now) (a .receivers .now) (a .start)
+    (a .next) in
     let ps = c .before .before .before .before .before .before .before .parts-sound in
     let n = c .before .before .before .before .before .before .octets-to in
     let pa = c .before .before .before .before .before .put-answer in
@@ -50,7 +52,9 @@ cast-ring-write c = search needs
 add-ring-write : tie.Need-add-ring-write
 add-ring-write c =
     let a = c .before .before .before .before .before .before .before .before .args in
-    let s = stateOf (a .p) (a .capacity) (a .d) (a .due) (a .count) (a .lengths .now) (a .templates .now) (a .receivers .now) (a .start) (a .next) in
+    let s =
+    stateOf (a .p) (a .capacity) (a .d) (a .due) (a .count) (a .lengths .now) (a .templates .now) (a .receivers .now) (a .start)
+    (a .next) in
     let ps = c .before .before .before .before .parts-sound in
     let n = c .before .before .before .octets-to in
     let pa = c .before .before .put-answer in
@@ -67,7 +71,9 @@ ring-write-requires c κs = search needs
 cast-t34 : tie.Need-cast-t34
 cast-t34 c =
     let a = c .before .before .before .before .before .before .before .before .before .before .before .args in
-    let s = stateOf (a .p) (a .capacity) (a .d) (a .due) (a .count) (a .lengths .now) (a .templates .now) (a .receivers .now) (a .start) (a .next) in
+    let s =
+    stateOf (a .p) (a .capacity) (a .d) (a .due) (a .count) (a .lengths .now) (a .templates .now) (a .receivers .now) (a .start)
+    (a .next) in
     let ps = c .before .before .before .before .before .before .before .parts-sound in
     let n = c .before .before .before .before .before .before .octets-to in
     let pa = c .before .before .before .before .before .put-answer in
@@ -80,7 +86,9 @@ cast-t34 c =
 add-t33 : tie.Need-add-t33
 add-t33 c =
     let a = c .before .before .before .before .before .before .before .before .before .before .before .args in
-    let s = stateOf (a .p) (a .capacity) (a .d) (a .due) (a .count) (a .lengths .now) (a .templates .now) (a .receivers .now) (a .start) (a .next) in
+    let s =
+    stateOf (a .p) (a .capacity) (a .d) (a .due) (a .count) (a .lengths .now) (a .templates .now) (a .receivers .now) (a .start)
+    (a .next) in
     let ps = c .before .before .before .before .before .before .before .parts-sound in
     let n = c .before .before .before .before .before .before .octets-to in
     let pa = c .before .before .before .before .before .put-answer in
@@ -99,7 +107,9 @@ same-length c = search needs
 returns-2 : tie.Need-returns-2
 returns-2 c =
     let a = c .before .before .before .before .before .before .before .before .before .before .before .before .args in
-    let s = stateOf (a .p) (a .capacity) (a .d) (a .due) (a .count) (a .lengths .now) (a .templates .now) (a .receivers .now) (a .start) (a .next) in
+    let s =
+    stateOf (a .p) (a .capacity) (a .d) (a .due) (a .count) (a .lengths .now) (a .templates .now) (a .receivers .now) (a .start)
+    (a .next) in
     let ps = c .before .before .before .before .before .before .before .before .parts-sound in
     let n = c .before .before .before .before .before .before .before .octets-to in
     let pa = c .before .before .before .before .before .before .put-answer in

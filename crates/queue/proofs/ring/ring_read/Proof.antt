@@ -13,7 +13,9 @@ use Rattle.queue.proofs.ring.ring_read.Statement.{statement}
 use Rattle.queue.proofs.ring.ring_read.Tie as tie
 
 returns : tie.Need-returns
-returns c = let a = c .before .before .before .args in copied-outside (a .store .now) (a .at) (a .n) (a .out .now) (a .place) (c .if1 .taken)
+returns c =
+    let a = c .before .before .before .args in
+    copied-outside (a .store .now) (a .at) (a .n) (a .out .now) (a .place) (c .if1 .taken)
 
 returns-2 : tie.Need-returns-2
 returns-2 c =

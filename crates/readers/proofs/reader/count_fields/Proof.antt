@@ -1,5 +1,6 @@
 -- `count_fields` meets its contract. The loop's invariant: the fields counted and those that the walk has left are as many as the enabled
--- keys. A refused opening is answered; after it no step refuses; at the end nothing is left, nor after as many fields as a template has keys.
+-- keys. A refused opening is answered; after it no step refuses; at the end nothing is left, nor after as many fields as a template has
+-- keys.
 use mathlib.Core.Path.{sym, _∙_}
 use Prim.Native.Nat.{_-_}
 use borrow.Author.Needs.{needs}
@@ -25,7 +26,8 @@ enum-known-answer : tie.Need-enum-known-answer Inv-loop μ-loop
 enum-known-answer c = search needs
 
 returns : tie.Need-returns Inv-loop μ-loop
-returns c = answered (count-number _ _ _) (count-refused _ _ _ _ (sym (c .before .before .before .opening .ensures) ∙ c .before .answer .given .1))
+returns c =
+    answered (count-number _ _ _) (count-refused _ _ _ _ (sym (c .before .before .before .opening .ensures) ∙ c .before .answer .given .1))
 
 loop-holds : tie.Need-loop-holds Inv-loop μ-loop
 loop-holds c = count-opened _ _ _ _ (sym (c .before .before .before .opening .ensures) ∙ c .before .start .given .1)
@@ -42,7 +44,8 @@ enum-told c = search needs
 returns-2 : tie.Need-returns-2 Inv-loop μ-loop
 returns-2 c =
     answered (count-number _ _ _)
-    (count-end _ _ _ _ _ (c .before .before .before .before .loop .inv) (sym (c .before .before .step-at .ensures) ∙ c .enum-told .given .1))
+    (count-end _ _ _ _ _ (c .before .before .before .before .loop .inv)
+    (sym (c .before .before .step-at .ensures) ∙ c .enum-told .given .1))
 
 enum-known-answer-2 : tie.Need-enum-known-answer-2 Inv-loop μ-loop
 enum-known-answer-2 c = search needs

@@ -6,7 +6,8 @@ use native.Mathlib.Nat.{zero-add}
 use native.Mathlib.Omega.{arith}
 use Rattle.octets.proofs.Numbers.{uint-one}
 use Rattle.tables.specs.Table.{tableSound}
-use Rattle.messages.proofs.Messages.{header-refused, header-long, part-of-data, part-of-table, part-of-refused, part-of-other, short-refused, long-read, unsound-refused, sound-read}
+use Rattle.messages.proofs.Messages.{header-refused, header-long, part-of-data, part-of-table, part-of-refused, part-of-other}
+use Rattle.messages.proofs.Messages.{short-refused, long-read, unsound-refused, sound-read}
 use Rattle.octets.proofs.Stores.{take-rest}
 use borrow.Author.Needs.{needs}
 use Rattle.reading.proofs.read.message_part.Statement.{statement}
@@ -37,7 +38,8 @@ returns-2 : tie.Need-returns-2
 returns-2 c =
     let a = c .before .before .before .before .before .before .before .args .message in
     let h = sym (c .before .before .before .before .before .header-answer .ensures) ∙ c .before .before .before .before .if1 .left in
-    let p = part-of-refused (a .now) (short-refused (a .now) h (uint-one (a .now) 1 ∙ c .before .before .if2 .taken) (c .before .if3 .taken)) in
+    let p =
+    part-of-refused (a .now) (short-refused (a .now) h (uint-one (a .now) 1 ∙ c .before .before .if2 .taken) (c .before .if3 .taken)) in
     (sym (p .1), (refl, sym (zero-add _) ∙ ap (λ (k : ℕ). k + a .ptr .1) (sym (p .0))))
 
 sub-result : tie.Need-sub-result
@@ -85,12 +87,16 @@ table-sound-requires c κs = search needs
 
 sub-result-2 : tie.Need-sub-result-2
 sub-result-2 c =
-    let long = header-long _ (sym (c .before .before .before .before .before .before .before .header-answer .ensures) ∙ c .before .before .before .before .before .before .if1 .left) in
+    let long =
+    header-long _ (sym (c .before .before .before .before .before .before .before .header-answer .ensures)
+    ∙ c .before .before .before .before .before .before .if1 .left) in
     omega arith
 
 part-result-start-2 : tie.Need-part-result-start-2
 part-result-start-2 c =
-    let long = header-long _ (sym (c .before .before .before .before .before .before .before .header-answer .ensures) ∙ c .before .before .before .before .before .before .if1 .left) in
+    let long =
+    header-long _ (sym (c .before .before .before .before .before .before .before .header-answer .ensures)
+    ∙ c .before .before .before .before .before .before .if1 .left) in
     omega arith
 
 part-result-end-2 : tie.Need-part-result-end-2
@@ -99,7 +105,9 @@ part-result-end-2 c = search needs
 returns-5 : tie.Need-returns-5
 returns-5 c =
     let a = c .before .before .before .before .before .before .before .before .before .before .args .message in
-    let h = sym (c .before .before .before .before .before .before .before .before .header-answer .ensures) ∙ c .before .before .before .before .before .before .before .if1 .left in
+    let h =
+    sym (c .before .before .before .before .before .before .before .before .header-answer .ensures)
+    ∙ c .before .before .before .before .before .before .before .if1 .left in
     let e = uint-one (a .now) 1 ∙ c .before .before .before .before .if4 .left in
     let t = sym (ap tableSound (take-rest (a .now) 8)) ∙ sym (c .before .before .table-sound .ensures) ∙ c .before .if5 .taken in
     let p = part-of-table (a .now) (sound-read (a .now) h e t) e in
@@ -111,7 +119,9 @@ slice-aggregate-result-4 c = search needs
 returns-6 : tie.Need-returns-6
 returns-6 c =
     let a = c .before .before .before .before .before .before .before .before .before .before .args .message in
-    let h = sym (c .before .before .before .before .before .before .before .before .header-answer .ensures) ∙ c .before .before .before .before .before .before .before .if1 .left in
+    let h =
+    sym (c .before .before .before .before .before .before .before .before .header-answer .ensures)
+    ∙ c .before .before .before .before .before .before .before .if1 .left in
     let e = uint-one (a .now) 1 ∙ c .before .before .before .before .if4 .left in
     let t = sym (ap tableSound (take-rest (a .now) 8)) ∙ sym (c .before .before .table-sound .ensures) ∙ c .before .if5 .left in
     let p = part-of-refused (a .now) (unsound-refused (a .now) h e t) in

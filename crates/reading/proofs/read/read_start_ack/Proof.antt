@@ -34,7 +34,11 @@ u32-of-requires c κs = search needs
 returns-2 : tie.Need-returns-2
 returns-2 c =
     let m = c .before .before .before .before .before .before .before .before .args .message .now in
-    rw (eq-eqb _ _ (c .before .before .before .before .before .before .if1 .left), uint-one m 2, ← (c .u32-of .ensures ∙ uint-read m 8 4 (8 ∷ 9 ∷ 10 ∷ 11 ∷ []) refl (refl, (refl, (refl, (refl, tt))))))
+    rw (
+      eq-eqb _ _ (c .before .before .before .before .before .before .if1 .left),
+      uint-one m 2,
+      ← (c .u32-of .ensures ∙ uint-read m 8 4 (8 ∷ 9 ∷ 10 ∷ 11 ∷ []) refl (refl, (refl, (refl, (refl, tt))))),
+    )
 
 pub read-start-ack-spec : {M : Type 1} → statement M
 read-start-ack-spec =

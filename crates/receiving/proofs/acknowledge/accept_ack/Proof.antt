@@ -15,7 +15,11 @@ returns : tie.Need-returns
 returns c =
     let z = c .before .before in
     let a = z .args in
-    rw (c .record-start .ensures, start-inside (a .capacity) (a .start) (a .lengths .now) (a .n) (z .pre .1), c .before .acknowledge-delivery .ensures)
+    rw (
+      c .record-start .ensures,
+      start-inside (a .capacity) (a .start) (a .lengths .now) (a .n) (z .pre .1),
+      c .before .acknowledge-delivery .ensures,
+    )
 
 pub accept-ack-spec : {M : Type 1} → statement M
 accept-ack-spec = tie.close (tie.spec acknowledge-delivery-requires record-start-requires returns)

@@ -23,7 +23,8 @@ returns c =
     let parts = stateOf (a .p) (a .capacity) (a .d) (a .due) (a .count) (a .lengths .now) [] (a .receivers .now) (a .start) 0 in
     let s = stateOf (a .p) (a .capacity) (a .d) (a .due) (a .count) (a .lengths .now) [] (a .receivers .now) (a .start) (a .next) in
     let e = failed-sound parts (c .before .before .parts-sound .result) (c .before .before .parts-sound .ensures) (c .before .if1 .taken) in
-    refused-ack crane (a .v) (a .dsn) (a .config) s 1 (c .refuse-ack .result) (λ z. omega arith) (ack-unsound crane (a .v) (a .dsn) (a .config) s (sym (ack-sound-parts s) ∙ e)) (c .refuse-ack .ensures)
+    refused-ack crane (a .v) (a .dsn) (a .config) s 1 (c .refuse-ack .result) (λ z. omega arith)
+    (ack-unsound crane (a .v) (a .dsn) (a .config) s (sym (ack-sound-parts s) ∙ e)) (c .refuse-ack .ensures)
 
 ack-count-requires : tie.Need-ack-count-requires
 ack-count-requires c κs =
@@ -46,18 +47,24 @@ returns-2 c =
     let a = c .before .before .before .before .before .before .args in
     let parts = stateOf (a .p) (a .capacity) (a .d) (a .due) (a .count) (a .lengths .now) [] (a .receivers .now) (a .start) 0 in
     let s = stateOf (a .p) (a .capacity) (a .d) (a .due) (a .count) (a .lengths .now) [] (a .receivers .now) (a .start) (a .next) in
-    let e = passed-sound parts (c .before .before .before .before .before .parts-sound .result) (c .before .before .before .before .before .parts-sound .ensures) (c .before .before .before .before .if1 .left) in
+    let e =
+    passed-sound parts (c .before .before .before .before .before .parts-sound .result)
+    (c .before .before .before .before .before .parts-sound .ensures) (c .before .before .before .before .if1 .left) in
     let q = rw (c .before .before .before .ack-count .ensures) at (c .before .before .ack-answer .ensures) in
     refused-ack crane (a .v) (a .dsn) (a .config) s (c .before .before .ack-answer .result) (c .refuse-ack2 .result) (c .before .if2 .taken)
-    (answered-ack crane (a .v) (a .dsn) (a .config) s (c .before .before .ack-answer .result) (sym (ack-sound-parts s) ∙ e) q) (c .refuse-ack2 .ensures)
+    (answered-ack crane (a .v) (a .dsn) (a .config) s (c .before .before .ack-answer .result) (sym (ack-sound-parts s) ∙ e) q)
+    (c .refuse-ack2 .ensures)
 
 accept-ack-requires : tie.Need-accept-ack-requires
 accept-ack-requires c κs =
     let a = c .before .before .before .before .before .args in
     let s = stateOf (a .p) (a .capacity) (a .d) (a .due) (a .count) (a .lengths .now) [] (a .receivers .now) (a .start) 0 in
-    let f = sound-facts s (passed-sound s (c .before .before .before .before .parts-sound .result) (c .before .before .before .before .parts-sound .ensures) (c .before .before .before .if1 .left)) in
+    let f =
+    sound-facts s (passed-sound s (c .before .before .before .before .parts-sound .result)
+    (c .before .before .before .before .parts-sound .ensures) (c .before .before .before .if1 .left)) in
     let n = c .before .before .ack-count .result in
-    let g = ack-reached (a .p) (a .d) (a .v) (a .config) n (c .before .ack-answer .result) (c .before .ack-answer .ensures) (c .if2 .left) in
+    let g =
+    ack-reached (a .p) (a .d) (a .v) (a .config) n (c .before .ack-answer .result) (c .before .ack-answer .ensures) (c .if2 .left) in
     (g, f .numbers .inside)
 
 returns-3 : tie.Need-returns-3
@@ -65,9 +72,13 @@ returns-3 c =
     let a = c .before .before .before .before .before .before .args in
     let parts = stateOf (a .p) (a .capacity) (a .d) (a .due) (a .count) (a .lengths .now) [] (a .receivers .now) (a .start) 0 in
     let s = stateOf (a .p) (a .capacity) (a .d) (a .due) (a .count) (a .lengths .now) [] (a .receivers .now) (a .start) (a .next) in
-    let e = sym (ack-sound-parts s) ∙ passed-sound parts (c .before .before .before .before .before .parts-sound .result) (c .before .before .before .before .before .parts-sound .ensures) (c .before .before .before .before .if1 .left) in
+    let e =
+    sym (ack-sound-parts s)
+    ∙ passed-sound parts (c .before .before .before .before .before .parts-sound .result)
+    (c .before .before .before .before .before .parts-sound .ensures) (c .before .before .before .before .if1 .left) in
     let q = rw (c .before .before .before .ack-count .ensures) at (c .before .before .ack-answer .ensures) in
-    accepted-ack crane (a .v) (a .dsn) (a .config) s (c .accept-ack .result) e (answered-ack crane (a .v) (a .dsn) (a .config) s (c .before .before .ack-answer .result) e q ∙ c .before .if2 .left)
+    accepted-ack crane (a .v) (a .dsn) (a .config) s (c .accept-ack .result) e
+    (answered-ack crane (a .v) (a .dsn) (a .config) s (c .before .before .ack-answer .result) e q ∙ c .before .if2 .left)
     (rw (c .before .before .before .ack-count .ensures) at (c .accept-ack .ensures))
 
 pub ack-change-spec : {M : Type 1} → statement M

@@ -24,7 +24,8 @@ returns c =
     let a = c .before .before .before .args in
     c .wrapping-add-u32 .ensures
     ∙ named 4294967296 (a .next) (a .count) (a .dsn) (c .before .before .wrapping-sub-u32 .result) (c .before .wrapping-sub-u322 .result)
-    (c .before .before .wrapping-sub-u32 .ok) (c .before .wrapping-sub-u322 .ok) (omega arith) (c .before .before .wrapping-sub-u32 .ensures) (c .before .wrapping-sub-u322 .ensures)
+    (c .before .before .wrapping-sub-u32 .ok) (c .before .wrapping-sub-u322 .ok) (omega arith)
+    (c .before .before .wrapping-sub-u32 .ensures) (c .before .wrapping-sub-u322 .ensures)
 
 pub ack-count-spec : {M : Type 1} → statement M
 ack-count-spec =

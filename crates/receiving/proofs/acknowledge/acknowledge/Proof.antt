@@ -10,7 +10,8 @@ ack-change-requires : tie.Need-ack-change-requires
 ack-change-requires c κs = search needs
 
 queue-after-requires : tie.Need-queue-after-requires
-queue-after-requires c κs = rw (c .ack-change .ensures) (released-few crane _ _ _ (c .before .before .before .before .before .before .before .args .s))
+queue-after-requires c κs =
+    rw (c .ack-change .ensures) (released-few crane _ _ _ (c .before .before .before .before .before .before .before .args .s))
 
 returns : tie.Need-returns
 returns c =

@@ -17,7 +17,11 @@ refuse-message-requires : tie.Need-refuse-message-requires
 refuse-message-requires c κs = search needs
 
 returns : tie.Need-returns
-returns c = λ v. rw (c .refuse-message .ensures) (request-session _ v _ _ (sym (c .before .before .before .before .before .before .before .read-header .ensures .same) ∙ c .before .before .before .before .before .header .given .1) (c .before .if1 .taken))
+returns c =
+    λ v. rw (c .refuse-message .ensures)
+    (request-session _ v _ _
+    (sym (c .before .before .before .before .before .before .before .read-header .ensures .same)
+    ∙ c .before .before .before .before .before .header .given .1) (c .before .if1 .taken))
 
 is-received-requires : tie.Need-is-received-requires
 is-received-requires c κs = search needs
@@ -28,7 +32,10 @@ refuse-message-requires-2 c κs = search needs
 returns-2 : tie.Need-returns-2
 returns-2 c = λ v.
     rw (c .refuse-message2 .ensures)
-    (request-number _ v _ _ (sym (c .before .before .before .before .before .before .before .before .before .read-header .ensures .same) ∙ c .before .before .before .before .before .before .before .header .given .1) (c .before .before .before .if1 .left) (sym (c .before .before .is-received .ensures) ∙ not-true _ (c .before .if2 .taken)))
+    (request-number _ v _ _
+    (sym (c .before .before .before .before .before .before .before .before .before .read-header .ensures .same)
+    ∙ c .before .before .before .before .before .before .before .header .given .1) (c .before .before .before .if1 .left)
+    (sym (c .before .before .is-received .ensures) ∙ not-true _ (c .before .if2 .taken)))
 
 decode-body-requires : tie.Need-decode-body-requires
 decode-body-requires c κs = search needs
@@ -42,10 +49,14 @@ refuse-message-requires-3 c κs = search needs
 returns-3 : tie.Need-returns-3
 returns-3 c = λ v.
     c .decode-body .ensures v
-    ∙ request-body _ v _ _ (sym (c .before .before .before .before .before .before .before .before .before .read-header .ensures .same) ∙ c .before .before .before .before .before .before .before .header .given .1) (c .before .before .before .if1 .left) (sym (c .before .before .is-received .ensures) ∙ not-false _ (c .before .if2 .left))
+    ∙ request-body _ v _ _ (sym (c .before .before .before .before .before .before .before .before .before .read-header .ensures .same)
+    ∙ c .before .before .before .before .before .before .before .header .given .1) (c .before .before .before .if1 .left)
+    (sym (c .before .before .is-received .ensures) ∙ not-false _ (c .before .if2 .left))
 
 returns-4 : tie.Need-returns-4
-returns-4 c = λ v. rw (c .refuse-message3 .ensures) (request-refused _ v _ _ (sym (c .before .before .before .before .read-header .ensures .same) ∙ c .before .before .header2 .given .1))
+returns-4 c =
+    λ v. rw (c .refuse-message3 .ensures)
+    (request-refused _ v _ _ (sym (c .before .before .before .before .read-header .ensures .same) ∙ c .before .before .header2 .given .1))
 
 pub decode-spec : {M : Type 1} → statement M
 decode-spec =

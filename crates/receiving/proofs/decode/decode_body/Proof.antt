@@ -20,10 +20,16 @@ refuse-message-requires : tie.Need-refuse-message-requires
 refuse-message-requires c κs = search needs
 
 returns : tie.Need-returns
-returns c = λ v. rw (sym (c .before .before .before .before .read-message .ensures .same) ∙ c .before .before .reading .given .1) (c .decode-message .ensures v)
+returns c =
+    λ v. rw (sym (c .before .before .before .before .read-message .ensures .same) ∙ c .before .before .reading .given .1)
+    (c .decode-message .ensures v)
 
 returns-2 : tie.Need-returns-2
-returns-2 c = λ v. rw (sym (c .before .before .before .before .read-message .ensures .same) ∙ c .before .before .reading2 .given .1, c .refuse-message .ensures)
+returns-2 c =
+    λ v. rw (
+      sym (c .before .before .before .before .read-message .ensures .same) ∙ c .before .before .reading2 .given .1,
+      c .refuse-message .ensures,
+    )
 
 pub decode-body-spec : {M : Type 1} → statement M
 decode-body-spec =

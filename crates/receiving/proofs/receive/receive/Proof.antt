@@ -29,7 +29,8 @@ move-server-requires c κs = search needs
 returns : tie.Need-returns
 returns c =
     let v = c .before .before .before .before .before .before .before .before .args .v in
-    rw (sym (c .before .before .before .before .decode .ensures v) ∙ ap (callOfRequest v) (c .before .before .request .given .1)) (ack-wrote crane _ _ _ _ _ _ _ (c .acknowledge .ensures))
+    rw (sym (c .before .before .before .before .decode .ensures v) ∙ ap (callOfRequest v) (c .before .before .request .given .1))
+    (ack-wrote crane _ _ _ _ _ _ _ (c .acknowledge .ensures))
 
 same-length : tie.Need-same-length
 same-length c = search needs
@@ -37,7 +38,9 @@ same-length c = search needs
 returns-2 : tie.Need-returns-2
 returns-2 c =
     let v = c .before .before .before .before .before .before .before .before .before .before .before .before .before .args .v in
-    rw (sym (c .before .before .before .before .before .before .before .before .before .decode .ensures v) ∙ ap (callOfRequest v) (c .before .before .before .before .before .before .before .request2 .given .1)) (c .before .before .before .move-server .ensures)
+    rw (sym (c .before .before .before .before .before .before .before .before .before .decode .ensures v)
+    ∙ ap (callOfRequest v) (c .before .before .before .before .before .before .before .request2 .given .1))
+    (c .before .before .before .move-server .ensures)
 
 pub receive-spec : {M : Type 1} → statement M
 receive-spec =

@@ -34,7 +34,13 @@ returns-2 c =
     let d = c .before .before .before in
     let a = d .before .before .before .args in
     let n : c .before .before .u32-in .result ≡ uintIn (a .order) (a .r .now) (a .at) 4 = c .before .before .u32-in .ensures in
-    rw (← d .before .saturating-sub .ensures, le-ltb _ _ (d .if1 .left), ← c .before .saturating-sub2 .ensures, ← n, lt-ltb _ _ (c .if2 .taken))
+    rw (
+      ← d .before .saturating-sub .ensures,
+      le-ltb _ _ (d .if1 .left),
+      ← c .before .saturating-sub2 .ensures,
+      ← n,
+      lt-ltb _ _ (c .if2 .taken),
+    )
 
 add-result : tie.Need-add-result
 add-result c = search needs
@@ -45,7 +51,13 @@ returns-3 c =
     let d = c .before .before .before in
     let a = d .before .before .before .args in
     let n : c .before .before .u32-in .result ≡ uintIn (a .order) (a .r .now) (a .at) 4 = c .before .before .u32-in .ensures in
-    rw (← d .before .saturating-sub .ensures, le-ltb _ _ (d .if1 .left), ← c .before .saturating-sub2 .ensures, ← n, le-ltb _ _ (c .if2 .left))
+    rw (
+      ← d .before .saturating-sub .ensures,
+      le-ltb _ _ (d .if1 .left),
+      ← c .before .saturating-sub2 .ensures,
+      ← n,
+      le-ltb _ _ (c .if2 .left),
+    )
 
 pub blob-length-spec : {M : Type 1} → statement M
 blob-length-spec =

@@ -37,7 +37,9 @@ returns c =
     let t = a .t .now in
     let r = a .r .now in
     let n = c .before .before .length-under .ensures ∙ ap (lengthUnder t (a .m) r (l .k)) (l .inv .1 .1 .0) in
-    rw (every-false (a .m .count) (fieldValid t (a .m) r) (l .k) (search needs) (invalid-field (isEnabled t (keyAt (a .m .keys) (l .k))) (lengthUnder t (a .m) r (l .k) (fieldAt t (a .m) r (l .k))) (rw (c .before .is-enabled .ensures, n) at (c .if1 .taken))))
+    rw (every-false (a .m .count) (fieldValid t (a .m) r) (l .k) (search needs)
+    (invalid-field (isEnabled t (keyAt (a .m .keys) (l .k))) (lengthUnder t (a .m) r (l .k) (fieldAt t (a .m) r (l .k)))
+    (rw (c .before .is-enabled .ensures, n) at (c .if1 .taken))))
 
 add-at : tie.Need-add-at Inv-loop μ-loop
 add-at c =
@@ -63,7 +65,9 @@ loop-again c =
         omega (arith, under-within t (a .m) r (l .k) (l .at)),
         (
           rw (n, l .inv .1 .1 .0) (sym (field-at-more t (a .m) r (l .k))),
-          every-step (l .k) (fieldValid t (a .m) r) (l .inv .1 .1 .1) (valid-field (isEnabled t (keyAt (a .m .keys) (l .k))) (lengthUnder t (a .m) r (l .k) (fieldAt t (a .m) r (l .k))) (rw (c .before .is-enabled .ensures, n) at (c .if1 .left))),
+          every-step (l .k) (fieldValid t (a .m) r) (l .inv .1 .1 .1)
+              (valid-field (isEnabled t (keyAt (a .m .keys) (l .k))) (lengthUnder t (a .m) r (l .k) (fieldAt t (a .m) r (l .k)))
+              (rw (c .before .is-enabled .ensures, n) at (c .if1 .left))),
         ),
       ),
     )

@@ -28,13 +28,25 @@ returns-3 : tie.Need-returns-3
 unfolding fixedLength
 returns-3 c =
     let s = c .before .before .before .before .before .before in
-    rw (← s .pre .0, ← c .before .before .before .before .saturating-sub .ensures, le-ltb _ _ (c .before .before .before .if1 .left), eq-eqb _ _ (c .before .before .if2 .left), lt-ltb _ _ (c .if3 .taken))
+    rw (
+      ← s .pre .0,
+      ← c .before .before .before .before .saturating-sub .ensures,
+      le-ltb _ _ (c .before .before .before .if1 .left),
+      eq-eqb _ _ (c .before .before .if2 .left),
+      lt-ltb _ _ (c .if3 .taken),
+    )
 
 returns-4 : tie.Need-returns-4
 unfolding fixedLength
 returns-4 c =
     let s = c .before .before .before .before .before .before in
-    rw (← s .pre .0, ← c .before .before .before .before .saturating-sub .ensures, le-ltb _ _ (c .before .before .before .if1 .left), eq-eqb _ _ (c .before .before .if2 .left), le-ltb _ _ (c .if3 .left))
+    rw (
+      ← s .pre .0,
+      ← c .before .before .before .before .saturating-sub .ensures,
+      le-ltb _ _ (c .before .before .before .if1 .left),
+      eq-eqb _ _ (c .before .before .if2 .left),
+      le-ltb _ _ (c .if3 .left),
+    )
 
 pub fixed-length-spec : {M : Type 1} → statement M
 fixed-length-spec =

@@ -26,7 +26,9 @@ returns : tie.Need-returns
 unfolding recordAnswer
 returns c =
     let a = c .before .before .before .before .before .before .before .before .args in
-    let f = found (a .t .now) (a .id) _ (sym (c .before .before .before .before .before .find-template .ensures .same) ∙ c .before .before .before .m .given .1) in
+    let f =
+    found (a .t .now) (a .id) _
+    (sym (c .before .before .before .before .before .find-template .ensures .same) ∙ c .before .before .before .m .given .1) in
     rw (f .0, f .1 .0, f .1 .1, sym (c .before .fields-valid .ensures) ∙ c .if1 .taken)
 
 enum-known-answer : tie.Need-enum-known-answer
@@ -36,7 +38,9 @@ returns-2 : tie.Need-returns-2
 unfolding recordAnswer
 returns-2 c =
     let a = c .before .before .before .before .before .before .before .before .args in
-    let f = found (a .t .now) (a .id) _ (sym (c .before .before .before .before .before .find-template .ensures .same) ∙ c .before .before .before .m .given .1) in
+    let f =
+    found (a .t .now) (a .id) _
+    (sym (c .before .before .before .before .before .find-template .ensures .same) ∙ c .before .before .before .m .given .1) in
     rw (f .0, f .1 .0, f .1 .1, sym (c .before .fields-valid .ensures) ∙ c .if1 .left)
 
 returns-3 : tie.Need-returns-3

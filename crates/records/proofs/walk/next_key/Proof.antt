@@ -27,7 +27,8 @@ returns : tie.Need-returns Inv-loop μ-loop
 returns c =
     let l = c .before .before .before .loop in
     let a = c .before .before .before .before .before .args in
-    sym (first-here (l .k) (a .m .count - l .k) (λ j. isEnabled (a .t .now) (keyAt (a .m .keys) j)) (omega arith) (sym (c .before .is-enabled .ensures) ∙ c .if1 .taken)) ∙ l .inv
+    sym (first-here (l .k) (a .m .count - l .k) (λ j. isEnabled (a .t .now) (keyAt (a .m .keys) j)) (omega arith)
+    (sym (c .before .is-enabled .ensures) ∙ c .if1 .taken)) ∙ l .inv
 
 add-k : tie.Need-add-k Inv-loop μ-loop
 add-k c = search needs
@@ -40,7 +41,8 @@ loop-again c =
     let l = c .before .before .before .loop in
     let a = c .before .before .before .before .before .args in
     let k : a .m .count - (l .k + 1) ≡ a .m .count - l .k - 1 = omega arith in
-    rw k (sym (first-on (l .k) (a .m .count - l .k) (λ j. isEnabled (a .t .now) (keyAt (a .m .keys) j)) (omega arith) (sym (c .before .is-enabled .ensures) ∙ c .if1 .left)) ∙ l .inv)
+    rw k (sym (first-on (l .k) (a .m .count - l .k) (λ j. isEnabled (a .t .now) (keyAt (a .m .keys) j)) (omega arith)
+    (sym (c .before .is-enabled .ensures) ∙ c .if1 .left)) ∙ l .inv)
 
 returns-2 : tie.Need-returns-2 Inv-loop μ-loop
 returns-2 c =

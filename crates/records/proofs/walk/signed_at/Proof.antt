@@ -23,15 +23,20 @@ unfolding signedAt
 returns c =
     let a = c .before .before .before .before .args in
     let g = greatest-of (a .w) (omega arith) (c .before .greatest .ensures) in
-    let u = uint-u64 (a .order) (a .r .now) (λ i. (c .before .before .before .shared-slice-known .given i) .fits) (a .at) (a .w) (omega arith) in
-    let n : c .before .before .get-uint .result ≡ uintIn (a .order) (a .r .now) (a .at) (a .w) = c .before .before .get-uint .ensures ∙ u .1 in
+    let u =
+    uint-u64 (a .order) (a .r .now) (λ i. (c .before .before .before .shared-slice-known .given i) .fits) (a .at) (a .w)
+    (omega arith) in
+    let n : c .before .before .get-uint .result ≡ uintIn (a .order) (a .r .now) (a .at) (a .w) =
+    c .before .before .get-uint .ensures ∙ u .1 in
     rw (lt-ltb (2 * uintIn (a .order) (a .r .now) (a .at) (a .w)) (256 ^ a .w) (omega (arith, u .0, g))) (ap Number n)
 
 sub-t7 : tie.Need-sub-t7
 sub-t7 c =
     let a = c .before .before .before .before .args in
     let g = greatest-of (a .w) (omega arith) (c .before .greatest .ensures) in
-    let u = uint-u64 (a .order) (a .r .now) (λ i. (c .before .before .before .shared-slice-known .given i) .fits) (a .at) (a .w) (omega arith) in
+    let u =
+    uint-u64 (a .order) (a .r .now) (λ i. (c .before .before .before .shared-slice-known .given i) .fits) (a .at) (a .w)
+    (omega arith) in
     omega (arith, u .0, u .1, g, c .before .before .get-uint .ensures)
 
 add-t9 : tie.Need-add-t9
@@ -42,8 +47,11 @@ unfolding signedAt
 returns-2 c =
     let a = c .before .before .before .before .args in
     let g = greatest-of (a .w) (omega arith) (c .before .greatest .ensures) in
-    let u = uint-u64 (a .order) (a .r .now) (λ i. (c .before .before .before .shared-slice-known .given i) .fits) (a .at) (a .w) (omega arith) in
-    let n : c .before .before .get-uint .result ≡ uintIn (a .order) (a .r .now) (a .at) (a .w) = c .before .before .get-uint .ensures ∙ u .1 in
+    let u =
+    uint-u64 (a .order) (a .r .now) (λ i. (c .before .before .before .shared-slice-known .given i) .fits) (a .at) (a .w)
+    (omega arith) in
+    let n : c .before .before .get-uint .result ≡ uintIn (a .order) (a .r .now) (a .at) (a .w) =
+    c .before .before .get-uint .ensures ∙ u .1 in
     rw (le-ltb (2 * uintIn (a .order) (a .r .now) (a .at) (a .w)) (256 ^ a .w) (omega (arith, u .0, g)))
     (ap Negative (omega (arith, u .0, g)))
 

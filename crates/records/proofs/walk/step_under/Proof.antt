@@ -63,7 +63,11 @@ add-t12 c = search needs
 add-t13 : tie.Need-add-t13
 add-t13 c =
     let a = c .before .before .before .before .before .before .before .before .before .before .before .before .args in
-    omega (arith, field-within (c .before .before .before .order-of .result) (c .before .before .before .before .before .u16-at .result) (a .r .now) (a .c .at))
+    omega (
+      arith,
+      field-within (c .before .before .before .order-of .result) (c .before .before .before .before .before .u16-at .result)
+          (a .r .now) (a .c .at),
+    )
 
 returns-3 : tie.Need-returns-3
 unfolding stepUnder

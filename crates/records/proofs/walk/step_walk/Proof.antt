@@ -27,7 +27,9 @@ returns : tie.Need-returns
 unfolding stepOf
 returns c =
     let a = c .before .before .before .before .before .before .before .args in
-    let f = found (a .t .now) (a .id) _ (sym (c .before .before .before .before .find-template .ensures .same) ∙ c .before .before .m .given .1) in
+    let f =
+    found (a .t .now) (a .id) _
+    (sym (c .before .before .before .before .find-template .ensures .same) ∙ c .before .before .m .given .1) in
     stepped (a .t .now) (a .id) (a .r .now) (a .c) _ (λ i. (c .before .before .before .before .before .shared-slice-known2 .given i) .fits)
     (rw (f .0, f .1 .0, f .1 .1, c .step-under .ensures))
 
@@ -36,7 +38,8 @@ unfolding stepOf
 returns-2 c =
     let a = c .before .before .before .before .before .before .args in
     let n = not-found (a .t .now) (a .id) _ (sym (c .before .before .before .find-template .ensures .same) ∙ c .before .answer .given .1) in
-    stepped (a .t .now) (a .id) (a .r .now) (a .c) _ (λ i. (c .before .before .before .before .shared-slice-known2 .given i) .fits) (rw (n .1 [], n .0))
+    stepped (a .t .now) (a .id) (a .r .now) (a .c) _ (λ i. (c .before .before .before .before .shared-slice-known2 .given i) .fits)
+    (rw (n .1 [], n .0))
 
 pub step-walk-spec : {M : Type 1} → statement M
 step-walk-spec =

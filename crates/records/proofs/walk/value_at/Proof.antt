@@ -46,7 +46,8 @@ returns-2 : tie.Need-returns-2
 unfolding valueAt
 returns-2 c =
     let o = c .before .before .before in
-    rw (← (c .before .before .is-signed .ensures), c .before .if2 .taken, ← (o .before .width .ensures), ← (o .field-order .ensures)) (c .signed-at .ensures)
+    rw (← (c .before .before .is-signed .ensures), c .before .if2 .taken, ← (o .before .width .ensures), ← (o .field-order .ensures))
+    (c .signed-at .ensures)
 
 get-uint-requires : tie.Need-get-uint-requires
 get-uint-requires c κs = search needs
@@ -61,7 +62,9 @@ returns-3 c =
     let n : isNumber (a .kind) ≡ true = sym (b .before .before .is-number .ensures) ∙ not-false _ (b .before .if1 .left) in
     let s : isSigned (a .kind) ≡ false = sym (c .before .before .is-signed .ensures) ∙ c .before .if2 .left in
     let l : w .result ≤ 8 = omega (arith, number-width (a .kind) n, w .ensures) in
-    let u = uint-u64 (o .field-order .result) (a .r .now) (λ i. (b .before .before .before .shared-slice-known .given i) .fits) (a .at) (w .result) l in
+    let u =
+    uint-u64 (o .field-order .result) (a .r .now) (λ i. (b .before .before .before .shared-slice-known .given i) .fits) (a .at)
+    (w .result) l in
     rw (s, n, ← (w .ensures), ← (o .field-order .ensures), c .get-uint .ensures, u .1)
 
 pub value-at-spec : {M : Type 1} → statement M

@@ -18,13 +18,16 @@ refuse-sending-requires c κs = search needs
 returns : tie.Need-returns
 returns c =
     let a = c .before .before .before .before .before .before .args in
-    sending-kept (stateOf (a .p) (a .capacity) (a .d) (a .due) (a .count) (a .lengths .now) (a .templates .now) (a .receivers .now) (a .start) (a .next)) (a .store .now) (a .out .now)
-    (c .before .before .before .send-answer .result) (c .refuse-sending .result) (c .before .before .if1 .taken) (c .before .before .before .send-answer .ensures) (c .refuse-sending .ensures)
+    sending-kept (stateOf (a .p) (a .capacity) (a .d) (a .due) (a .count) (a .lengths .now) (a .templates .now) (a .receivers .now)
+    (a .start) (a .next)) (a .store .now) (a .out .now)
+    (c .before .before .before .send-answer .result) (c .refuse-sending .result) (c .before .before .if1 .taken)
+    (c .before .before .before .send-answer .ensures) (c .refuse-sending .ensures)
 
 send-requires : tie.Need-send-requires
 send-requires c κs =
     let a = c .before .before .before .before .before .args in
-    send-facts (stateOf (a .p) (a .capacity) (a .d) (a .due) (a .count) (a .lengths .now) (a .templates .now) (a .receivers .now) (a .start) (a .next)) (a .store .now)
+    send-facts (stateOf (a .p) (a .capacity) (a .d) (a .due) (a .count) (a .lengths .now) (a .templates .now) (a .receivers .now) (a .start)
+    (a .next)) (a .store .now)
     (c .before .before .send-answer .result) (c .before .before .send-answer .ensures) (c .before .if1 .left)
 
 same-length : tie.Need-same-length

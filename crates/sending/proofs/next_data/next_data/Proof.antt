@@ -12,19 +12,29 @@ next-change-requires c κs = search needs
 mul-receivers : tie.Need-mul-receivers
 mul-receivers c =
     let a = c .before .before .before .before .before .before .before .before .before .before .before .before .before .before .args in
-    omega (arith, sending-inside (a .s) (a .store .now) (a .out .now) (c .before .before .next-change .result) (c .before .before .next-change .ensures .0))
+    omega (
+      arith,
+      sending-inside (a .s) (a .store .now) (a .out .now) (c .before .before .next-change .result)
+          (c .before .before .next-change .ensures .0),
+    )
 
 array-write-receivers : tie.Need-array-write-receivers
 array-write-receivers c =
     let a = c .before .before .before .before .before .before .before .before .before .before .before .before .before .before .args in
-    omega (arith, sending-inside (a .s) (a .store .now) (a .out .now) (c .before .before .next-change .result) (c .before .before .next-change .ensures .0))
+    omega (
+      arith,
+      sending-inside (a .s) (a .store .now) (a .out .now) (c .before .before .next-change .result)
+          (c .before .before .next-change .ensures .0),
+    )
 
 same-length : tie.Need-same-length
 same-length c = search needs
 
 returns : tie.Need-returns
 returns c =
-    let a = c .before .before .before .before .before .before .before .before .before .before .before .before .before .before .before .before .args in
+    let a =
+    c .before .before .before .before .before .before .before .before .before .before .before .before .before .before .before .before
+    .args in
     let x = c .before .before .before .before .next-change in
     (sent-applied (a .s) (a .store .now) (a .out .now) (x .result) (x .ensures .0), x .ensures .1)
 

@@ -22,14 +22,18 @@ mul-wide : tie.Need-mul-wide
 mul-wide c =
     let z = c .before .before .before in
     let a = z .args in
-    let s = stateOf (a .p) (a .capacity) (a .d) (a .due) (a .count) (a .lengths .now) (a .templates .now) (a .receivers .now) (a .start) (a .next) in
+    let s =
+    stateOf (a .p) (a .capacity) (a .d) (a .due) (a .count) (a .lengths .now) (a .templates .now) (a .receivers .now) (a .start)
+    (a .next) in
     omega (arith, sent-few s (a .store .now) (z .pre))
 
 element-copy-out-wide : tie.Need-element-copy-out-wide
 element-copy-out-wide c =
     let z = c .before .before .before in
     let a = z .args in
-    let s = stateOf (a .p) (a .capacity) (a .d) (a .due) (a .count) (a .lengths .now) (a .templates .now) (a .receivers .now) (a .start) (a .next) in
+    let s =
+    stateOf (a .p) (a .capacity) (a .d) (a .due) (a .count) (a .lengths .now) (a .templates .now) (a .receivers .now) (a .start)
+    (a .next) in
     sent-few s (a .store .now) (z .pre)
 
 wide-requires : tie.Need-wide-requires
@@ -39,7 +43,9 @@ next-head-requires : tie.Need-next-head-requires
 next-head-requires c κs =
     let z = c .before .before .before .before .before in
     let a = z .args in
-    let s = stateOf (a .p) (a .capacity) (a .d) (a .due) (a .count) (a .lengths .now) (a .templates .now) (a .receivers .now) (a .start) (a .next) in
+    let s =
+    stateOf (a .p) (a .capacity) (a .d) (a .due) (a .count) (a .lengths .now) (a .templates .now) (a .receivers .now) (a .start)
+    (a .next) in
     let f = sound-facts s (z .pre .isSound) in
     (f .numbers .few, sent-few s (a .store .now) (z .pre))
 
@@ -47,7 +53,9 @@ write-record-requires : tie.Need-write-record-requires
 write-record-requires c κs =
     let z = c .before .before .before .before .before .before .before in
     let a = z .args in
-    let s = stateOf (a .p) (a .capacity) (a .d) (a .due) (a .count) (a .lengths .now) (a .templates .now) (a .receivers .now) (a .start) (a .next) in
+    let s =
+    stateOf (a .p) (a .capacity) (a .d) (a .due) (a .count) (a .lengths .now) (a .templates .now) (a .receivers .now) (a .start)
+    (a .next) in
     let f = sound-facts s (z .pre .isSound) in
     let short = f .short (a .d .sent) (z .pre .more) in
     let len = c .before .before .wide .ensures in
@@ -64,21 +72,27 @@ mul-accept-sending : tie.Need-mul-accept-sending
 mul-accept-sending c =
     let z = c .before .before .before .before .before .before .before .before .before .before .before .before .before in
     let a = z .args in
-    let s = stateOf (a .p) (a .capacity) (a .d) (a .due) (a .count) (a .lengths .now) (a .templates .now) (a .receivers .now) (a .start) (a .next) in
+    let s =
+    stateOf (a .p) (a .capacity) (a .d) (a .due) (a .count) (a .lengths .now) (a .templates .now) (a .receivers .now) (a .start)
+    (a .next) in
     omega (arith, sent-few s (a .store .now) (z .pre))
 
 element-copy-out-accept-sending : tie.Need-element-copy-out-accept-sending
 element-copy-out-accept-sending c =
     let z = c .before .before .before .before .before .before .before .before .before .before .before .before .before in
     let a = z .args in
-    let s = stateOf (a .p) (a .capacity) (a .d) (a .due) (a .count) (a .lengths .now) (a .templates .now) (a .receivers .now) (a .start) (a .next) in
+    let s =
+    stateOf (a .p) (a .capacity) (a .d) (a .due) (a .count) (a .lengths .now) (a .templates .now) (a .receivers .now) (a .start)
+    (a .next) in
     sent-few s (a .store .now) (z .pre)
 
 accept-sending-requires : tie.Need-accept-sending-requires
 accept-sending-requires c κs =
     let z = c .before .before .before .before .before .before .before .before .before .before .before .before .before .before in
     let a = z .args in
-    let s = stateOf (a .p) (a .capacity) (a .d) (a .due) (a .count) (a .lengths .now) (a .templates .now) (a .receivers .now) (a .start) (a .next) in
+    let s =
+    stateOf (a .p) (a .capacity) (a .d) (a .due) (a .count) (a .lengths .now) (a .templates .now) (a .receivers .now) (a .start)
+    (a .next) in
     (sent-few s (a .store .now) (z .pre), active-below s (z .pre .isSound))
 
 enum-known-written-2 : tie.Need-enum-known-written-2
@@ -97,12 +111,19 @@ returns : tie.Need-returns
 returns c =
     let z = c .before .before .before .before .before .before .before .before .before .before .before .before .before .before .before in
     let a = z .args in
-    let s = stateOf (a .p) (a .capacity) (a .d) (a .due) (a .count) (a .lengths .now) (a .templates .now) (a .receivers .now) (a .start) (a .next) in
+    let s =
+    stateOf (a .p) (a .capacity) (a .d) (a .due) (a .count) (a .lengths .now) (a .templates .now) (a .receivers .now) (a .start)
+    (a .next) in
     let h = c .before .before .before .before .before .before .before .before .before .next-head in
     let at = c .before .before .before .before .before .before .before .before .before .before .before .before .record-start in
     let w = c .before .before .before .before .before .before .before .write-record in
-    let o = next-octets s (a .store .now) (h .result) (length (a .store .now)) (at .result) (h .ensures) (z .pre .stored) (at .ensures) (sound-facts s (z .pre .isSound) .numbers .inside) in
-    sending-done s (a .store .now) (a .out .now) _ _ (w .result) _ (c .accept-sending .result) (z .pre) o (c .before .before .before .written .given .1) (rw (c .before .before .before .before .before .before .before .before .before .before .wide .ensures) at (w .ensures)) (c .accept-sending .ensures)
+    let o =
+    next-octets s (a .store .now) (h .result) (length (a .store .now)) (at .result) (h .ensures) (z .pre .stored) (at .ensures)
+    (sound-facts s (z .pre .isSound) .numbers .inside) in
+    sending-done s (a .store .now) (a .out .now) _ _ (w .result) _ (c .accept-sending .result) (z .pre) o
+    (c .before .before .before .written .given .1)
+    (rw (c .before .before .before .before .before .before .before .before .before .before .wide .ensures) at (w .ensures))
+    (c .accept-sending .ensures)
 
 same-length-2 : tie.Need-same-length-2
 same-length-2 c = search needs
@@ -111,12 +132,19 @@ returns-2 : tie.Need-returns-2
 returns-2 c =
     let z = c .before .before .before .before .before .before .before .before .before .before .before .before .before .before .before in
     let a = z .args in
-    let s = stateOf (a .p) (a .capacity) (a .d) (a .due) (a .count) (a .lengths .now) (a .templates .now) (a .receivers .now) (a .start) (a .next) in
+    let s =
+    stateOf (a .p) (a .capacity) (a .d) (a .due) (a .count) (a .lengths .now) (a .templates .now) (a .receivers .now) (a .start)
+    (a .next) in
     let h = c .before .before .before .before .before .before .before .before .before .next-head in
     let at = c .before .before .before .before .before .before .before .before .before .before .before .before .record-start in
     let w = c .before .before .before .before .before .before .before .write-record in
-    let o = next-octets s (a .store .now) (h .result) (length (a .store .now)) (at .result) (h .ensures) (z .pre .stored) (at .ensures) (sound-facts s (z .pre .isSound) .numbers .inside) in
-    sending-refused s (a .store .now) (a .out .now) _ _ (w .result) _ (c .refuse-sending .result) (z .pre) o (c .before .before .before .written2 .given .1) (rw (c .before .before .before .before .before .before .before .before .before .before .wide .ensures) at (w .ensures)) (c .refuse-sending .ensures)
+    let o =
+    next-octets s (a .store .now) (h .result) (length (a .store .now)) (at .result) (h .ensures) (z .pre .stored) (at .ensures)
+    (sound-facts s (z .pre .isSound) .numbers .inside) in
+    sending-refused s (a .store .now) (a .out .now) _ _ (w .result) _ (c .refuse-sending .result) (z .pre) o
+    (c .before .before .before .written2 .given .1)
+    (rw (c .before .before .before .before .before .before .before .before .before .before .wide .ensures) at (w .ensures))
+    (c .refuse-sending .ensures)
 
 pub send-spec : {M : Type 1} → statement M
 send-spec =

@@ -19,13 +19,32 @@ is-nobody-requires : tie.Need-is-nobody-requires
 is-nobody-requires c κs = search needs
 
 returns-3 : tie.Need-returns-3
-returns-3 c = rw (sym (c .before .before .before .before .parts-sound .ensures) ∙ not-false _ (c .before .before .before .if1 .left), eq-eqb _ _ (c .before .before .if2 .left), sym (c .before .is-nobody .ensures) ∙ c .if3 .taken)
+returns-3 c =
+    rw (
+      sym (c .before .before .before .before .parts-sound .ensures) ∙ not-false _ (c .before .before .before .if1 .left),
+      eq-eqb _ _ (c .before .before .if2 .left),
+      sym (c .before .is-nobody .ensures) ∙ c .if3 .taken,
+    )
 
 returns-4 : tie.Need-returns-4
-returns-4 c = rw (sym (c .before .before .before .before .before .before .parts-sound .ensures) ∙ not-false _ (c .before .before .before .before .before .if1 .left), eq-eqb _ _ (c .before .before .before .before .if2 .left), sym (c .before .before .before .is-nobody .ensures) ∙ c .before .before .if3 .left, le-leb _ _ (c .if4 .taken))
+returns-4 c =
+    rw (
+      sym (c .before .before .before .before .before .before .parts-sound .ensures)
+          ∙ not-false _ (c .before .before .before .before .before .if1 .left),
+      eq-eqb _ _ (c .before .before .before .before .if2 .left),
+      sym (c .before .before .before .is-nobody .ensures) ∙ c .before .before .if3 .left,
+      le-leb _ _ (c .if4 .taken),
+    )
 
 returns-5 : tie.Need-returns-5
-returns-5 c = rw (sym (c .before .before .before .before .before .before .parts-sound .ensures) ∙ not-false _ (c .before .before .before .before .before .if1 .left), eq-eqb _ _ (c .before .before .before .before .if2 .left), sym (c .before .before .before .is-nobody .ensures) ∙ c .before .before .if3 .left, lt-leb _ _ (c .if4 .left))
+returns-5 c =
+    rw (
+      sym (c .before .before .before .before .before .before .parts-sound .ensures)
+          ∙ not-false _ (c .before .before .before .before .before .if1 .left),
+      eq-eqb _ _ (c .before .before .before .before .if2 .left),
+      sym (c .before .before .before .is-nobody .ensures) ∙ c .before .before .if3 .left,
+      lt-leb _ _ (c .if4 .left),
+    )
 
 pub send-answer-spec : {M : Type 1} → statement M
 send-answer-spec =

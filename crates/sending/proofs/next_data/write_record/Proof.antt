@@ -41,12 +41,15 @@ returns c =
     let w = c .before .before .before .before .before .before .before .before .before in
     let part = ringRead (length (a .store .now)) (a .store .now) (a .at) (a .len) in
     let n : length part ≡ a .len = read-length (length (a .store .now)) (a .store .now) (a .at) (a .len) in
-    let k = head-octets (a .len) (length (a .out .now)) _ (z .pre .1 .1) (sym (w .write-data-head .ensures .0 .same) ∙ c .before .before .before .before .before .written .given .1) in
+    let k =
+    head-octets (a .len) (length (a .out .now)) _ (z .pre .1 .1)
+    (sym (w .write-data-head .ensures .0 .same) ∙ c .before .before .before .before .before .written .given .1) in
     let fits = head-room (a .head) (a .len) (a .out .now) _ (w .write-data-head .ensures .1) (z .pre .1 .1) (k .1) in
     placed _ (a .out .now) _ _ (data-length (a .head) part ∙ ap (λ (m : ℕ). 16 + m) n ∙ sym (k .0)) (omega arith)
     (c .before .before .ring-read .ensures
     ∙ copied-inside (a .store .now) (a .at) (a .len) _ 16 (z .pre .0) (z .pre .1 .0) fits
-    ∙ sets-then (a .out .now) (dataHeadOctets (a .head) (a .len)) part _ 16 (w .write-data-head .ensures .1 ∙ head-out (a .head) (a .len) (a .out .now) (z .pre .1 .1) (k .1)) refl
+    ∙ sets-then (a .out .now) (dataHeadOctets (a .head) (a .len)) part _ 16
+    (w .write-data-head .ensures .1 ∙ head-out (a .head) (a .len) (a .out .now) (z .pre .1 .1) (k .1)) refl
     ∙ ap (sets (a .out .now) 0) (ap (λ (m : ℕ). dataHeadOctets (a .head) m ++ part) (sym n) ∙ sym (data-layout (a .head) part)))
 
 same-length-2 : tie.Need-same-length-2
@@ -59,8 +62,11 @@ returns-2 c =
     let w = c .before .before .before .before .before in
     let part = ringRead (length (a .store .now)) (a .store .now) (a .at) (a .len) in
     let n : length part ≡ a .len = read-length (length (a .store .now)) (a .store .now) (a .at) (a .len) in
-    let k = head-refused (a .len) (length (a .out .now)) _ (z .pre .1 .1) (sym (w .write-data-head .ensures .0 .same) ∙ c .before .written2 .given .1) in
-    rw (k .0, w .write-data-head .ensures .1, head-kept (a .head) (a .len) (a .out .now) (z .pre .1 .1) (k .1)) (placed-short _ (a .out .now) (omega (arith, data-length (a .head) part)))
+    let k =
+    head-refused (a .len) (length (a .out .now)) _ (z .pre .1 .1)
+    (sym (w .write-data-head .ensures .0 .same) ∙ c .before .written2 .given .1) in
+    rw (k .0, w .write-data-head .ensures .1, head-kept (a .head) (a .len) (a .out .now) (z .pre .1 .1) (k .1))
+    (placed-short _ (a .out .now) (omega (arith, data-length (a .head) part)))
 
 pub write-record-spec : {M : Type 1} → statement M
 write-record-spec =

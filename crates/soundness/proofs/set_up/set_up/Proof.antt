@@ -24,7 +24,12 @@ fresh-state-requires-2 c κs = search needs
 
 returns-2 : tie.Need-returns-2
 unfolding setUp
-returns-2 c = rw (sym (c .before .before .before .settings-sound .ensures) ∙ c .before .before .if1 .left, c .fresh-state2 .ensures, c .before .no-settings .ensures)
+returns-2 c =
+    rw (
+      sym (c .before .before .before .settings-sound .ensures) ∙ c .before .before .if1 .left,
+      c .fresh-state2 .ensures,
+      c .before .no-settings .ensures,
+    )
 
 pub set-up-spec : {M : Type 1} → statement M
 set-up-spec =

@@ -21,7 +21,9 @@ returns c = unsound _ 0 (sym (c .before .numbers-sound .ensures) ∙ not-true _ 
 entries-sound-requires : tie.Need-entries-sound-requires
 entries-sound-requires c κs =
     let a = c .before .before .args in
-    let f = numbers-facts (a .p) (a .room) (a .d) (a .due) (a .count) (a .start) (rw (← c .before .numbers-sound .ensures) (not-false _ (c .if1 .left))) in
+    let f =
+    numbers-facts (a .p) (a .room) (a .d) (a .due) (a .count) (a .start)
+    (rw (← c .before .numbers-sound .ensures) (not-false _ (c .if1 .left))) in
     (f .few, f .settings .fewServers)
 
 returns-2 : tie.Need-returns-2
@@ -43,14 +45,20 @@ same-active-requires : tie.Need-same-active-requires
 same-active-requires c κs = search needs
 
 returns-4 : tie.Need-returns-4
-returns-4 c = unsound _ 3 (rw (← c .before .before .choose-server .ensures) (sym (c .before .same-active .ensures) ∙ not-true _ (c .if4 .taken)))
+returns-4 c =
+    unsound _ 3 (rw (← c .before .before .choose-server .ensures) (sym (c .before .same-active .ensures) ∙ not-true _ (c .if4 .taken)))
 
 activation-sound-requires : tie.Need-activation-sound-requires
 activation-sound-requires c κs =
     let a = c .before .before .before .before .before .before .before .before .before .before .before .args in
-    let f = numbers-facts (a .p) (a .room) (a .d) (a .due) (a .count) (a .start) (rw (← c .before .before .before .before .before .before .before .before .before .before .numbers-sound .ensures) (not-false _ (c .before .before .before .before .before .before .before .before .before .if1 .left))) in
-    let e = same-active (a .d .active) _ (sym (c .before .same-active .ensures) ∙ not-false _ (c .if4 .left)) in
-    (omega (arith, f .few, f .reachedHeld), choice-below (a .p) (a .d) maxServers (e ∙ c .before .before .choose-server .ensures) (f .settings .fewServers))
+    let f =
+    numbers-facts (a .p) (a .room) (a .d) (a .due) (a .count) (a .start)
+    (rw (← c .before .before .before .before .before .before .before .before .before .before .numbers-sound .ensures)
+    (not-false _ (c .before .before .before .before .before .before .before .before .before .if1 .left))) in
+    let e = same-active (a .d .active) _ (sym (c .before .same-active .ensures) ∙ not-false _ (c .if4 .left)) in (
+      omega (arith, f .few, f .reachedHeld),
+      choice-below (a .p) (a .d) maxServers (e ∙ c .before .before .choose-server .ensures) (f .settings .fewServers),
+    )
 
 returns-5 : tie.Need-returns-5
 unfolding sound

@@ -27,27 +27,39 @@ padding-sound-requires c κs =
 
 returns-2 : tie.Need-returns-2
 unfolding blockSound
-returns-2 c = rw (sym (c .before .before .before .head-sound .ensures) ∙ not-false _ (c .before .before .if1 .left), sym (c .before .padding-sound .ensures) ∙ not-true _ (c .if2 .taken))
+returns-2 c =
+    rw (
+      sym (c .before .before .before .head-sound .ensures) ∙ not-false _ (c .before .before .if1 .left),
+      sym (c .before .padding-sound .ensures) ∙ not-true _ (c .if2 .taken),
+    )
 
 template-at-requires : tie.Need-template-at-requires
 unfolding blockEnd
 template-at-requires c κs =
     let a = c .before .before .before .before .before .args in
-    let h = head-facts (a .t .now) (a .at) (sym (c .before .before .before .head-sound .ensures) ∙ not-false _ (c .before .before .if1 .left)) in
+    let h =
+    head-facts (a .t .now) (a .at)
+    (sym (c .before .before .before .head-sound .ensures) ∙ not-false _ (c .before .before .if1 .left)) in
     (search needs, omega (arith, h .within))
 
 keys-sound-requires : tie.Need-keys-sound-requires
 unfolding blockEnd templateAt
 keys-sound-requires c κs =
     let a = c .before .before .before .before .before .before .args in
-    let h = head-facts (a .t .now) (a .at) (sym (c .before .before .before .before .head-sound .ensures) ∙ not-false _ (c .before .before .before .if1 .left)) in
+    let h =
+    head-facts (a .t .now) (a .at)
+    (sym (c .before .before .before .before .head-sound .ensures) ∙ not-false _ (c .before .before .before .if1 .left)) in
     rw (c .template-at .ensures) (omega (arith, h .within), h .few)
 
 returns-3 : tie.Need-returns-3
 unfolding blockSound templateAt
 returns-3 c =
     let d = c .before .before .before .before .before in
-    rw (sym (d .before .head-sound .ensures) ∙ not-false _ (d .if1 .left), sym (c .before .before .before .before .padding-sound .ensures) ∙ not-false _ (c .before .before .before .if2 .left), sym (rw (c .before .before .template-at .ensures) at (c .before .keys-sound .ensures)) ∙ not-true _ (c .if3 .taken))
+    rw (
+      sym (d .before .head-sound .ensures) ∙ not-false _ (d .if1 .left),
+      sym (c .before .before .before .before .padding-sound .ensures) ∙ not-false _ (c .before .before .before .if2 .left),
+      sym (rw (c .before .before .template-at .ensures) at (c .before .keys-sound .ensures)) ∙ not-true _ (c .if3 .taken),
+    )
 
 keys-differ-requires : tie.Need-keys-differ-requires
 unfolding blockEnd templateAt

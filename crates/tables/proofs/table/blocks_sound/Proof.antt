@@ -33,7 +33,8 @@ returns : tie.Need-returns Inv-loop μ-loop
 returns c =
     let l = c .before .before .before .loop in
     let t = c .before .before .before .before .before .args .t .now in
-    rw (every-false (c .before .before .before .before .before .args .n) (λ i. blockSound t (blockAt t i)) (l .i) (search needs) (ap (blockSound t) (sym (l .inv .1 .0)) ∙ sym (c .before .block-sound .ensures) ∙ not-true _ (c .if1 .taken)))
+    rw (every-false (c .before .before .before .before .before .args .n) (λ i. blockSound t (blockAt t i)) (l .i) (search needs)
+    (ap (blockSound t) (sym (l .inv .1 .0)) ∙ sym (c .before .block-sound .ensures) ∙ not-true _ (c .if1 .taken)))
 
 u16-at-requires : tie.Need-u16-at-requires Inv-loop μ-loop
 u16-at-requires c κs =
@@ -49,14 +50,19 @@ returns-2 c =
     let l = c .before .before .before .before .before .before .loop in
     let t = c .before .before .before .before .before .before .before .before .args .t .now in
     let id = c .before .before .u16-at .ensures ∙ ap (λ (p : ℕ). uintAt t p 2) (l .inv .1 .0) in
-    rw (every-false (c .before .before .before .before .before .before .before .before .args .n) (λ i. absent (idAt t) i (idAt t i)) (l .i) (search needs) (rw id at (sym (c .before .id-is-new .ensures) ∙ not-true _ (c .if2 .taken))), cond-same)
+    rw (
+      every-false (c .before .before .before .before .before .before .before .before .args .n) (λ i. absent (idAt t) i (idAt t i)) (l .i)
+          (search needs) (rw id at (sym (c .before .id-is-new .ensures) ∙ not-true _ (c .if2 .taken))),
+      cond-same,
+    )
 
 block-end-requires : tie.Need-block-end-requires Inv-loop μ-loop
 block-end-requires c κs =
     let l = c .before .before .before .before .before .before .loop in
     let s = c .before .before .before .before .before .before .before .before in (
       rw (l .inv .1 .0) (block-near (s .args .t .now) (l .i) (s .pre) (l .inv .1 .1 .0) (l .i) (search needs)),
-      block-inside (s .args .t .now) (l .at) (sym (c .before .before .before .before .block-sound .ensures) ∙ not-false _ (c .before .before .before .if1 .left)),
+      block-inside (s .args .t .now) (l .at)
+          (sym (c .before .before .before .before .block-sound .ensures) ∙ not-false _ (c .before .before .before .if1 .left)),
     )
 
 add-i : tie.Need-add-i Inv-loop μ-loop
@@ -74,8 +80,11 @@ loop-again c =
       (
         c .block-end .ensures ∙ ap (blockEnd t) (l .inv .1 .0) ∙ sym (block-at-more t (l .i)),
         (
-          every-step (l .i) _ (l .inv .1 .1 .0) (ap (blockSound t) (sym (l .inv .1 .0)) ∙ sym (c .before .before .before .before .before .block-sound .ensures) ∙ not-false _ (c .before .before .before .before .if1 .left)),
-          every-step (l .i) _ (l .inv .1 .1 .1) (rw id at (sym (c .before .before .id-is-new .ensures) ∙ not-false _ (c .before .if2 .left))),
+          every-step (l .i) _ (l .inv .1 .1 .0)
+              (ap (blockSound t) (sym (l .inv .1 .0)) ∙ sym (c .before .before .before .before .before .block-sound .ensures)
+              ∙ not-false _ (c .before .before .before .before .if1 .left)),
+          every-step (l .i) _ (l .inv .1 .1 .1)
+              (rw id at (sym (c .before .before .id-is-new .ensures) ∙ not-false _ (c .before .if2 .left))),
         ),
       ),
     )

@@ -52,7 +52,13 @@ unfolding headSound blockEnd
 returns-2 c =
     let a = c .before .before .before .before .before .before .args in
     let e : c .before .before .before .block-end .result - a .at ≡ blockOctets (a .t .now) (a .at) = omega arith in
-    rw (e, c .u32-at .ensures, c .before .u16-at2 .ensures, c .before .before .u16-at .ensures, c .before .before .before .block-end .ensures)
+    rw (
+      e,
+      c .u32-at .ensures,
+      c .before .u16-at2 .ensures,
+      c .before .before .u16-at .ensures,
+      c .before .before .before .block-end .ensures,
+    )
 
 pub head-sound-spec : {M : Type 1} → statement M
 head-sound-spec =

@@ -32,7 +32,8 @@ returns : tie.Need-returns Inv-loop μ-loop
 returns c =
     let l = c .before .before .before .loop in
     let t = c .before .before .before .before .before .args .t .now in
-    sym (every-false _ _ (l .i) (search needs) (ap not (eq-eqb _ _ (ap (λ (p : ℕ). uintAt t p 2) (sym (l .inv .1 .0)) ∙ sym (c .before .u16-at .ensures) ∙ c .if1 .taken))))
+    sym (every-false _ _ (l .i) (search needs)
+    (ap not (eq-eqb _ _ (ap (λ (p : ℕ). uintAt t p 2) (sym (l .inv .1 .0)) ∙ sym (c .before .u16-at .ensures) ∙ c .if1 .taken))))
 
 block-end-requires : tie.Need-block-end-requires Inv-loop μ-loop
 block-end-requires c κs =
@@ -55,7 +56,9 @@ loop-again c =
       search needs,
       (
         c .block-end .ensures ∙ ap (blockEnd t) (l .inv .1 .0) ∙ sym (block-at-more t (l .i)),
-        every-step (l .i) _ (l .inv .1 .1) (ap not (ne-eqb _ _ (λ e. c .before .if1 .left (c .before .before .u16-at .ensures ∙ ap (λ (p : ℕ). uintAt t p 2) (l .inv .1 .0) ∙ e)))),
+        every-step (l .i) _ (l .inv .1 .1)
+            (ap not (ne-eqb _ _ (λ e. c .before .if1 .left
+            (c .before .before .u16-at .ensures ∙ ap (λ (p : ℕ). uintAt t p 2) (l .inv .1 .0) ∙ e)))),
       ),
     )
 

@@ -42,7 +42,8 @@ key-id-requires-2 c κs = search needs
 returns : tie.Need-returns Inv-loop μ-loop
 returns c =
     let l = c .before .before .before .loop in
-    sym (every-false _ _ (l .j) (search needs) (ap not (eq-eqb _ _ (sym (c .before .key-id2 .ensures) ∙ c .if1 .taken ∙ c .before .before .before .before .key-id .ensures))))
+    sym (every-false _ _ (l .j) (search needs)
+    (ap not (eq-eqb _ _ (sym (c .before .key-id2 .ensures) ∙ c .if1 .taken ∙ c .before .before .before .before .key-id .ensures))))
 
 add-j : tie.Need-add-j Inv-loop μ-loop
 add-j c = search needs
@@ -52,8 +53,12 @@ loop-less c = search needs
 
 loop-again : tie.Need-loop-again Inv-loop μ-loop
 loop-again c =
-    let l = c .before .before .before .loop in
-    (search needs, every-step (l .j) _ (l .inv .1) (ap not (ne-eqb _ _ (λ e. c .if1 .left (c .before .key-id2 .ensures ∙ e ∙ sym (c .before .before .before .before .key-id .ensures))))))
+    let l = c .before .before .before .loop in (
+      search needs,
+      every-step (l .j) _ (l .inv .1)
+          (ap not (ne-eqb _ _ (λ e. c .if1 .left
+          (c .before .key-id2 .ensures ∙ e ∙ sym (c .before .before .before .before .key-id .ensures))))),
+    )
 
 returns-2 : tie.Need-returns-2 Inv-loop μ-loop
 returns-2 c =

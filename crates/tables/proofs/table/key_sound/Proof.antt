@@ -74,9 +74,15 @@ unfolding keySound
 returns c =
     let a = c .before .before .before .before .before .before .before .before .before .before .before .before .before .args in
     let t = a .t .now in
-    let kind = c .before .before .before .before .before .before .before .before .before .u16-of .ensures ∙ uint-read t (a .at + 4) 2 ((a .at + 4) ∷ (a .at + 5) ∷ []) refl (omega arith, (omega arith, tt)) in
-    let reserved = c .before .before .before .before .before .u16-of2 .ensures ∙ uint-read t (a .at + 6) 2 ((a .at + 6) ∷ (a .at + 7) ∷ []) refl (omega arith, (omega arith, tt)) in
-    let attributes = c .u32-of .ensures ∙ uint-read t (a .at + 8) 4 ((a .at + 8) ∷ (a .at + 9) ∷ (a .at + 10) ∷ (a .at + 11) ∷ []) refl (omega arith, (omega arith, (omega arith, (omega arith, tt)))) in
+    let kind =
+    c .before .before .before .before .before .before .before .before .before .u16-of .ensures
+    ∙ uint-read t (a .at + 4) 2 ((a .at + 4) ∷ (a .at + 5) ∷ []) refl (omega arith, (omega arith, tt)) in
+    let reserved =
+    c .before .before .before .before .before .u16-of2 .ensures
+    ∙ uint-read t (a .at + 6) 2 ((a .at + 6) ∷ (a .at + 7) ∷ []) refl (omega arith, (omega arith, tt)) in
+    let attributes =
+    c .u32-of .ensures ∙ uint-read t (a .at + 8) 4 ((a .at + 8) ∷ (a .at + 9) ∷ (a .at + 10) ∷ (a .at + 11) ∷ []) refl
+    (omega arith, (omega arith, (omega arith, (omega arith, tt)))) in
     rw (attributes, reserved, c .before .before .before .before .before .before .before .before .is-type .ensures, kind)
 
 pub key-sound-spec : {M : Type 1} → statement M

@@ -31,7 +31,9 @@ key-sound-requires : tie.Need-key-sound-requires Inv-loop μ-loop
 key-sound-requires c κs = search needs
 
 returns : tie.Need-returns Inv-loop μ-loop
-returns c = sym (every-false _ _ (c .before .before .before .loop .k) (search needs) (sym (c .before .key-sound .ensures) ∙ not-true _ (c .if1 .taken)))
+returns c =
+    sym (every-false _ _ (c .before .before .before .loop .k) (search needs)
+    (sym (c .before .key-sound .ensures) ∙ not-true _ (c .if1 .taken)))
 
 add-k : tie.Need-add-k Inv-loop μ-loop
 add-k c = search needs
@@ -40,7 +42,11 @@ loop-less : tie.Need-loop-less Inv-loop μ-loop
 loop-less c = search needs
 
 loop-again : tie.Need-loop-again Inv-loop μ-loop
-loop-again c = (search needs, every-step (c .before .before .before .loop .k) _ (c .before .before .before .loop .inv .1) (sym (c .before .key-sound .ensures) ∙ not-false _ (c .if1 .left)))
+loop-again c = (
+  search needs,
+  every-step (c .before .before .before .loop .k) _ (c .before .before .before .loop .inv .1)
+      (sym (c .before .key-sound .ensures) ∙ not-false _ (c .if1 .left)),
+)
 
 returns-2 : tie.Need-returns-2 Inv-loop μ-loop
 returns-2 c =

@@ -1,4 +1,5 @@
--- `locate` meets its contract. The loop's invariant: the walk stands at block i, and the first template with the ID, if any, is not before it.
+-- `locate` meets its contract. The loop's invariant: the walk stands at block i, and the first template with the ID, if any, is not before
+-- it.
 use mathlib.Core.Path.{_≡_, refl, sym, ap, _∙_}
 use native.Mathlib.Omega.{arith}
 use Prim.Native.Nat.{ℕ, _+_, _-_, _≤_, _<_}
@@ -14,7 +15,8 @@ use Rattle.tables.proofs.table.locate.Statement.{statement}
 use Rattle.tables.proofs.table.locate.Tie as tie
 
 abbrev Inv-loop : tie.InvT-loop
-Inv-loop t id count at₀ i₀ at i = (i ≤ count) × ((at ≡ blockAt t i) × (firstFrom i (count - i) (λ j. eqb (idAt t j) id) ≡ templateIndex t id))
+Inv-loop t id count at₀ i₀ at i =
+    (i ≤ count) × ((at ≡ blockAt t i) × (firstFrom i (count - i) (λ j. eqb (idAt t j) id) ≡ templateIndex t id))
 
 abbrev μ-loop : tie.MeasureT-loop
 μ-loop t id count at₀ i₀ at i = count - i
@@ -55,7 +57,9 @@ returns c =
     let a = c .before .before .before .before .before .before .before .args in
     let t = a .t .now in
     let e : templateIndex t (a .id) ≡ l .i =
-    sym (l .inv .1 .1) ∙ first-here (l .i) (c .before .before .before .before .before .u16-at .result - l .i) (λ j. eqb (idAt t j) (a .id)) (omega arith) (eq-eqb _ _ (ap (λ (p : ℕ). uintAt t p 2) (sym (l .inv .1 .0)) ∙ sym (c .before .before .u16-at2 .ensures) ∙ c .before .if1 .taken)) in
+    sym (l .inv .1 .1) ∙ first-here (l .i) (c .before .before .before .before .before .u16-at .result - l .i) (λ j. eqb (idAt t j) (a .id))
+    (omega arith) (eq-eqb _ _
+    (ap (λ (p : ℕ). uintAt t p 2) (sym (l .inv .1 .0)) ∙ sym (c .before .before .u16-at2 .ensures) ∙ c .before .if1 .taken)) in
     let n : l .i < templateCount t = omega arith in
     rw (e, lt-leb (templateCount t) (l .i) n, c .template-at .ensures, l .inv .1 .0)
 
@@ -84,7 +88,9 @@ loop-again c =
       search needs,
       (
         c .block-end .ensures ∙ ap (blockEnd t) (l .inv .1 .0) ∙ sym (block-at-more t (l .i)),
-        rw k (sym (first-on (l .i) (count - l .i) (λ j. eqb (idAt t j) (a .id)) (omega arith) (ne-eqb _ _ (λ e. c .before .if1 .left (c .before .before .u16-at2 .ensures ∙ ap (λ (p : ℕ). uintAt t p 2) (l .inv .1 .0) ∙ e)))) ∙ l .inv .1 .1),
+        rw k (sym (first-on (l .i) (count - l .i) (λ j. eqb (idAt t j) (a .id)) (omega arith)
+            (ne-eqb _ _ (λ e. c .before .if1 .left
+            (c .before .before .u16-at2 .ensures ∙ ap (λ (p : ℕ). uintAt t p 2) (l .inv .1 .0) ∙ e)))) ∙ l .inv .1 .1),
       ),
     )
 
@@ -94,7 +100,8 @@ returns-2 c =
     let l = c .before .loop in
     let a = c .before .before .before .before .args in
     let t = a .t .now in
-    let e : l .i ≡ templateIndex t (a .id) = sym (first-none (l .i) (c .before .before .u16-at .result - l .i) (λ j. eqb (idAt t j) (a .id)) (omega arith)) ∙ l .inv .1 .1 in
+    let e : l .i ≡ templateIndex t (a .id) =
+    sym (first-none (l .i) (c .before .before .u16-at .result - l .i) (λ j. eqb (idAt t j) (a .id)) (omega arith)) ∙ l .inv .1 .1 in
     let n : templateCount t ≤ templateIndex t (a .id) = omega arith in
     rw (le-leb (templateCount t) (templateIndex t (a .id)) n)
 

@@ -37,7 +37,12 @@ returns-3 c =
     let d = c .before .before in
     let f = d .before in
     let h : templateCount (f .before .before .before .before .args .t .now) < 1 = omega arith in
-    rw (le-leb _ _ (f .before .before .if1 .left), ← f .before .get-u8 .ensures, sym (f .flags-sound .ensures) ∙ not-false _ (d .if2 .left), lt-leb 1 _ h)
+    rw (
+      le-leb _ _ (f .before .before .if1 .left),
+      ← f .before .get-u8 .ensures,
+      sym (f .flags-sound .ensures) ∙ not-false _ (d .if2 .left),
+      lt-leb 1 _ h,
+    )
 
 returns-4 : tie.Need-returns-4
 unfolding tableSound

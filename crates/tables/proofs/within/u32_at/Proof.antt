@@ -35,7 +35,8 @@ u32-of-requires c κs = search needs
 returns : tie.Need-returns
 returns c =
     let a = c .before .before .before .before .before .before .args in
-    c .u32-of .ensures ∙ uint-read (a .s .now) (a .at) 4 (a .at ∷ (a .at + 1) ∷ (a .at + 2) ∷ (a .at + 3) ∷ []) refl (omega arith, (refl, (refl, (refl, tt))))
+    c .u32-of .ensures ∙ uint-read (a .s .now) (a .at) 4 (a .at ∷ (a .at + 1) ∷ (a .at + 2) ∷ (a .at + 3) ∷ []) refl
+    (omega arith, (refl, (refl, (refl, tt))))
 
 pub u32-at-spec : {M : Type 1} → statement M
 u32-at-spec =

@@ -36,7 +36,13 @@ returns c =
     let a = c .before .before .before .before .before .before .before .before .before .before .before .args in
     let u = refused-unsound (a .tape .now) _ (c .before .before .tape-answer .ensures) (c .before .if1 .taken) in
     let l = printed-whole (a .text .now) tapeRefused (length tapeRefused) _ _ (omega arith) (c .write-refused .ensures) in
-    open-turn (a .tape .now) (a .store .now) _ _ _ tapeRefused _ _ _ (c .before .before .before .before .before .before .set-up .ensures ∙ rw (c .before .before .before .before .before .before .before .settings-of .ensures, c .before .before .before .before .before .before .before .before .body .ensures) refl) (c .before .before .before .before .body-at .ensures) (rw u refl) (rw u refl) (l .0) (l .1)
+    open-turn (a .tape .now) (a .store .now) _ _ _ tapeRefused _ _ _
+    (c .before .before .before .before .before .before .set-up .ensures
+    ∙ rw (
+      c .before .before .before .before .before .before .before .settings-of .ensures,
+      c .before .before .before .before .before .before .before .before .body .ensures,
+    ) refl)
+    (c .before .before .before .before .body-at .ensures) (rw u refl) (rw u refl) (l .0) (l .1)
 
 slice-aggregate-write-line : tie.Need-slice-aggregate-write-line
 slice-aggregate-write-line c = search needs
@@ -55,19 +61,43 @@ saturating-sub-requires c κs = search needs
 
 returns-2 : tie.Need-returns-2
 returns-2 c =
-    let a = c .before .before .before .before .before .before .before .before .before .before .before .before .before .before .before .before .args in
+    let a =
+    c .before .before .before .before .before .before .before .before .before .before .before .before .before .before .before .before
+    .args in
     let m = c .before .before .before .before .before .before .before .before .before .before .before .set-up .result in
-    let u = done-sound (a .tape .now) _ (c .before .before .before .before .before .before .before .tape-answer .ensures) (c .before .before .before .before .before .before .if1 .left) in
-    let l = printed-whole (a .text .now) (lineOf 0 (m .answer) []) (lineOctets 0) _ _ (omega arith) (c .before .before .before .before .write-line .ensures) in
-    open-turn (a .tape .now) (a .store .now) m _ _ (lineOf 0 (m .answer) []) _ _ _ (c .before .before .before .before .before .before .before .before .before .before .before .set-up .ensures ∙ rw (c .before .before .before .before .before .before .before .before .before .before .before .before .settings-of .ensures, c .before .before .before .before .before .before .before .before .before .before .before .before .before .body .ensures) refl) (c .before .before .before .before .before .before .before .before .before .body-at .ensures) (rw u refl) (rw (u, eq-eqb _ _ (c .before .before .if2 .taken)) (c .saturating-sub .ensures ∙ rw (c .before .event-count .ensures) refl)) (l .0) (l .1)
+    let u =
+    done-sound (a .tape .now) _ (c .before .before .before .before .before .before .before .tape-answer .ensures)
+    (c .before .before .before .before .before .before .if1 .left) in
+    let l =
+    printed-whole (a .text .now) (lineOf 0 (m .answer) []) (lineOctets 0) _ _ (omega arith)
+    (c .before .before .before .before .write-line .ensures) in
+    open-turn (a .tape .now) (a .store .now) m _ _ (lineOf 0 (m .answer) []) _ _ _
+    (c .before .before .before .before .before .before .before .before .before .before .before .set-up .ensures
+    ∙ rw (
+      c .before .before .before .before .before .before .before .before .before .before .before .before .settings-of .ensures,
+      c .before .before .before .before .before .before .before .before .before .before .before .before .before .body .ensures,
+    ) refl)
+    (c .before .before .before .before .before .before .before .before .before .body-at .ensures) (rw u refl)
+    (rw (u, eq-eqb _ _ (c .before .before .if2 .taken)) (c .saturating-sub .ensures ∙ rw (c .before .event-count .ensures) refl)) (l .0)
+    (l .1)
 
 returns-3 : tie.Need-returns-3
 returns-3 c =
     let a = c .before .before .before .before .before .before .before .before .before .before .before .before .before .before .args in
     let m = c .before .before .before .before .before .before .before .before .before .set-up .result in
-    let u = done-sound (a .tape .now) _ (c .before .before .before .before .before .tape-answer .ensures) (c .before .before .before .before .if1 .left) in
-    let l = printed-whole (a .text .now) (lineOf 0 (m .answer) []) (lineOctets 0) _ _ (omega arith) (c .before .before .write-line .ensures) in
-    open-turn (a .tape .now) (a .store .now) m _ _ (lineOf 0 (m .answer) []) _ _ _ (c .before .before .before .before .before .before .before .before .before .set-up .ensures ∙ rw (c .before .before .before .before .before .before .before .before .before .before .settings-of .ensures, c .before .before .before .before .before .before .before .before .before .before .before .body .ensures) refl) (c .before .before .before .before .before .before .before .body-at .ensures) (rw u refl) (rw (u, ne-eqb _ _ (c .if2 .left)) refl) (l .0) (l .1)
+    let u =
+    done-sound (a .tape .now) _ (c .before .before .before .before .before .tape-answer .ensures)
+    (c .before .before .before .before .if1 .left) in
+    let l =
+    printed-whole (a .text .now) (lineOf 0 (m .answer) []) (lineOctets 0) _ _ (omega arith) (c .before .before .write-line .ensures) in
+    open-turn (a .tape .now) (a .store .now) m _ _ (lineOf 0 (m .answer) []) _ _ _
+    (c .before .before .before .before .before .before .before .before .before .set-up .ensures
+    ∙ rw (
+      c .before .before .before .before .before .before .before .before .before .before .settings-of .ensures,
+      c .before .before .before .before .before .before .before .before .before .before .before .body .ensures,
+    ) refl)
+    (c .before .before .before .before .before .before .before .body-at .ensures) (rw u refl) (rw (u, ne-eqb _ _ (c .if2 .left)) refl)
+    (l .0) (l .1)
 
 pub open-tape-spec : {M : Type 1} → statement M
 open-tape-spec =

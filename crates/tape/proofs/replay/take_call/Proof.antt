@@ -25,13 +25,16 @@ slice-reshare-prefix-write-line : tie.Need-slice-reshare-prefix-write-line
 slice-reshare-prefix-write-line c = omega (arith, called-fits _ _ _ _ _ _ _ _ _ _ (c .before .before .before .before .call .ensures))
 
 slice-aggregate-write-line : tie.Need-slice-aggregate-write-line
-slice-aggregate-write-line c = sym (length-take-le _ _ (omega (arith, called-fits _ _ _ _ _ _ _ _ _ _ (c .before .before .before .before .before .call .ensures))))
+slice-aggregate-write-line c =
+    sym (length-take-le _ _ (omega (arith, called-fits _ _ _ _ _ _ _ _ _ _ (c .before .before .before .before .before .call .ensures))))
 
 write-line-requires : tie.Need-write-line-requires
 write-line-requires c κs = search needs
 
 sub-left : tie.Need-sub-left
-sub-left c = c .before .before .before .before .before .before .before .before .before .before .before .before .before .before .before .before .before .before .before .before .before .before .before .pre .some
+sub-left c =
+    c .before .before .before .before .before .before .before .before .before .before .before .before .before .before .before .before
+    .before .before .before .before .before .before .before .pre .some
 
 same-length : tie.Need-same-length
 same-length c = search needs
@@ -51,7 +54,8 @@ returns c =
     let fits = line-fits _ _ (a .out .now) (a .text .now) (called-fits _ _ _ _ _ _ _ _ _ _ (k .call .ensures)) (z .pre .room) in
     let l = printed-whole (a .text .now) _ _ _ _ fits (w .write-line .ensures) in
     call-turn (a .tape .now) (a .r) (a .store .now) (a .out .now) (a .text .now) (a .i) _ _ (a .b .now) _ _ _ _ _ _ _ (z .pre)
-    (k .before .before .before .before .before .before .body .ensures) (k .before .before .before .before .before .kind-at .ensures) (k .before .before .before .before .server-at .ensures) (k .call .ensures)
+    (k .before .before .before .before .before .before .body .ensures) (k .before .before .before .before .before .kind-at .ensures)
+    (k .before .before .before .before .server-at .ensures) (k .call .ensures)
     (l .0) (l .1)
 
 pub take-call-spec : {M : Type 1} → statement M

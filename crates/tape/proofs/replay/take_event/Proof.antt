@@ -38,14 +38,17 @@ take-table-requires : tie.Need-take-table-requires
 take-table-requires c κs =
     let k = c .before .before .before in
     let a = c .before .before .before .before .before .before .before .before .before .before .args in
-    let e = next-part (a .tape .now) (a .r) _ _ _ (k .before .before .next-index .ensures) (k .before .body-length .ensures) (k .part .ensures) in
+    let e =
+    next-part (a .tape .now) (a .r) _ _ _ (k .before .before .next-index .ensures) (k .before .body-length .ensures)
+    (k .part .ensures) in
     record { some = omega arith; end = ap (λ (l : List ℕ). a .r .at + length l) e; room = omega arith }
 
 returns-2 : tie.Need-returns-2
 returns-2 c =
     let a = c .before .before .before .before .before .before .before .before .before .before .before .args in
     let n = c .before .before .before .before .before .before in
-    played-table (a .tape .now) (a .r) (a .store .now) (a .out .now) (a .text .now) _ _ _ (n .before .if1 .left) (n .next-index .ensures) (c .before .if2 .taken) (c .take-table .ensures)
+    played-table (a .tape .now) (a .r) (a .store .now) (a .out .now) (a .text .now) _ _ _ (n .before .if1 .left) (n .next-index .ensures)
+    (c .before .if2 .taken) (c .take-table .ensures)
 
 take-call-requires : tie.Need-take-call-requires
 take-call-requires c κs =
@@ -66,9 +69,11 @@ same-length c = search needs
 
 returns-3 : tie.Need-returns-3
 returns-3 c =
-    let a = c .before .before .before .before .before .before .before .before .before .before .before .before .before .before .before .args in
+    let a =
+    c .before .before .before .before .before .before .before .before .before .before .before .before .before .before .before .args in
     let n = c .before .before .before .before .before .before .before .before .before .before in
-    played-call (a .tape .now) (a .r) (a .store .now) (a .out .now) (a .text .now) _ _ _ _ _ (n .before .if1 .left) (n .next-index .ensures) (c .before .before .before .before .before .if2 .left) (c .before .before .take-call .ensures)
+    played-call (a .tape .now) (a .r) (a .store .now) (a .out .now) (a .text .now) _ _ _ _ _ (n .before .if1 .left) (n .next-index .ensures)
+    (c .before .before .before .before .before .if2 .left) (c .before .before .take-call .ensures)
 
 pub take-event-spec : {M : Type 1} → statement M
 take-event-spec =

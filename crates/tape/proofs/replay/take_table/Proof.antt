@@ -38,9 +38,12 @@ returns c =
     let w = c .before .before .before .before .before in
     let k = w .before .before .before in
     let z = k .before .before .before .before .before .before in
-    let l = printed-whole (z .args .text .now) (lineOf 1 (k .table-answer .result) []) (lineOctets 0) _ _ (z .pre .room) (w .write-line .ensures) in
+    let l =
+    printed-whole (z .args .text .now) (lineOf 1 (k .table-answer .result) []) (lineOctets 0) _ _ (z .pre .room)
+    (w .write-line .ensures) in
     table-turn (z .args .tape .now) (z .args .r) _ _ _ _ _ _ (z .pre .end)
-    (k .table-answer .ensures ∙ rw (k .before .body2 .ensures, k .before .before .settings-of .ensures, k .before .before .before .body .ensures) refl)
+    (k .table-answer .ensures
+    ∙ rw (k .before .body2 .ensures, k .before .before .settings-of .ensures, k .before .before .before .body .ensures) refl)
     (rw (eq-eqb _ _ (c .before .if1 .taken)) refl) (l .0) (l .1)
 
 same-length-2 : tie.Need-same-length-2
@@ -51,9 +54,12 @@ returns-2 c =
     let w = c .before .before .before .before in
     let k = w .before .before .before in
     let z = k .before .before .before .before .before .before in
-    let l = printed-whole (z .args .text .now) (lineOf 1 (k .table-answer .result) []) (lineOctets 0) _ _ (z .pre .room) (w .write-line .ensures) in
+    let l =
+    printed-whole (z .args .text .now) (lineOf 1 (k .table-answer .result) []) (lineOctets 0) _ _ (z .pre .room)
+    (w .write-line .ensures) in
     table-turn (z .args .tape .now) (z .args .r) _ _ _ _ _ _ (z .pre .end)
-    (k .table-answer .ensures ∙ rw (k .before .body2 .ensures, k .before .before .settings-of .ensures, k .before .before .before .body .ensures) refl)
+    (k .table-answer .ensures
+    ∙ rw (k .before .body2 .ensures, k .before .before .settings-of .ensures, k .before .before .before .body .ensures) refl)
     (rw (ne-eqb _ _ (c .if1 .left)) refl) (l .0) (l .1)
 
 pub take-table-spec : {M : Type 1} → statement M

@@ -16,16 +16,19 @@ is-nobody-requires c κs = search needs
 returns-2 : tie.Need-returns-2
 returns-2 c =
     let a = c .before .before .before .args in
-    clock-idle (a .sound) (a .p) (a .d) (not-false (a .sound) (c .before .before .if1 .left)) (sym (c .before .is-nobody .ensures) ∙ c .if2 .taken)
+    clock-idle (a .sound) (a .p) (a .d) (not-false (a .sound) (c .before .before .if1 .left))
+    (sym (c .before .is-nobody .ensures) ∙ c .if2 .taken)
 
 run-clock-requires : tie.Need-run-clock-requires
-run-clock-requires c κs = c .before .before .before .pre (not-false (c .before .before .before .args .sound) (c .before .before .if1 .left)) .0
+run-clock-requires c κs =
+    c .before .before .before .pre (not-false (c .before .before .before .args .sound) (c .before .before .if1 .left)) .0
 
 returns-3 : tie.Need-returns-3
 returns-3 c =
     let a = c .before .before .before .before .args in
     c .run-clock .ensures
-    ∙ clock-running (a .sound) (a .p) (a .d) (not-false (a .sound) (c .before .before .before .if1 .left)) (sym (c .before .before .is-nobody .ensures) ∙ c .before .if2 .left)
+    ∙ clock-running (a .sound) (a .p) (a .d) (not-false (a .sound) (c .before .before .before .if1 .left))
+    (sym (c .before .before .is-nobody .ensures) ∙ c .before .if2 .left)
 
 pub tick-clock-spec : {M : Type 1} → statement M
 tick-clock-spec =

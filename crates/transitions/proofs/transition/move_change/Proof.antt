@@ -29,7 +29,8 @@ returns c =
     let s = stateOf (a .p) (a .capacity) (a .d) (a .due) (a .count) (a .lengths .now) [] (a .receivers .now) (a .start) 0 in
     let t = transitionOf (a .table .now) (a .m) in
     let e = failed-sound s (c .before .before .parts-sound .result) (c .before .before .parts-sound .ensures) (c .before .if1 .taken) in
-    refused-change crane (length (a .out .now)) (move (a .v) t) s (a .out .now) 1 (c .refuse-change .result) (λ z. omega arith) (move-unsound crane (length (a .out .now)) (a .v) t s e) (c .refuse-change .ensures)
+    refused-change crane (length (a .out .now)) (move (a .v) t) s (a .out .now) 1 (c .refuse-change .result) (λ z. omega arith)
+    (move-unsound crane (length (a .out .now)) (a .v) t s e) (c .refuse-change .ensures)
 
 refuse-change-requires-2 : tie.Need-refuse-change-requires-2
 refuse-change-requires-2 c κs = search needs
@@ -39,9 +40,12 @@ returns-2 c =
     let a = c .before .before .before .before .before .before .before .args in
     let s = stateOf (a .p) (a .capacity) (a .d) (a .due) (a .count) (a .lengths .now) [] (a .receivers .now) (a .start) 0 in
     let t = transitionOf (a .table .now) (a .m) in
-    let e = passed-sound s (c .before .before .before .before .parts-sound .result) (c .before .before .before .before .parts-sound .ensures) (c .before .before .before .if1 .left) in
+    let e =
+    passed-sound s (c .before .before .before .before .parts-sound .result) (c .before .before .before .before .parts-sound .ensures)
+    (c .before .before .before .if1 .left) in
     refused-change crane (length (a .out .now)) (move (a .v) t) s (a .out .now) 2 (c .refuse-change2 .result) (λ z. omega arith)
-    (move-unknown crane (length (a .out .now)) (a .v) t s e (le-leb (a .p .servers) (a .v) (c .before .if2 .taken))) (c .refuse-change2 .ensures)
+    (move-unknown crane (length (a .out .now)) (a .v) t s e (le-leb (a .p .servers) (a .v) (c .before .if2 .taken)))
+    (c .refuse-change2 .ensures)
 
 phase-at-requires : tie.Need-phase-at-requires
 phase-at-requires c κs = search needs
@@ -57,16 +61,22 @@ returns-3 c =
     let a = c .before .before .before .before .before .before .before .before .before .before .before .args in
     let s = stateOf (a .p) (a .capacity) (a .d) (a .due) (a .count) (a .lengths .now) [] (a .receivers .now) (a .start) 0 in
     let t = transitionOf (a .table .now) (a .m) in
-    let e = passed-sound s (c .before .before .before .before .before .before .before .before .parts-sound .result) (c .before .before .before .before .before .before .before .before .parts-sound .ensures) (c .before .before .before .before .before .before .before .if1 .left) in
+    let e =
+    passed-sound s (c .before .before .before .before .before .before .before .before .parts-sound .result)
+    (c .before .before .before .before .before .before .before .before .parts-sound .ensures)
+    (c .before .before .before .before .before .before .before .if1 .left) in
     let q = rw (c .before .before .before .phase-at .ensures) at (c .before .before .turn-answer .ensures) in
-    refused-change crane (length (a .out .now)) (move (a .v) t) s (a .out .now) (c .before .before .turn-answer .result) (c .refuse-change3 .result) (c .before .if3 .taken)
-    (move-refused (length (a .out .now)) (a .v) t s (c .before .before .turn-answer .result) e (lt-leb (a .p .servers) (a .v) (c .before .before .before .before .before .if2 .left)) q (c .before .if3 .taken))
+    refused-change crane (length (a .out .now)) (move (a .v) t) s (a .out .now) (c .before .before .turn-answer .result)
+    (c .refuse-change3 .result) (c .before .if3 .taken)
+    (move-refused (length (a .out .now)) (a .v) t s (c .before .before .turn-answer .result) e
+    (lt-leb (a .p .servers) (a .v) (c .before .before .before .before .before .if2 .left)) q (c .before .if3 .taken))
     (c .refuse-change3 .ensures)
 
 write-reply-requires : tie.Need-write-reply-requires
 write-reply-requires c κs =
     let a = c .before .before .before .before .before .before .before .before .before .before .before .args in
-    table-fits (a .p) (c .before .before .before .phase-at .result) (transitionOf (a .table .now) (a .m)) (c .before .before .turn-answer .result) (c .before .before .turn-answer .ensures) (c .before .if3 .left)
+    table-fits (a .p) (c .before .before .before .phase-at .result) (transitionOf (a .table .now) (a .m))
+    (c .before .before .turn-answer .result) (c .before .before .turn-answer .ensures) (c .before .if3 .left)
 
 enum-known-reply : tie.Need-enum-known-reply
 enum-known-reply c = search needs
@@ -88,30 +98,61 @@ same-length c = search needs
 
 returns-4 : tie.Need-returns-4
 returns-4 c =
-    let a = c .before .before .before .before .before .before .before .before .before .before .before .before .before .before .before .before .before .before .before .args in
+    let a =
+    c .before .before .before .before .before .before .before .before .before .before .before .before .before .before .before .before
+    .before .before .before .args in
     let s = stateOf (a .p) (a .capacity) (a .d) (a .due) (a .count) (a .lengths .now) [] (a .receivers .now) (a .start) 0 in
     let t = transitionOf (a .table .now) (a .m) in
-    let f = fitted _ _ _ _ (rw (c .before .before .before .reply .given .1) at (c .before .before .before .before .before .before .before .write-reply .ensures)) in
-    let e = passed-sound s (c .before .before .before .before .before .before .before .before .before .before .before .before .before .before .before .before .parts-sound .result) (c .before .before .before .before .before .before .before .before .before .before .before .before .before .before .before .before .parts-sound .ensures) (c .before .before .before .before .before .before .before .before .before .before .before .before .before .before .before .if1 .left) in
-    let q = rw (c .before .before .before .before .before .before .before .before .before .before .before .phase-at .ensures) at (c .before .before .before .before .before .before .before .before .before .before .turn-answer .ensures) in
+    let f =
+    fitted _ _ _ _ (rw (c .before .before .before .reply .given .1) at (c .before .before .before .before .before .before .before
+    .write-reply .ensures)) in
+    let e =
+    passed-sound s (c .before .before .before .before .before .before .before .before .before .before .before .before .before .before
+    .before .before .parts-sound .result)
+    (c .before .before .before .before .before .before .before .before .before .before .before .before .before .before .before .before
+    .parts-sound .ensures) (c .before .before .before .before .before .before .before .before .before .before .before .before .before
+    .before .before .if1 .left) in
+    let q =
+    rw (c .before .before .before .before .before .before .before .before .before .before .before .phase-at .ensures) at (c .before
+    .before .before .before .before .before .before .before .before .before .turn-answer .ensures) in
     moved-change crane (length (a .out .now)) (a .v) t s (a .out .now) _ _ (c .settle-change .result)
-    (move-roomed (length (a .out .now)) (a .v) t s (c .before .before .before .before .before .before .before .before .before .before .turn-answer .result) e (lt-leb (a .p .servers) (a .v) (c .before .before .before .before .before .before .before .before .before .before .before .before .before .if2 .left)) q (c .before .before .before .before .before .before .before .before .before .if3 .left) false (f .fits))
-    (f .many) (f .left) (rw (c .before .move-delivery .ensures, any-table (a .v) (a .m) (a .table .now) (a .d .servers)) at (c .settle-change .ensures))
+    (move-roomed (length (a .out .now)) (a .v) t s
+    (c .before .before .before .before .before .before .before .before .before .before .turn-answer .result) e
+    (lt-leb (a .p .servers) (a .v)
+    (c .before .before .before .before .before .before .before .before .before .before .before .before .before .if2 .left)) q
+    (c .before .before .before .before .before .before .before .before .before .if3 .left) false (f .fits))
+    (f .many) (f .left) (rw
+    (c .before .move-delivery .ensures, any-table (a .v) (a .m) (a .table .now) (a .d .servers)) at (c .settle-change .ensures))
 
 same-length-2 : tie.Need-same-length-2
 same-length-2 c = search needs
 
 returns-5 : tie.Need-returns-5
 returns-5 c =
-    let a = c .before .before .before .before .before .before .before .before .before .before .before .before .before .before .before .before .before .before .args in
+    let a =
+    c .before .before .before .before .before .before .before .before .before .before .before .before .before .before .before .before
+    .before .before .args in
     let s = stateOf (a .p) (a .capacity) (a .d) (a .due) (a .count) (a .lengths .now) [] (a .receivers .now) (a .start) 0 in
     let t = transitionOf (a .table .now) (a .m) in
-    let f = unfitted _ _ _ _ (rw (c .before .before .reply2 .given .1) at (c .before .before .before .before .before .before .write-reply .ensures)) in
-    let e = passed-sound s (c .before .before .before .before .before .before .before .before .before .before .before .before .before .before .before .parts-sound .result) (c .before .before .before .before .before .before .before .before .before .before .before .before .before .before .before .parts-sound .ensures) (c .before .before .before .before .before .before .before .before .before .before .before .before .before .before .if1 .left) in
-    let q = rw (c .before .before .before .before .before .before .before .before .before .before .phase-at .ensures) at (c .before .before .before .before .before .before .before .before .before .turn-answer .ensures) in
+    let f =
+    unfitted _ _ _ _ (rw (c .before .before .reply2 .given .1) at (c .before .before .before .before .before .before .write-reply
+    .ensures)) in
+    let e =
+    passed-sound s (c .before .before .before .before .before .before .before .before .before .before .before .before .before .before
+    .before .parts-sound .result)
+    (c .before .before .before .before .before .before .before .before .before .before .before .before .before .before .before
+    .parts-sound .ensures) (c .before .before .before .before .before .before .before .before .before .before .before .before .before
+    .before .if1 .left) in
+    let q =
+    rw (c .before .before .before .before .before .before .before .before .before .before .phase-at .ensures) at (c .before .before
+    .before .before .before .before .before .before .before .turn-answer .ensures) in
     let r =
     refused-change crane (length (a .out .now)) (move (a .v) t) s (a .out .now) 12 (c .refuse-change4 .result) (λ z. omega arith)
-    (move-roomed (length (a .out .now)) (a .v) t s (c .before .before .before .before .before .before .before .before .before .turn-answer .result) e (lt-leb (a .p .servers) (a .v) (c .before .before .before .before .before .before .before .before .before .before .before .before .if2 .left)) q (c .before .before .before .before .before .before .before .before .if3 .left) true (f .short))
+    (move-roomed (length (a .out .now)) (a .v) t s
+    (c .before .before .before .before .before .before .before .before .before .turn-answer .result) e
+    (lt-leb (a .p .servers) (a .v)
+    (c .before .before .before .before .before .before .before .before .before .before .before .before .if2 .left)) q
+    (c .before .before .before .before .before .before .before .before .if3 .left) true (f .short))
     (rw (f .number) at (c .refuse-change4 .ensures)) in
     (r .0, f .left ∙ r .1)
 

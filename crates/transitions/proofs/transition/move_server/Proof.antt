@@ -21,7 +21,8 @@ returns : tie.Need-returns
 returns c =
     let a = c .before .before .before .before .before .before .before .before .before .before .before .before .args in
     let x = c .before .before .before .move-change in
-    moved-applied crane (length (a .out .now)) (a .v) (transitionOf (a .table .now) (a .m)) (a .t1) (a .out .now) _ (x .result) (c .apply .result) (x .ensures) (c .apply .ensures)
+    moved-applied crane (length (a .out .now)) (a .v) (transitionOf (a .table .now) (a .m)) (a .t1) (a .out .now) _ (x .result)
+    (c .apply .result) (x .ensures) (c .apply .ensures)
 
 pub move-server-spec : {M : Type 1} → statement M
 move-server-spec = tie.close (tie.spec move-change-requires apply-requires same-length returns)

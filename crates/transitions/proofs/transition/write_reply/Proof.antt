@@ -26,7 +26,8 @@ returns c =
     let a = z .args in
     let q = c .before .before .before .before .before .before .before .reply-of in
     let w = c .before .before .write-message .ensures in
-    reply-placed (a .p) (a .table .now) (a .out .now) (a .m) (q .result) _ _ _ (q .ensures) (c .before .before .before .before .before .reply .given .1) (z .pre) (w .0 .same, w .1)
+    reply-placed (a .p) (a .table .now) (a .out .now) (a .m) (q .result) _ _ _ (q .ensures)
+    (c .before .before .before .before .before .reply .given .1) (z .pre) (w .0 .same, w .1)
 
 returns-2 : tie.Need-returns-2
 returns-2 c =

@@ -50,7 +50,9 @@ returns c =
     let marks = c .before .before .before .before .before .before .before .before .before .before .before .before .flags in
     let tail = h .config ∷ marks .result ∷ [] in
     let first = c .before .before .before .before .before .before .before .before .before .before .put-header .ensures in
-    let second = c .before .before .before .before .before .before .put-u16 .ensures ∙ put-then out header (octetsOf 2 (h .template)) _ 8 first refl (omega arith) in
+    let second =
+    c .before .before .before .before .before .before .put-u16 .ensures
+    ∙ put-then out header (octetsOf 2 (h .template)) _ 8 first refl (omega arith) in
     let third = sets-then out front tail _ 10 second refl in
     c .before .before .put-u32 .ensures
     ∙ put-then out (front ++ tail) (octetsOf 4 (h .dsn)) _ 12 third refl (omega arith)

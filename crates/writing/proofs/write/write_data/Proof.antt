@@ -44,7 +44,8 @@ returns-3 c =
     allowed _ _ _ _ _ refl (le-ltb _ _ (c .before .before .before .before .before .before .before .before .before .if1 .left))
     (placed _ _ _ (16 + length part) (data-length (a .head) part) room
     (c .before .before .copy-blocks .ensures
-    ∙ put-then (a .out .now) (dataHeadOctets (a .head) (length part)) part _ 16 (c .before .before .before .before .before .before .put-data-head .ensures) refl room
+    ∙ put-then (a .out .now) (dataHeadOctets (a .head) (length part)) part _ 16
+    (c .before .before .before .before .before .before .put-data-head .ensures) refl room
     ∙ ap (sets (a .out .now) 0) (sym (data-layout (a .head) part))))
 
 pub write-data-spec : {M : Type 1} → statement M

@@ -46,7 +46,10 @@ returns-2 c =
     let room = c .before .before .before .before .before .before .before .before .if1 .left in
     let header = headerOctetsOf dataAck (a .session) 16 in
     let dsn = octetsOf 4 (a .dsn) in
-    let front = c .before .before .put-u32 .ensures ∙ put-then (a .out .now) header dsn _ 8 (c .before .before .before .before .before .before .put-header .ensures) refl (omega arith) in
+    let front =
+    c .before .before .put-u32 .ensures
+    ∙ put-then (a .out .now) header dsn _ 8 (c .before .before .before .before .before .before .put-header .ensures) refl
+    (omega arith) in
     placed _ _ _ 16 refl room (sets-then (a .out .now) (header ++ dsn) (a .config ∷ 0 ∷ 0 ∷ 0 ∷ []) _ 12 front refl)
 
 pub write-data-ack-spec : {M : Type 1} → statement M

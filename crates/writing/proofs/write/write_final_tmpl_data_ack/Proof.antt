@@ -41,7 +41,8 @@ unfolding messageOf octetsIn
 returns-2 c =
     let a = c .before .before .before .before .before .before .args in
     placed _ _ _ 12 refl (c .before .before .before .before .if1 .left)
-    (sets-then (a .out .now) (headerOctetsOf finalTmplDataAck (a .session) 12) (a .config ∷ 0 ∷ 0 ∷ 0 ∷ []) _ 8 (c .before .before .put-header .ensures) refl)
+    (sets-then (a .out .now) (headerOctetsOf finalTmplDataAck (a .session) 12) (a .config ∷ 0 ∷ 0 ∷ 0 ∷ []) _ 8
+    (c .before .before .put-header .ensures) refl)
 
 pub write-final-tmpl-data-ack-spec : {M : Type 1} → statement M
 write-final-tmpl-data-ack-spec =

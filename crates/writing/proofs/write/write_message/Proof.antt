@@ -75,7 +75,8 @@ returns : tie.Need-returns
 unfolding layoutOf
 returns c =
     answered-with (written-number _ _ _)
-    (rw (c .before .before .before .before .before .message .given .1) (allowed _ _ _ _ _ refl refl (c .before .before .write-bare .ensures)))
+    (rw (c .before .before .before .before .before .message .given .1)
+    (allowed _ _ _ _ _ refl refl (c .before .before .write-bare .ensures)))
 
 same-length-2 : tie.Need-same-length-2
 same-length-2 c = search needs
@@ -84,7 +85,8 @@ returns-2 : tie.Need-returns-2
 unfolding layoutOf
 returns-2 c =
     answered-with (written-number _ _ _)
-    (rw (c .before .before .before .before .before .message2 .given .1) (allowed _ _ _ _ _ refl refl (c .before .before .write-start-ack .ensures)))
+    (rw (c .before .before .before .before .before .message2 .given .1)
+    (allowed _ _ _ _ _ refl refl (c .before .before .write-start-ack .ensures)))
 
 same-length-3 : tie.Need-same-length-3
 same-length-3 c = search needs
@@ -93,7 +95,8 @@ returns-3 : tie.Need-returns-3
 unfolding layoutOf
 returns-3 c =
     answered-with (written-number _ _ _)
-    (rw (c .before .before .before .before .before .message3 .given .1) (allowed _ _ _ _ _ refl refl (c .before .before .write-bare2 .ensures)))
+    (rw (c .before .before .before .before .before .message3 .given .1)
+    (allowed _ _ _ _ _ refl refl (c .before .before .write-bare2 .ensures)))
 
 same-length-4 : tie.Need-same-length-4
 same-length-4 c = search needs
@@ -102,7 +105,8 @@ returns-4 : tie.Need-returns-4
 unfolding layoutOf
 returns-4 c =
     answered-with (written-number _ _ _)
-    (rw (c .before .before .before .before .before .message4 .given .1) (allowed _ _ _ _ _ refl refl (c .before .before .write-bare3 .ensures)))
+    (rw (c .before .before .before .before .before .message4 .given .1)
+    (allowed _ _ _ _ _ refl refl (c .before .before .write-bare3 .ensures)))
 
 same-length-5 : tie.Need-same-length-5
 same-length-5 c = search needs
@@ -119,7 +123,8 @@ returns-6 : tie.Need-returns-6
 unfolding layoutOf
 returns-6 c =
     answered-with (written-number _ _ _)
-    (rw (c .before .before .before .before .before .message6 .given .1) (allowed _ _ _ _ _ refl refl (c .before .before .write-final-tmpl-data-ack .ensures)))
+    (rw (c .before .before .before .before .before .message6 .given .1)
+    (allowed _ _ _ _ _ refl refl (c .before .before .write-final-tmpl-data-ack .ensures)))
 
 same-length-7 : tie.Need-same-length-7
 same-length-7 c = search needs
@@ -128,7 +133,8 @@ returns-7 : tie.Need-returns-7
 unfolding layoutOf
 returns-7 c =
     answered-with (written-number _ _ _)
-    (rw (c .before .before .before .before .before .message7 .given .1) (allowed _ _ _ _ _ refl refl (c .before .before .write-bare4 .ensures)))
+    (rw (c .before .before .before .before .before .message7 .given .1)
+    (allowed _ _ _ _ _ refl refl (c .before .before .write-bare4 .ensures)))
 
 same-length-8 : tie.Need-same-length-8
 same-length-8 c = search needs
@@ -137,7 +143,8 @@ returns-8 : tie.Need-returns-8
 unfolding layoutOf
 returns-8 c =
     answered-with (written-number _ _ _)
-    (rw (c .before .before .before .before .before .message8 .given .1) (allowed _ _ _ _ _ refl refl (c .before .before .write-bare5 .ensures)))
+    (rw (c .before .before .before .before .before .message8 .given .1)
+    (allowed _ _ _ _ _ refl refl (c .before .before .write-bare5 .ensures)))
 
 same-length-9 : tie.Need-same-length-9
 same-length-9 c = search needs
@@ -154,7 +161,8 @@ returns-10 : tie.Need-returns-10
 unfolding layoutOf
 returns-10 c =
     answered-with (written-number _ _ _)
-    (rw (c .before .before .before .before .before .message10 .given .1) (allowed _ _ _ _ _ refl refl (c .before .before .write-data-ack .ensures)))
+    (rw (c .before .before .before .before .before .message10 .given .1)
+    (allowed _ _ _ _ _ refl refl (c .before .before .write-data-ack .ensures)))
 
 pub write-message-spec : {M : Type 1} → statement M
 write-message-spec =

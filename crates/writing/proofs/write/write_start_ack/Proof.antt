@@ -31,7 +31,9 @@ returns-2 c =
     let room = c .before .before .before .before .before .before .before .before .if1 .left in
     let header = headerOctetsOf startAck (a .session) 12 in
     placed _ _ _ 12 refl room
-    (c .before .before .put-u32 .ensures ∙ put-then (a .out .now) header (octetsOf 4 (a .boot-time)) _ 8 (c .before .before .before .before .before .before .put-header .ensures) refl room)
+    (c .before .before .put-u32 .ensures
+    ∙ put-then (a .out .now) header (octetsOf 4 (a .boot-time)) _ 8
+    (c .before .before .before .before .before .before .put-header .ensures) refl room)
 
 pub write-start-ack-spec : {M : Type 1} → statement M
 write-start-ack-spec =

@@ -33,7 +33,9 @@ returns-2 c =
     allowed _ _ _ _ _ sound refl (placed-short _ _ (omega (arith, message-length tmplData (a .session) (a .part .now))))
 
 cast-put-header : tie.Need-cast-put-header
-cast-put-header c = let f = table-facts _ (sym (c .before .before .table-sound .ensures) ∙ not-false _ (c .before .if1 .left)) in omega (arith, f .short)
+cast-put-header c =
+    let f = table-facts _ (sym (c .before .before .table-sound .ensures) ∙ not-false _ (c .before .if1 .left)) in
+    omega (arith, f .short)
 
 put-header-requires : tie.Need-put-header-requires
 put-header-requires c κs = search needs
@@ -50,7 +52,9 @@ returns-3 c =
     let a = c .before .before .before .before .before .before .before .before .before .before .before .before .before .args in
     let part = a .part .now in
     let room = c .before .before .before .before .before .before .before .before .if2 .left in
-    let sound = ap not (sym (c .before .before .before .before .before .before .before .before .before .before .table-sound .ensures)) ∙ c .before .before .before .before .before .before .before .before .before .if1 .left in
+    let sound =
+    ap not (sym (c .before .before .before .before .before .before .before .before .before .before .table-sound .ensures))
+    ∙ c .before .before .before .before .before .before .before .before .before .if1 .left in
     let header = headerOctetsOf tmplData (a .session) (8 + length part) in
     allowed _ _ _ _ _ sound refl
     (placed _ _ _ (8 + length part) (message-length tmplData (a .session) part) room
