@@ -51,15 +51,13 @@ same-length c = search needs
 
 returns : tie.Need-returns
 returns c =
-    let a =
-    c .before .before .before .before .before .before .before .before .before .before .before .before .before .before .before .before
-    .before .before .before .before .before .before .args in
+    let w = c .before .before .before .before .before .before in
+    let n = w .before .before .before .before in
+    let p = n .before .before .before .before .before .before .before .before in
+    let a = p .before .before .before .before .args in
     line-joined (a .text .now) (a .octets .now) _ _ _ _ _ (a .place) (a .answer) _ _ _ (omega arith)
-    (c .before .before .before .before .before .before .before .before .before .before .before .before .before .before .before .before
-    .before .before .write-decimal .ensures)
-    (c .before .before .before .before .before .before .before .before .before .before .before .before .before .before .put-u8 .ensures)
-    (c .before .before .before .before .before .before .before .before .before .before .write-decimal2 .ensures)
-    (c .before .before .before .before .before .before .write-written .ensures) (c .before .before .put-u82 .ensures)
+    (p .write-decimal .ensures) (n .before .before .before .before .put-u8 .ensures) (n .write-decimal2 .ensures)
+    (w .write-written .ensures) (c .before .before .put-u82 .ensures)
 
 pub store-line-spec : {M : Type 1} → statement M
 store-line-spec =

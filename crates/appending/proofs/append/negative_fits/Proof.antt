@@ -1,9 +1,10 @@
 -- `negative_fits` meets its contract: half of 256 to the w is half of the greatest number of w octets plus 1.
-use mathlib.Core.Path.{_≡_, sym, _∙_}
-use mathlib.Core.Bool.{true}
+use mathlib.Core.Path.{_≡_, sym, ap, _∙_}
+use mathlib.Core.Bool.{Bool, true, _&&_}
 use Prim.Native.Nat.{_-_, _≤_}
 use native.Mathlib.Omega.{arith}
 use borrow.Author.Tests.{not-true, not-false}
+use lib.Dec.{leb}
 use Rattle.field_types.specs.FieldTypes.{isSigned}
 use Rattle.appending.specs.Append.{negativeFits}
 use Rattle.field_types.proofs.TypeFacts.{number-width, signed-number}
@@ -39,7 +40,8 @@ returns-2 c =
     let s : isSigned (a .kind) ≡ true = sym (c .before .before .before .is-signed .ensures) ∙ not-false _ (c .before .before .if1 .left) in
     let w = c .before .width in
     let l : (1 ≤ w .result) × (w .result ≤ 8) = omega (arith, number-width (a .kind) (signed-number (a .kind) s), w .ensures) in
-    rw (s, ← (w .ensures), greatest-of (w .result) (l .1) (c .greatest .ensures), size-test (a .n) (w .result) (l .0))
+    rw (s, ← (w .ensures), greatest-of (w .result) (l .1) (c .greatest .ensures))
+    (ap (λ (b : Bool). leb 1 (a .n) && b) (size-test (a .n) (w .result) (l .0)))
 
 pub negative-fits-spec : {M : Type 1} → statement M
 negative-fits-spec =

@@ -10,7 +10,7 @@ read-header-requires : tie.Need-read-header-requires
 read-header-requires c κs = search needs
 
 returns : tie.Need-returns
-returns c = rw (← c .before .version-of .ensures) (c .read-header .ensures)
+returns c = rw (c .before .version-of .ensures) at (c .read-header .ensures)
 
 pub read-header-spec : {M : Type 1} → statement M
 read-header-spec = tie.close (tie.spec version-of-requires read-header-requires returns)

@@ -1,5 +1,6 @@
 -- `crane_open_answer` meets its contract, by the case of what opening answered. A start is answered 0, a refusal by its number.
-use mathlib.Core.Path.{sym, _∙_}
+use mathlib.Core.Path.{sym, ap, _∙_}
+use Rattle.wire.specs.Walk.{openAnswer}
 use borrow.Author.Needs.{needs}
 use Rattle.exports.proofs.fields.crane_open_answer.Statement.{statement}
 use Rattle.exports.proofs.fields.crane_open_answer.Tie as tie
@@ -14,10 +15,10 @@ enum-known-opened : tie.Need-enum-known-opened
 enum-known-opened c = search needs
 
 returns : tie.Need-returns
-returns c = rw (sym (c .before .before .open-walk .ensures .same) ∙ c .enum-told .given .1)
+returns c = ap openAnswer (sym (c .enum-told .given .1) ∙ c .before .before .open-walk .ensures .same)
 
 returns-2 : tie.Need-returns-2
-returns-2 c = rw (sym (c .before .before .before .open-walk .ensures .same) ∙ c .before .opened .given .1)
+returns-2 c = ap openAnswer (sym (c .before .opened .given .1) ∙ c .before .before .before .open-walk .ensures .same)
 
 pub crane-open-answer-spec : {M : Type 1} → statement M
 crane-open-answer-spec =

@@ -75,14 +75,12 @@ same-part m i w at at' part part' out answer p q r s =
 
 returns-2 : tie.Need-returns-2
 returns-2 c =
-    let a =
-    c .before .before .before .before .before .before .before .before .before .before .before .before .before .before .before .before
-    .args in
-    let read =
-    sym (c .before .before .before .before .before .before .before .before .before .before .before .before .before .read-message
-    .ensures .same) ∙ c .before .before .before .before .before .before .before .before .before .before .before .reading .given .1 in
-    let part = c .before .before .before .before .before .before .before .before .before .message-part .ensures .0 in
-    let wrote = c .before .before .before .before .before .before .before .write-message .ensures in
+    let w = c .before .before .before .before .before .before .before in
+    let r = w .before .before .before .before in
+    let a = r .before .before .before .before .before .args in
+    let read = sym (r .before .before .read-message .ensures .same) ∙ r .reading .given .1 in
+    let part = w .before .before .message-part .ensures .0 in
+    let wrote = w .write-message .ensures in
     let at = c .before .before .part-place .ensures in
     let number = c .before .before .before .before .written-number .ensures in
     let parts = c .one-of .ensures ∙ ap (λ (l : List ℕ). getD l (a .part) 0) (c .before .message-parts .ensures) in

@@ -1,6 +1,6 @@
 -- `content_of` meets its contract: by the number of the message its fields are read at their places; a number without a row says
 -- nothing that is asked for.
-use mathlib.Core.Path.{sym}
+use mathlib.Core.Path.{refl, sym}
 use Rattle.ipdr.specs.Messages.{contentBy, widthsOf}
 use Rattle.ipdr.proofs.Messages.{no-content}
 use borrow.Author.Needs.{needs}
@@ -71,7 +71,7 @@ returns-8 c = rw (c .before .match .keys8) (c .data-of .ensures)
 
 returns-9 : tie.Need-returns-9
 unfolding contentBy widthsOf
-returns-9 c = rw (c .before .before .match .keys9, ← c .get-u64 .ensures, ← c .before .get-u163 .ensures)
+returns-9 c = rw (c .before .before .match .keys9) (rw (c .before .get-u163 .ensures, c .get-u64 .ensures) refl)
 
 returns-10 : tie.Need-returns-10
 unfolding contentBy widthsOf

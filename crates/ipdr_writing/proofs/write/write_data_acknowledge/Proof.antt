@@ -1,6 +1,8 @@
 -- `write_data_acknowledge` meets its contract: header and fields are put one behind the other.
-use mathlib.Core.Path.{refl}
-use mathlib.Core.List.{[], _∷_}
+use mathlib.Core.Path.{refl, ap, _∙_}
+use mathlib.Core.List.{List, [], _∷_}
+use Prim.Native.Nat.{ℕ}
+use Rattle.octets.specs.Numbers.{octetsOf, putAt}
 use Rattle.ipdr.specs.Messages.{dataAcknowledge, numbers, widthsOf, isCounted}
 use Rattle.ipdr.proofs.Messages.{bare-short, bare-done}
 use borrow.Author.Needs.{needs}
@@ -43,10 +45,7 @@ returns-2 c =
     bare-done (numbers dataAcknowledge (a .session) (a .config-id ∷ a .sequence-num ∷ [])) part (a .out .now)
     (2 ∷ 8 ∷ []) refl refl _ _ (b12 .if1 .left)
     (b10 .put-header .ensures)
-    (rw (
-      ← b6 .put-u16 .ensures,
-      ← b2 .put-u64 .ensures,
-    ))
+    (b2 .put-u64 .ensures ∙ ap (λ (o : List ℕ). putAt o 10 (octetsOf 8 (a .sequence-num))) (b6 .put-u16 .ensures))
 
 pub write-data-acknowledge-spec : {M : Type 1} → statement M
 write-data-acknowledge-spec =

@@ -8,13 +8,13 @@ sub-if1 : tie.Need-sub-if1
 sub-if1 c = search needs
 
 returns : tie.Need-returns
-returns c = rw (lt-leb _ _ (c .if1 .taken))
+returns c = rw (lt-leb 8 _ (c .if1 .taken))
 
 data-head-requires : tie.Need-data-head-requires
 data-head-requires c κs = search needs
 
 returns-2 : tie.Need-returns-2
-returns-2 c = rw (le-leb _ _ (c .before .if1 .left), c .data-head .ensures)
+returns-2 c = rw (le-leb 8 _ (c .before .if1 .left), c .data-head .ensures)
 
 pub read-data-spec : {M : Type 1} → statement M
 read-data-spec = tie.close (tie.spec sub-if1 returns data-head-requires returns-2)

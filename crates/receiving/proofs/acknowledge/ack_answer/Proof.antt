@@ -25,20 +25,22 @@ returns-3 c =
 
 returns-4 : tie.Need-returns-4
 returns-4 c =
+    let a = c .before .before .before .before .before .before .before .before .args in
     rw (
       lt-leb _ _ (c .before .before .before .before .before .before .if1 .left),
       sym (c .before .before .before .before .before .same-active .ensures) ∙ not-false _ (c .before .before .before .before .if2 .left),
       eq-eqb _ _ (c .before .before .if3 .left),
-      lt-ltb _ _ (c .if4 .taken),
+      lt-ltb (a .d .reached) (a .n) (c .if4 .taken),
     )
 
 returns-5 : tie.Need-returns-5
 returns-5 c =
+    let a = c .before .before .before .before .before .before .before .before .args in
     rw (
       lt-leb _ _ (c .before .before .before .before .before .before .if1 .left),
       sym (c .before .before .before .before .before .same-active .ensures) ∙ not-false _ (c .before .before .before .before .if2 .left),
       eq-eqb _ _ (c .before .before .if3 .left),
-      le-ltb _ _ (c .if4 .left),
+      le-ltb (a .d .reached) (a .n) (c .if4 .left),
     )
 
 pub ack-answer-spec : {M : Type 1} → statement M

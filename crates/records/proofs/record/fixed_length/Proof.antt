@@ -33,7 +33,7 @@ returns-3 c =
       ← c .before .before .before .before .saturating-sub .ensures,
       le-ltb _ _ (c .before .before .before .if1 .left),
       eq-eqb _ _ (c .before .before .if2 .left),
-      lt-ltb _ _ (c .if3 .taken),
+      lt-ltb 1 _ (c .if3 .taken),
     )
 
 returns-4 : tie.Need-returns-4
@@ -45,7 +45,7 @@ returns-4 c =
       ← c .before .before .before .before .saturating-sub .ensures,
       le-ltb _ _ (c .before .before .before .if1 .left),
       eq-eqb _ _ (c .before .before .if2 .left),
-      le-ltb _ _ (c .if3 .left),
+      le-ltb 1 _ (c .if3 .left),
     )
 
 pub fixed-length-spec : {M : Type 1} → statement M

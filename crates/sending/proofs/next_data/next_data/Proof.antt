@@ -32,10 +32,9 @@ same-length c = search needs
 
 returns : tie.Need-returns
 returns c =
-    let a =
-    c .before .before .before .before .before .before .before .before .before .before .before .before .before .before .before .before
-    .args in
-    let x = c .before .before .before .before .next-change in
+    let b = c .before .before .before .before in
+    let a = b .before .before .before .before .before .before .before .before .before .before .before .before .args in
+    let x = b .next-change in
     (sent-applied (a .s) (a .store .now) (a .out .now) (x .result) (x .ensures .0), x .ensures .1)
 
 pub next-data-spec : {M : Type 1} → statement M

@@ -28,22 +28,24 @@ returns-3 c =
 
 returns-4 : tie.Need-returns-4
 returns-4 c =
+    let a = c .before .before .before .before .before .before .before .args in
     rw (
       sym (c .before .before .before .before .before .before .parts-sound .ensures)
           ∙ not-false _ (c .before .before .before .before .before .if1 .left),
       eq-eqb _ _ (c .before .before .before .before .if2 .left),
       sym (c .before .before .before .is-nobody .ensures) ∙ c .before .before .if3 .left,
-      le-leb _ _ (c .if4 .taken),
+      le-leb (a .count) (a .d .sent) (c .if4 .taken),
     )
 
 returns-5 : tie.Need-returns-5
 returns-5 c =
+    let a = c .before .before .before .before .before .before .before .args in
     rw (
       sym (c .before .before .before .before .before .before .parts-sound .ensures)
           ∙ not-false _ (c .before .before .before .before .before .if1 .left),
       eq-eqb _ _ (c .before .before .before .before .if2 .left),
       sym (c .before .before .before .is-nobody .ensures) ∙ c .before .before .if3 .left,
-      lt-leb _ _ (c .if4 .left),
+      lt-leb (a .count) (a .d .sent) (c .if4 .left),
     )
 
 pub send-answer-spec : {M : Type 1} → statement M

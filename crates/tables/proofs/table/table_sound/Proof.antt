@@ -4,14 +4,14 @@ use mathlib.Core.Path.{sym, _∙_}
 use native.Mathlib.Omega.{arith}
 use Prim.Native.Nat.{_-_, _≤_, _<_}
 use borrow.Author.Tests.{le-leb, lt-leb, not-true, not-false}
-use Rattle.tables.specs.Table.{templateCount, tableSound}
+use Rattle.tables.specs.Table.{maxTableOctets, templateCount, tableSound}
 use borrow.Author.Needs.{needs}
 use Rattle.tables.proofs.table.table_sound.Statement.{statement}
 use Rattle.tables.proofs.table.table_sound.Tie as tie
 
 returns : tie.Need-returns
 unfolding tableSound
-returns c = rw (lt-leb _ _ (c .if1 .taken))
+returns c = rw (lt-leb _ maxTableOctets (c .if1 .taken))
 
 get-u8-requires : tie.Need-get-u8-requires
 get-u8-requires c κs = search needs
@@ -23,7 +23,11 @@ returns-2 : tie.Need-returns-2
 unfolding tableSound
 returns-2 c =
     let f = c .before in
-    rw (le-leb _ _ (f .before .before .if1 .left), ← f .before .get-u8 .ensures, sym (f .flags-sound .ensures) ∙ not-true _ (c .if2 .taken))
+    rw (
+      le-leb _ maxTableOctets (f .before .before .if1 .left),
+      ← f .before .get-u8 .ensures,
+      sym (f .flags-sound .ensures) ∙ not-true _ (c .if2 .taken),
+    )
 
 get-u16-requires : tie.Need-get-u16-requires
 get-u16-requires c κs = search needs
@@ -38,7 +42,7 @@ returns-3 c =
     let f = d .before in
     let h : templateCount (f .before .before .before .before .args .t .now) < 1 = omega arith in
     rw (
-      le-leb _ _ (f .before .before .if1 .left),
+      le-leb _ maxTableOctets (f .before .before .if1 .left),
       ← f .before .get-u8 .ensures,
       sym (f .flags-sound .ensures) ∙ not-false _ (d .if2 .left),
       lt-leb 1 _ h,
@@ -53,7 +57,7 @@ returns-4 c =
     let h : 1 ≤ n = omega arith in
     let m : 8 < n = omega arith in
     rw (
-      le-leb _ _ (f .before .before .if1 .left),
+      le-leb _ maxTableOctets (f .before .before .if1 .left),
       ← f .before .get-u8 .ensures,
       sym (f .flags-sound .ensures) ∙ not-false _ (d .if2 .left),
       le-leb 1 _ h,
@@ -72,7 +76,7 @@ returns-5 c =
     let h : 1 ≤ n = omega arith in
     let m : n ≤ 8 = omega arith in
     rw (
-      le-leb _ _ (f .before .before .if1 .left),
+      le-leb _ maxTableOctets (f .before .before .if1 .left),
       ← f .before .get-u8 .ensures,
       sym (f .flags-sound .ensures) ∙ not-false _ (d .if2 .left),
       le-leb 1 _ h,

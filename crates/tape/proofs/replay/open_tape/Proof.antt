@@ -61,23 +61,17 @@ saturating-sub-requires c κs = search needs
 
 returns-2 : tie.Need-returns-2
 returns-2 c =
-    let a =
-    c .before .before .before .before .before .before .before .before .before .before .before .before .before .before .before .before
-    .args in
-    let m = c .before .before .before .before .before .before .before .before .before .before .before .set-up .result in
-    let u =
-    done-sound (a .tape .now) _ (c .before .before .before .before .before .before .before .tape-answer .ensures)
-    (c .before .before .before .before .before .before .if1 .left) in
+    let j = c .before .before .before .before .before .before in
+    let s = j .before .before .before .before .before in
+    let a = s .before .before .before .before .before .args in
+    let m = s .set-up .result in
+    let u = done-sound (a .tape .now) _ (j .before .tape-answer .ensures) (j .if1 .left) in
     let l =
     printed-whole (a .text .now) (lineOf 0 (m .answer) []) (lineOctets 0) _ _ (omega arith)
     (c .before .before .before .before .write-line .ensures) in
     open-turn (a .tape .now) (a .store .now) m _ _ (lineOf 0 (m .answer) []) _ _ _
-    (c .before .before .before .before .before .before .before .before .before .before .before .set-up .ensures
-    ∙ rw (
-      c .before .before .before .before .before .before .before .before .before .before .before .before .settings-of .ensures,
-      c .before .before .before .before .before .before .before .before .before .before .before .before .before .body .ensures,
-    ) refl)
-    (c .before .before .before .before .before .before .before .before .before .body-at .ensures) (rw u refl)
+    (s .set-up .ensures ∙ rw (s .before .settings-of .ensures, s .before .before .body .ensures) refl)
+    (j .before .before .before .body-at .ensures) (rw u refl)
     (rw (u, eq-eqb _ _ (c .before .before .if2 .taken)) (c .saturating-sub .ensures ∙ rw (c .before .event-count .ensures) refl)) (l .0)
     (l .1)
 

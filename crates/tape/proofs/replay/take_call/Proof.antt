@@ -33,8 +33,8 @@ write-line-requires c κs = search needs
 
 sub-left : tie.Need-sub-left
 sub-left c =
-    c .before .before .before .before .before .before .before .before .before .before .before .before .before .before .before .before
-    .before .before .before .before .before .before .before .pre .some
+    let w = c .before .before .before .before .before .before .before .before .before .before .before in
+    w .before .before .before .before .before .before .before .before .before .before .before .before .pre .some
 
 same-length : tie.Need-same-length
 same-length c = search needs

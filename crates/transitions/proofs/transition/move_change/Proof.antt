@@ -1,7 +1,7 @@
 -- `move_change` meets its contract, refusal by refusal: 1, 2, the transition's own, and 12 where its message does not fit. What is refused
 -- changes nothing. Else the message that was written is the definition's, and the choice is made anew.
 use mathlib.Core.List.{[]}
-use mathlib.Core.Path.{_∙_}
+use mathlib.Core.Path.{sym, _∙_}
 use mathlib.Core.Bool.{true, false}
 use native.Mathlib.Omega.{arith}
 use borrow.Author.Tests.{le-leb, lt-leb}
@@ -98,62 +98,47 @@ same-length c = search needs
 
 returns-4 : tie.Need-returns-4
 returns-4 c =
-    let a =
-    c .before .before .before .before .before .before .before .before .before .before .before .before .before .before .before .before
-    .before .before .before .args in
+    let told = c .before .before .before in
+    let wrote = told .before .before .before .before in
+    let tested = wrote .before .before in
+    let judged = tested .before in
+    let known = judged .before .before .before in
+    let sound = known .before .before in
+    let a = sound .before .before .before .before .args in
     let s = stateOf (a .p) (a .capacity) (a .d) (a .due) (a .count) (a .lengths .now) [] (a .receivers .now) (a .start) 0 in
     let t = transitionOf (a .table .now) (a .m) in
-    let f =
-    fitted _ _ _ _ (rw (c .before .before .before .reply .given .1) at (c .before .before .before .before .before .before .before
-    .write-reply .ensures)) in
-    let e =
-    passed-sound s (c .before .before .before .before .before .before .before .before .before .before .before .before .before .before
-    .before .before .parts-sound .result)
-    (c .before .before .before .before .before .before .before .before .before .before .before .before .before .before .before .before
-    .parts-sound .ensures) (c .before .before .before .before .before .before .before .before .before .before .before .before .before
-    .before .before .if1 .left) in
-    let q =
-    rw (c .before .before .before .before .before .before .before .before .before .before .before .phase-at .ensures) at (c .before
-    .before .before .before .before .before .before .before .before .before .turn-answer .ensures) in
+    let f = fitted _ _ _ _ (rw (told .reply .given .1) at (wrote .write-reply .ensures)) in
+    let e = passed-sound s (sound .before .parts-sound .result) (sound .before .parts-sound .ensures) (sound .if1 .left) in
+    let q = rw (judged .before .phase-at .ensures) at (judged .turn-answer .ensures) in
     moved-change crane (length (a .out .now)) (a .v) t s (a .out .now) _ _ (c .settle-change .result)
-    (move-roomed (length (a .out .now)) (a .v) t s
-    (c .before .before .before .before .before .before .before .before .before .before .turn-answer .result) e
-    (lt-leb (a .p .servers) (a .v)
-    (c .before .before .before .before .before .before .before .before .before .before .before .before .before .if2 .left)) q
-    (c .before .before .before .before .before .before .before .before .before .if3 .left) false (f .fits))
-    (f .many) (f .left) (rw
-    (c .before .move-delivery .ensures, any-table (a .v) (a .m) (a .table .now) (a .d .servers)) at (c .settle-change .ensures))
+    (move-roomed (length (a .out .now)) (a .v) t s (judged .turn-answer .result) e (lt-leb (a .p .servers) (a .v) (known .if2 .left)) q
+    (tested .if3 .left) false (f .fits))
+    (f .many) (f .left)
+    (rw (c .before .move-delivery .ensures, any-table (a .v) (a .m) (a .table .now) (a .d .servers)) at (c .settle-change .ensures))
 
 same-length-2 : tie.Need-same-length-2
 same-length-2 c = search needs
 
 returns-5 : tie.Need-returns-5
 returns-5 c =
-    let a =
-    c .before .before .before .before .before .before .before .before .before .before .before .before .before .before .before .before
-    .before .before .args in
+    let told = c .before .before in
+    let wrote = told .before .before .before .before in
+    let tested = wrote .before .before in
+    let judged = tested .before in
+    let known = judged .before .before .before in
+    let sound = known .before .before in
+    let a = sound .before .before .before .before .args in
     let s = stateOf (a .p) (a .capacity) (a .d) (a .due) (a .count) (a .lengths .now) [] (a .receivers .now) (a .start) 0 in
     let t = transitionOf (a .table .now) (a .m) in
-    let f =
-    unfitted _ _ _ _ (rw (c .before .before .reply2 .given .1) at (c .before .before .before .before .before .before .write-reply
-    .ensures)) in
-    let e =
-    passed-sound s (c .before .before .before .before .before .before .before .before .before .before .before .before .before .before
-    .before .parts-sound .result)
-    (c .before .before .before .before .before .before .before .before .before .before .before .before .before .before .before
-    .parts-sound .ensures) (c .before .before .before .before .before .before .before .before .before .before .before .before .before
-    .before .if1 .left) in
-    let q =
-    rw (c .before .before .before .before .before .before .before .before .before .before .phase-at .ensures) at (c .before .before
-    .before .before .before .before .before .before .before .turn-answer .ensures) in
+    let f = unfitted _ _ _ _ (rw (told .reply2 .given .1) at (wrote .write-reply .ensures)) in
+    let e = passed-sound s (sound .before .parts-sound .result) (sound .before .parts-sound .ensures) (sound .if1 .left) in
+    let q = rw (judged .before .phase-at .ensures) at (judged .turn-answer .ensures) in
     let r =
-    refused-change crane (length (a .out .now)) (move (a .v) t) s (a .out .now) 12 (c .refuse-change4 .result) (λ z. omega arith)
-    (move-roomed (length (a .out .now)) (a .v) t s
-    (c .before .before .before .before .before .before .before .before .before .turn-answer .result) e
-    (lt-leb (a .p .servers) (a .v)
-    (c .before .before .before .before .before .before .before .before .before .before .before .before .if2 .left)) q
-    (c .before .before .before .before .before .before .before .before .if3 .left) true (f .short))
-    (rw (f .number) at (c .refuse-change4 .ensures)) in
+    refused-change crane (length (a .out .now)) (move (a .v) t) s (a .out .now) _ (c .refuse-change4 .result)
+    (λ z. omega (arith, f .number))
+    (move-roomed (length (a .out .now)) (a .v) t s (judged .turn-answer .result) e (lt-leb (a .p .servers) (a .v) (known .if2 .left)) q
+    (tested .if3 .left) true (f .short) ∙ sym (f .number))
+    (c .refuse-change4 .ensures) in
     (r .0, f .left ∙ r .1)
 
 pub move-change-spec : {M : Type 1} → statement M

@@ -3,7 +3,7 @@
 use borrow.Author.Tests.{lt-ltb, le-ltb}
 use lib.ListN.{length}
 use Rattle.octets.proofs.Judging.{answered-with}
-use Rattle.messages.specs.Messages.{headWriteAnswer, headWriteOf, headWriteOut}
+use Rattle.messages.specs.Messages.{maxRecordOctets, headWriteAnswer, headWriteOf, headWriteOut}
 use Rattle.messages.proofs.RoundTrip.{head-number}
 use borrow.Author.Needs.{needs}
 use Rattle.writing.proofs.write.write_data_head.Statement.{statement}
@@ -13,7 +13,8 @@ returns : tie.Need-returns
 unfolding headWriteAnswer headWriteOf headWriteOut
 returns c =
     let a = c .before .before .args in
-    answered-with (head-number (a .len) (length (a .out .now))) (rw (lt-ltb _ _ (c .if1 .taken)), rw (lt-ltb _ _ (c .if1 .taken)))
+    let long = lt-ltb maxRecordOctets (a .len) (c .if1 .taken) in
+    answered-with (head-number (a .len) (length (a .out .now))) (rw long, rw long)
 
 add-total : tie.Need-add-total
 add-total c = search needs
@@ -21,7 +22,7 @@ add-total c = search needs
 returns-2 : tie.Need-returns-2
 unfolding headWriteAnswer headWriteOf headWriteOut
 returns-2 c =
-    let few = le-ltb _ _ (c .before .if1 .left) in
+    let few = le-ltb maxRecordOctets _ (c .before .if1 .left) in
     let short = lt-ltb _ _ (c .if2 .taken) in
     let a = c .before .before .before .args in
     answered-with (head-number (a .len) (length (a .out .now))) (rw (few, short), rw (few, short))
@@ -35,7 +36,7 @@ same-length c = search needs
 returns-3 : tie.Need-returns-3
 unfolding headWriteAnswer headWriteOf headWriteOut
 returns-3 c =
-    let few = le-ltb _ _ (c .before .before .before .before .before .if1 .left) in
+    let few = le-ltb maxRecordOctets _ (c .before .before .before .before .before .if1 .left) in
     let room = le-ltb _ _ (c .before .before .before .before .if2 .left) in
     let a = c .before .before .before .before .before .before .before .args in
     answered-with (head-number (a .len) (length (a .out .now))) (rw (few, room), rw (few, room) (c .before .before .put-data-head .ensures))
