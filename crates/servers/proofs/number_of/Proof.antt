@@ -1,0 +1,20 @@
+-- `number_of` meets its contract, by the case of the choice.
+use mathlib.Core.Path.{refl}
+use borrow.Author.Needs.{needs}
+use Rattle.servers.proofs.number_of.Statement.{statement}
+use Rattle.servers.proofs.number_of.Tie as tie
+
+enum-told : tie.Need-enum-told
+enum-told c = search needs
+
+enum-known-a : tie.Need-enum-known-a
+enum-known-a c = search needs
+
+returns : tie.Need-returns
+returns c = rw (c .enum-told .given .1) refl
+
+returns-2 : tie.Need-returns-2
+returns-2 c = search needs
+
+pub number-of-spec : {M : Type 1} → statement M
+number-of-spec = tie.close (tie.spec enum-told enum-known-a returns returns-2)
