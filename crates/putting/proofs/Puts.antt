@@ -15,9 +15,10 @@ use Rattle.octets.proofs.Judging.{passed, judged-first, judged-next}
 use Rattle.octets.proofs.Each.{and-left, and-right}
 use Rattle.wire.specs.Table.{tableSound, configurationId, isMissing, templateOf}
 use Rattle.wire.specs.Record.{recordValid, recordAnswer}
-use Rattle.wire.specs.Replies.{crane}
+use Rattle.wire.specs.Replies.{silent, crane}
 use Rattle.session.specs.Sound.{sound}
-use Rattle.session.specs.Steps.{put, answer, checks, soundFor, after, storeAfter, putStep, steppedOf, recordChecks, roomChecks}
+use Rattle.session.specs.Steps.{put, answer, checks, soundFor, withDue, after, settled, storeAfter, Outcome, step, putStep, steppedOf}
+use Rattle.session.specs.Steps.{recordChecks, roomChecks, written}
 use Rattle.session.specs.Queue.{heldOctets, ringWrite, pushed}
 use Rattle.putting.specs.Puttings.{puttingOf}
 use Rattle.putting.specs.declared.put.Putting.{Putting}
@@ -170,6 +171,34 @@ withPut s c =
       next = c .next;
     }
 
+-- what a put looks at of a state: not whether S is due
+abbrev putParts : State → State
+putParts s = withDue s (s .delivery) false
+
+-- so it changes the same, and leaves the same store
+put-parts : (s : State) (store table : List ℕ) (id : ℕ) (r : List ℕ)
+    → (puttingOf (putParts s) id r (putStep (putParts s) store table id r) ≡ puttingOf s id r (putStep s store table id r))
+    × (putStep (putParts s) store table id r .store ≡ putStep s store table id r .store)
+unfolding step answer checks sound after settled storeAfter written
+put-parts s store table id r = go (answer crane 0 (put table id r) s store) (eqb (answer crane 0 (put table id r) s store) done)
+  where
+    outcome : State → ℕ → Bool → Outcome
+    outcome s a b =
+        cond b
+        (record {
+          answer = done;
+          state = settled (after 32 (put table id r) s);
+          store = storeAfter (put table id r) s store;
+          written = silent;
+        })
+        (record { answer = a; state = s; store = store; written = silent })
+
+    go : (a : ℕ) (b : Bool)
+        → (puttingOf (putParts s) id r (outcome (putParts s) a b) ≡ puttingOf s id r (outcome s a b))
+        × (outcome (putParts s) a b .store ≡ outcome s a b .store)
+    go a true = (refl, refl)
+    go a false = (refl, refl)
+
 module _ (s : State) (store table : List ℕ) (id : ℕ) (r : List ℕ) where
   -- an outcome's change is made to one of the 64 entries
   putting-place : puttingOf s id r (putStep s store table id r) .place < 64
@@ -183,8 +212,8 @@ module _ (s : State) (store table : List ℕ) (id : ℕ) (r : List ℕ) where
           rw (step-refused crane 0 (put table id r) s store _ (eqb-false (answer crane 0 (put table id r) s store) done q) refl, q)
           (omega arith)
 
-  pub putting-inside : (x : Putting) → x ≡ puttingOf s id r (putStep s store table id r) → x .place < 64
-  putting-inside x e = rw e putting-place
+  pub putting-inside : (x : Putting) → x ≡ puttingOf (putParts s) id r (putStep (putParts s) store table id r) → x .place < 64
+  putting-inside x e = rw (e ∙ put-parts s store table id r .0) putting-place
 
   -- the state with an outcome's change is the outcome's
   putting-applied : _≡_ {A = Stepped}
@@ -218,6 +247,11 @@ module _ (s : State) (store table : List ℕ) (id : ℕ) (r : List ℕ) where
             set-getD (s .queue .receivers) 0 0,
           )
 
-  pub put-applied : (x : Putting) → x ≡ puttingOf s id r (putStep s store table id r)
+  pub put-applied : (x : Putting) (left : List ℕ)
+      → (x ≡ puttingOf (putParts s) id r (putStep (putParts s) store table id r))
+      × (left ≡ putStep (putParts s) store table id r .store)
       → _≡_ {A = Stepped} (record { answer = x .answer; state = withPut s x }) (steppedOf (putStep s store table id r))
-  put-applied x e = rw e putting-applied
+      × (left ≡ putStep s store table id r .store)
+  put-applied x left e =
+      let same = put-parts s store table id r in
+      (rw (e .0 ∙ same .0) putting-applied, e .1 ∙ same .1)

@@ -1,7 +1,7 @@
 // Putting a record into the queue.
 ghost use mathlib.Core.Path.{_≡_};
 ghost use mathlib.Core.List.{_∷_, _++_};
-ghost use mathlib.Core.Bool.{not};
+ghost use mathlib.Core.Bool.{false, not};
 ghost use Rattle.octets.specs.Answers.{_when_, judge, unsoundState};
 ghost use Rattle.putting.specs.Puttings.{puttingOf};
 ghost use Rattle.soundness.specs.Parts.{stateOf};
@@ -109,7 +109,6 @@ fn put_change<'a, 'b, 'c>(
     p: Settings,
     capacity: usize,
     d: Delivery,
-    due: bool,
     count: usize,
     lengths: &'a [u16; MAX_HELD],
     templates: &'a [u16; MAX_HELD],
@@ -122,20 +121,11 @@ fn put_change<'a, 'b, 'c>(
     r: &'c [u8],
 ) -> Putting
     ensures { λ x. ⌜
-        (let s = stateOf p capacity d due count (now (lengths .entry)) (now (templates .entry)) (now (receivers .entry)) start next in
+        (let s = stateOf p capacity d false count (now (lengths .entry)) (now (templates .entry)) (now (receivers .entry)) start next in
         let o = putStep s (now (store .entry)) (now (table .entry)) id (now (r .entry)) in
         (x ≡ puttingOf s id (now (r .entry)) o) × (now (store .exit) ≡ o .store)) ⌝ }
 {
-    let sound = soundness::sound::parts_sound(
-        p,
-        capacity,
-        d,
-        due,
-        count,
-        lengths,
-        receivers,
-        start,
-    );
+    let sound = soundness::sound::parts_sound(p, capacity, d, count, lengths, receivers, start);
     let held = queue::octets_to(lengths, count);
     let usable = sound & (store.len() == capacity);
     let answer = put_answer(usable, p, capacity, count, held, table, id, r);
@@ -169,7 +159,6 @@ pub fn put(s: State, store: &mut [u8], table: &[u8], id: u16, r: &[u8]) -> Stepp
         p,
         s.capacity,
         d,
-        s.due,
         s.queue.count,
         &lengths,
         &templates,

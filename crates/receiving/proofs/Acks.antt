@@ -2,7 +2,7 @@
 -- accepted acknowledgement keeps servers and choice, so what it leaves by parts is what the step leaves. A refused one releases no record
 -- and changes nothing.
 use mathlib.Core.Path.{_≡_, refl, sym, ap, _∙_}
-use mathlib.Core.Bool.{Bool, true, false, cond}
+use mathlib.Core.Bool.{Bool, true, false, cond, _&&_, and-true}
 use mathlib.Core.List.{List, [], append-nil}
 use Prim.Native.Nat.{ℕ, _+_, _-_, _%_, _≤_, _<_}
 use native.Mathlib.Nat.{add-assoc, add-sub-of-le, mod-add-mod, add-mod-right, mod-eq-of-lt, le-of-lt, sub-zero}
@@ -86,7 +86,7 @@ releasedFrom s c =
       settings = s .settings;
       capacity = s .capacity;
       delivery = withCounts (s .delivery) (c .sent) (c .reached) (c .timer);
-      due = s .due;
+      due = s .due && eqb (c .released) 0;
       queue = dropFront (s .queue) (c .released);
       start = c .start;
       next = s .next;
@@ -167,10 +167,10 @@ module _ (enc : Encoding) (v dsn config : ℕ) (s : State) where
 -- the parts of a state that a DATA ACK looks at
 abbrev ackParts : State → State
 ackParts s =
-    stateOf (s .settings) (s .capacity) (s .delivery) (s .due) (s .queue .count) (s .queue .lengths) [] (s .queue .receivers) (s .start)
+    stateOf (s .settings) (s .capacity) (s .delivery) false (s .queue .count) (s .queue .lengths) [] (s .queue .receivers) (s .start)
     (s .next)
 
--- soundness looks at neither the template IDs nor the next DSN
+-- soundness looks at no template ID, no next DSN and not at S
 pub ack-sound-parts : (s : State) → sound (partsIn s) ≡ sound (ackParts s)
 unfolding sound
 ack-sound-parts s = refl
@@ -234,6 +234,7 @@ module _ (enc : Encoding) (v dsn config : ℕ) (s : State) where
             step-refused enc 0 (ack v dsn config) s [] (answer enc 0 (ack v dsn config) s []) h refl,
             q,
             dropped-none (s .queue),
+            and-true (s .due),
           )
 
 -- ---- the output

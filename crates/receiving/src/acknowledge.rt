@@ -1,5 +1,6 @@
 // DATA ACK: a server acknowledges records, which are released from the front of the queue.
 ghost use mathlib.Core.Path.{_≡_};
+ghost use mathlib.Core.Bool.{false};
 ghost use mathlib.Core.List.{[]};
 ghost use Prim.Native.Nat.{_≤_, _<_};
 ghost use Rattle.octets.specs.Answers.{judge, done};
@@ -129,7 +130,6 @@ fn ack_change<'a>(
     p: Settings,
     capacity: usize,
     d: Delivery,
-    due: bool,
     count: usize,
     lengths: &'a [u16; MAX_HELD],
     receivers: &'a [u16; MAX_HELD],
@@ -140,10 +140,10 @@ fn ack_change<'a>(
     config: u8,
 ) -> AckChange
     ensures { λ r. ⌜
-        (let s = stateOf p capacity d due count (now (lengths .entry)) [] (now (receivers .entry)) start next in
+        (let s = stateOf p capacity d false count (now (lengths .entry)) [] (now (receivers .entry)) start next in
         r ≡ ackChangeOf (ackCountBy 32 next count dsn) (step crane 0 (ack v dsn config) s [])) ⌝ }
 {
-    if !soundness::sound::parts_sound(p, capacity, d, due, count, lengths, receivers, start) {
+    if !soundness::sound::parts_sound(p, capacity, d, count, lengths, receivers, start) {
         return refuse_ack(Answer::UNSOUND_STATE, d, start);
     }
     let n = ack_count(next, count, dsn) as usize;
@@ -166,7 +166,6 @@ pub(crate) fn acknowledge(s: State, v: u8, dsn: u32, config: u8) -> Wrote
         p,
         s.capacity,
         d,
-        s.due,
         s.queue.count,
         &lengths,
         &receivers,
@@ -177,10 +176,12 @@ pub(crate) fn acknowledge(s: State, v: u8, dsn: u32, config: u8) -> Wrote
         config,
     );
     let queue = crate::release::queue_after(s.queue, change.released);
+    let due = s.due & (change.released == 0);
     let mut state = s;
     state.delivery.sent = change.sent;
     state.delivery.reached = change.reached;
     state.delivery.timer = change.timer;
+    state.due = due;
     state.queue = queue;
     state.start = change.start;
     Wrote {

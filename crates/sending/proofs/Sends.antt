@@ -187,7 +187,6 @@ sendingBy s r =
           (getD (s .queue .receivers) 0 0);
       sent = r .state .delivery .sent;
       reached = r .state .delivery .reached;
-      due = r .state .due;
     }
 
 -- the change that a sending of n octets makes
@@ -200,7 +199,6 @@ sentOctets s n =
       set = markedSet (s .delivery .active) (getD (s .queue .receivers) (s .delivery .sent) 0);
       sent = s .delivery .sent + 1;
       reached = max (s .delivery .reached) (s .delivery .sent + 1);
-      due = false;
     }
 
 advanced : (s : State) (n : ℕ) → sound s ≡ true
@@ -227,7 +225,6 @@ pub sending-refused : (s : State) (store out after' octets : List ℕ) (r : Writ
       set = getD (s .queue .receivers) 0 0;
       sent = s .delivery .sent;
       reached = s .delivery .reached;
-      due = s .due;
     }
     → (x ≡ sendingOf s (nextDataStep s store out)) × (after' ≡ outputAfter out (nextDataStep s store out))
 sending-refused s store out after' octets r a x f o q p e =
@@ -247,7 +244,6 @@ sending-refused s store out after' octets r a x f o q p e =
           set = getD (s .queue .receivers) 0 0;
           sent = s .delivery .sent;
           reached = s .delivery .reached;
-          due = s .due;
         })
         (sendingBy s (record { answer = a; written = 0; state = s }))
     kept t = rw t
@@ -261,7 +257,6 @@ pub sending-kept : (s : State) (store out : List ℕ) (a : ℕ) (x : Sending) �
       set = getD (s .queue .receivers) 0 0;
       sent = s .delivery .sent;
       reached = s .delivery .reached;
-      due = s .due;
     }
     → (x ≡ sendingOf s (nextDataStep s store out)) × (out ≡ outputAfter out (nextDataStep s store out))
 sending-kept s store out a x h e q =
@@ -288,7 +283,7 @@ withSent s c =
       settings = s .settings;
       capacity = s .capacity;
       delivery = withCounts (s .delivery) (c .sent) (c .reached) (s .delivery .timer);
-      due = c .due;
+      due = s .due;
       queue = record {
         count = s .queue .count;
         lengths = s .queue .lengths;

@@ -32,5 +32,4 @@ sendingOf s o =
       set = cond accepted (markedSet (s .delivery .active) (getD sets (s .delivery .sent) 0)) (getD sets 0 0);
       sent = o .state .delivery .sent;
       reached = o .state .delivery .reached;
-      due = o .state .due;
     }

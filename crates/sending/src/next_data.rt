@@ -26,7 +26,7 @@ use wire::message::DataHead;
 use wire::message::Written;
 
 // A sending's answer, how many octets it wrote, the place of its record with the set of servers that this was sent to, and what it leaves
-// of the delivery's counters and S.
+// of the delivery's counters.
 pub struct Sending {
     // 0, or the number of the refusal
     pub answer: u8,
@@ -40,8 +40,6 @@ pub struct Sending {
     pub sent: usize,
     // how many records were reached
     pub reached: usize,
-    // whether S is due
-    pub due: bool,
 }
 
 // 0 where there is a record to send and a server to send it to, by the parts of the state that soundness looks at and the length of the
@@ -50,7 +48,6 @@ fn send_answer<'a>(
     p: Settings,
     capacity: usize,
     d: Delivery,
-    due: bool,
     count: usize,
     lengths: &'a [u16; MAX_HELD],
     receivers: &'a [u16; MAX_HELD],
@@ -58,10 +55,10 @@ fn send_answer<'a>(
     stored: usize,
 ) -> u8
     ensures { λ a. ⌜
-        (let s = stateOf p capacity d due count (now (lengths .entry)) [] (now (receivers .entry)) start 0 in
+        (let s = stateOf p capacity d false count (now (lengths .entry)) [] (now (receivers .entry)) start 0 in
         a ≡ judge ((unsoundState when not (sound s && eqb stored capacity)) ∷ sendChecks d count)) ⌝ }
 {
-    if !soundness::sound::parts_sound(p, capacity, d, due, count, lengths, receivers, start) {
+    if !soundness::sound::parts_sound(p, capacity, d, count, lengths, receivers, start) {
         return Answer::UNSOUND_STATE;
     }
     if stored != capacity {
@@ -115,7 +112,7 @@ fn next_head<'a>(
         session: p.session,
         template: templates[i],
         config: p.config,
-        first: due,
+        first: due & (i == 0),
         duplicate: is_duplicate(p, active, receivers[i]),
         dsn: dsn_at(next, count, i),
     }
@@ -160,8 +157,8 @@ fn larger(a: usize, b: usize) -> usize
 }
 
 // What a refused sending changes: nothing. The set of the first record stays as it is.
-fn refuse_sending(answer: u8, d: Delivery, due: bool, set: u16) -> Sending
-    ensures { λ r. ⌜ r ≡ record { answer = answer; written = 0; place = 0; set = set; sent = d .sent; reached = d .reached; due = due } ⌝ }
+fn refuse_sending(answer: u8, d: Delivery, set: u16) -> Sending
+    ensures { λ r. ⌜ r ≡ record { answer = answer; written = 0; place = 0; set = set; sent = d .sent; reached = d .reached } ⌝ }
 {
     Sending {
         answer,
@@ -170,7 +167,6 @@ fn refuse_sending(answer: u8, d: Delivery, due: bool, set: u16) -> Sending
         set,
         sent: d.sent,
         reached: d.reached,
-        due,
     }
 }
 
@@ -184,7 +180,6 @@ fn accept_sending(d: Delivery, set: u16, n: usize) -> Sending
       set = markedSet (d .active) set;
       sent = d .sent + 1;
       reached = max (d .reached) (d .sent + 1);
-      due = false;
     } ⌝ }
 {
     let active = d.active;
@@ -196,7 +191,6 @@ fn accept_sending(d: Delivery, set: u16, n: usize) -> Sending
         set: marked_set(active, set),
         sent: i + 1,
         reached: larger(d.reached, i + 1),
-        due: false,
     }
 }
 
@@ -235,7 +229,7 @@ fn send<'a, 'b>(
     let written = write_record(head, store, at, len, out);
     match written {
         Written::Octets(n) => accept_sending(d, receivers[i], n),
-        Written::Refused(a) => refuse_sending(a, d, due, receivers[0]),
+        Written::Refused(a) => refuse_sending(a, d, receivers[0]),
     }
 }
 
@@ -260,19 +254,9 @@ fn next_change<'a, 'b>(
         (r ≡ sendingOf s o) × (now (out .exit) ≡ outputAfter (now (out .entry)) o)) ⌝ }
 {
     let stored = store.len();
-    let answer = send_answer(
-        p,
-        capacity,
-        d,
-        due,
-        count,
-        lengths,
-        receivers,
-        start,
-        stored,
-    );
+    let answer = send_answer(p, capacity, d, count, lengths, receivers, start, stored);
     if answer != Answer::DONE {
-        return refuse_sending(answer, d, due, receivers[0]);
+        return refuse_sending(answer, d, receivers[0]);
     }
     send(
         p,
@@ -325,7 +309,6 @@ pub fn next_data(s: State, store: &[u8], out: &mut [u8]) -> Wrote
     let mut state = s;
     state.delivery.sent = change.sent;
     state.delivery.reached = change.reached;
-    state.due = change.due;
     state.queue = queue;
     Wrote {
         answer: change.answer,

@@ -1,9 +1,10 @@
 -- What holds between the history and the exporter's state and store after every call. The state is sound by itself; beside that, the held
--- records are the accepted ones behind the released number, and sets, S and reached are what the writings say.
+-- records are the accepted ones behind the released number, sets and reached are what the writings say, and S is due by what was released.
 use mathlib.Core.Path.{_≡_}
-use mathlib.Core.Bool.{true, false, not}
+use mathlib.Core.Bool.{true, false}
 use mathlib.Core.List.{List}
 use Prim.Native.Nat.{ℕ, _+_, _≤_, _<_}
+use lib.Dec.{eqb}
 use lib.ListN.{length, getD, drop}
 use Rattle.session.specs.Queue.{Entry, has, held}
 use Rattle.session.specs.Sound.{sound}
@@ -31,8 +32,11 @@ pub record Core (w : ℕ) (l : Ledger) (s : State) (store : List ℕ) : Type 0 w
   -- the records behind the released ones are the held ones
   pub behind : drop (l .released) (l .records) ≡ held s store
   pub stock : Stock w (s .settings) (l .records) (l .released) (l .writings) (s .queue) (s .next)
-  -- S is due exactly where nothing was written in this activation, and nothing was in a later one
-  pub starts : s .due ≡ not (writtenDuring (l .writings) (l .activation))
+  -- S is due exactly where nothing was released in this activation
+  pub origin : l .began ≤ l .released
+  pub starts : s .due ≡ eqb (l .released) (l .began)
+  -- what was released in it was written in it, and nothing was written in a later one
+  pub opened : l .began < l .released → writtenDuring (l .writings) (l .activation) ≡ true
   pub later : (k : ℕ) → l .activation < k → writtenDuring (l .writings) k ≡ false
   -- each place that was reached was written to the active server in its activation
   pub since : (v k : ℕ) → s .delivery .active ≡ Server v → l .released < k → k ≤ l .released + s .delivery .reached

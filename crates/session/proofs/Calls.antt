@@ -3,11 +3,11 @@
 --
 use mathlib.Core.Path.{_≡_, refl, sym, ap, _∙_, subst}
 use mathlib.Core.Logic.{inl, inr}
-use mathlib.Core.Bool.{Bool, true, false, not, _&&_, _||_, cond, false≢true}
+use mathlib.Core.Bool.{Bool, true, false, not, _&&_, _||_, cond, false≢true, and-false}
 use mathlib.Core.List.{List, [], _∷_, _++_}
 use Prim.Native.Nat.{ℕ, _+_, _-_, _≤_, _<_}
 use native.Mathlib.Nat.{zero-add, mod-lt}
-use native.Mathlib.Decide.{decLt}
+use native.Mathlib.Decide.{decLt, ℕ-discrete}
 use native.Mathlib.Omega.{arith}
 use lib.Dec.{eqb, leb, ltb}
 use lib.ListN.{length, getD, take, take-append-drop}
@@ -23,11 +23,12 @@ use Rattle.wire.specs.Replies.{silent, Encoding}
 use Rattle.session.specs.Servers.{sameActive, changed, settle, start, stop, negotiate, offer, down, agree, malformed}
 use Rattle.session.specs.Queue.{Entry, sumOf, heldOctets, held}
 use Rattle.session.specs.Limits.{maxHeld}
-use Rattle.session.specs.Steps.{modulus, ackCount, Call, put, nextData, tick, ack, move, isDuplicate, headOf, written, isSessions}
-use Rattle.session.specs.Steps.{checks, soundFor, answer, after, settled, storeAfter, Outcome, step}
+use Rattle.session.specs.Steps.{modulus, ackCount, Call, put, nextData, tick, ack, move, isDuplicate, isFirst, headOf, written}
+use Rattle.session.specs.Steps.{isSessions, checks, soundFor, answer, after, settled, storeAfter, Outcome, step}
 use Rattle.session.specs.History.{Ledger, History, dsnOf, ackPlace, deliveryAfter, ledgerAfter, afterAccepted, afterCall, writtenIn}
+use Rattle.session.specs.History.{writtenDuring}
 use Rattle.session.specs.Claim.{Session, InRange, entryAt, nextPlace, isDuplicateFor, dueReply, octetsTogether, dueChecks, Named}
-use Rattle.session.specs.Claim.{ReleasedBy, Acknowledgeable, CallClaim, Account}
+use Rattle.session.specs.Claim.{beganActivation, ReleasedBy, Acknowledgeable, CallClaim, Account}
 use Rattle.session.specs.declared.state.Active.{Active}
 use Rattle.session.specs.declared.state.Active.the-variants.{Nobody, Server}
 use Rattle.session.specs.declared.state.Delivery.{Delivery}
@@ -37,11 +38,11 @@ use Rattle.session.proofs.Choice.{chosen-below}
 use Rattle.session.proofs.Places.{one-place, reached-test}
 use Rattle.session.proofs.QueueLaws.{duplicate-same, noEntry, heldAt, held-length, held-octets}
 use Rattle.session.proofs.Agrees.{Core, Agrees}
-use Rattle.session.proofs.SoundKept.{after-sized, accepted-sound}
+use Rattle.session.proofs.SoundKept.{active-some, after-sized, accepted-sound}
 use Rattle.session.proofs.HeldLaws.{held-read}
 use Rattle.session.proofs.StepLaws.{step-answer}
 use Rattle.session.proofs.Keeps.{begun, begun-released, written-released, settle-keeps, held-dsn, acked, ack-dsn, ack-below}
-use Rattle.session.proofs.Keeps.{ack-named, call-keeps, call-delivery}
+use Rattle.session.proofs.Keeps.{ack-named, acknowledger, in-during, call-keeps, call-delivery}
 
 -- ---- the state is sound
 
@@ -202,6 +203,51 @@ module _ (enc : Encoding) (room : ℕ) (h : History) (s : State) (store : List �
       (λ u. a .core .stock .marks (s .delivery .sent) u g)
       (a .core .stock .existing (h .ledger .released + (s .delivery .sent + 1)))
 
+  -- S is set by the state exactly where its record began the activation and none was released since
+  first-at : isFirst s
+      ≡ (eqb (h .ledger .released + (s .delivery .sent + 1)) (h .ledger .began + 1) && eqb (h .ledger .released) (h .ledger .began))
+  first-at = ap (λ (x : Bool). x && eqb n 0) (a .core .starts) ∙ go (ℕ-discrete r b) (ℕ-discrete n 0)
+    where
+      n : ℕ
+      n = s .delivery .sent
+
+      r : ℕ
+      r = h .ledger .released
+
+      b : ℕ
+      b = h .ledger .began
+
+      go : Dec (r ≡ b) → Dec (n ≡ 0) → eqb r b && eqb n 0 ≡ eqb (r + (n + 1)) (b + 1) && eqb r b
+      go (yes x) (yes y) = rw (eq-eqb r b x, eq-eqb n 0 y, eq-eqb (r + (n + 1)) (b + 1) (omega arith))
+      go (yes x) (no y) = rw (eq-eqb r b x, ne-eqb n 0 y, ne-eqb (r + (n + 1)) (b + 1) (λ z. y (omega arith)))
+      go (no x) y = rw (ne-eqb r b x) (sym (and-false (eqb (r + (n + 1)) (b + 1))))
+
+  -- the first DATA of an activation is of the record that began it
+  opens-with : writtenDuring (h .ledger .writings) (h .ledger .activation) ≡ false → judge (checks enc room nextData s store) ≡ done
+      → beganActivation h ≡ true
+  unfolding checks
+  opens-with none e = go (active-some (s .delivery .active) (passed (checks enc room nextData s store) tt e .0))
+    where
+      unreached : (v : ℕ) → s .delivery .active ≡ Server v → Dec (s .delivery .reached ≡ 0) → s .delivery .reached ≡ 0
+      unreached v k (yes x) = x
+      unreached v k (no x) =
+          absurd (false≢true (sym none
+          ∙ in-during (h .ledger .writings) (h .ledger .released + 1) v (h .ledger .activation)
+          (a .core .since v (h .ledger .released + 1) k (omega arith) (omega (arith, x)))))
+
+      unreleased : Dec (h .ledger .released ≡ h .ledger .began) → h .ledger .released ≡ h .ledger .began
+      unreleased (yes x) = x
+      unreleased (no x) = absurd (false≢true (sym none ∙ a .core .opened (omega (arith, x, a .core .origin))))
+
+      go : (v : ℕ) × (s .delivery .active ≡ Server v) → beganActivation h ≡ true
+      go x =
+          let reached = unreached (x .0) (x .1) (ℕ-discrete (s .delivery .reached) 0) in
+          let released = unreleased (ℕ-discrete (h .ledger .released) (h .ledger .began)) in
+          rw (
+            eq-eqb (nextPlace h) (h .ledger .began + 1) (omega (arith, next-place, reached, released, facts .numbers .sentReached)),
+            eq-eqb (h .ledger .released) (h .ledger .began) released,
+          )
+
   next-written : s .delivery .sent < s .queue .count → written w nextData s store ≡ dueReply (sessionAt enc s) h nextData
   unfolding written headOf
   next-written g =
@@ -210,7 +256,7 @@ module _ (enc : Encoding) (room : ℕ) (h : History) (s : State) (store : List �
       rw (
         a .delivery,
         e,
-        c .starts,
+        first-at,
         held-dsn enc (h .ledger) s store wide (a .isSound) (a .sized) c (s .delivery .sent),
         duplicate-at (s .delivery .active) g,
       ) refl
@@ -334,9 +380,8 @@ module _ (enc : Encoding) (room : ℕ) (h : History) (s : State) (store : List �
   ledger-releases tick i e q lo hi = let y : ⊥ = omega arith in absurd y
   ledger-releases (move v m) i e q lo hi = let y : ⊥ = omega arith in absurd y
   ledger-releases (ack v d config) i e q lo hi =
-      let t = passed (checks enc room (ack v d config) s store) tt e in
       let active : s .delivery .active ≡ Server v =
-      same-active (s .delivery .active) (Server v) (not-false (sameActive (s .delivery .active) (Server v)) (t .1 .0)) in
+      acknowledger enc (h .ledger) s store wide (a .isSound) (a .sized) (a .core) room v d config e in
       let n : ackCount w s d ≤ s .delivery .reached =
       acked enc (h .ledger) s store wide (a .isSound) (a .sized) (a .core) room v d config e in
       record {
@@ -439,6 +484,7 @@ module _ (enc : Encoding) (room : ℕ) (h : History) (s : State) (store : List �
         writes = step-writes k;
         standsFor = λ e x. stands-for (checked nextData e x);
         accepted = λ e x. next-accepted (checked nextData e x);
+        opens = λ e x none. opens-with none (checked nextData e x);
         names = λ v d config e x. names-one v d config (subst (InRange w) e i) (checked (ack v d config) e x);
         releases = step-releases k i (o .answer) (sym (call-answer k));
         ackAccepted = λ v q e active x.

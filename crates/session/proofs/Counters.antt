@@ -1,13 +1,13 @@
 -- The rules about sent and reached hold: an accepted call found the state sound, so its choice is the servers', and as no phase changes it
 -- stays; the rest is what the step's definitions say.
 use mathlib.Core.Path.{_≡_, refl, sym, ap, _∙_}
-use mathlib.Core.Bool.{Bool, true, false, not, cond}
+use mathlib.Core.Bool.{Bool, true, false, not, _&&_, cond, and-true, and-false}
 use mathlib.Core.List.{List}
 use Prim.Native.Nat.{ℕ, _-_, _<_}
 use native.Mathlib.Omega.{arith}
 use lib.Dec.{eqb}
 use lib.ListN.{length}
-use borrow.Author.Tests.{eqb-true, eqb-false}
+use borrow.Author.Tests.{eqb-true, eqb-false, eq-eqb, ne-eqb}
 use Rattle.octets.specs.Answers.{judge, done, unsoundState}
 use Rattle.octets.proofs.Each.{and-left}
 use Rattle.wire.specs.Replies.{Encoding}
@@ -27,7 +27,7 @@ module _ (enc : Encoding) (room : ℕ) (c : Call) (s : State) (store : List ℕ)
   judged : answer enc room c s store ≡ done
   judged = sym (step-answer enc room c s store) ∙ done₀
 
-  accepted-sound : soundFor c s store ≡ true
+  pub accepted-sound : soundFor c s store ≡ true
   unfolding answer
   accepted-sound = go (soundFor c s store) judged
     where
@@ -105,8 +105,15 @@ released enc s room v dsn config store e =
       timer = f .timer;
       sentAgain = f .sentAgain;
       timerStays = f .timerStays;
-      due = refl;
+      due = λ l. due-no-more (ackCount (enc .width) s dsn) l;
+      dueStays = λ z. due-still (ackCount (enc .width) s dsn) z;
     })
+  where
+    due-no-more : (n : ℕ) → 0 < n → s .due && eqb n 0 ≡ false
+    due-no-more n l = rw (ne-eqb n 0 (λ z. omega (arith, l, z))) (and-false (s .due))
+
+    due-still : (n : ℕ) → n ≡ 0 → s .due && eqb n 0 ≡ s .due
+    due-still n z = rw (eq-eqb n 0 z) (and-true (s .due))
 
 pub counter-rule : CounterRule
 counter-rule enc s = record { nextData = sent-one enc s; dataAck = released enc s }

@@ -132,7 +132,9 @@ fresh-agrees w p store wide e i =
           places = λ k v h. refl;
           existing = λ k v x. absurd (false≢true x);
         };
+        origin = omega arith;
         starts = refl;
+        opened = λ x. let y : ⊥ = omega arith in absurd y;
         later = λ k h. refl;
         since = λ v k x lo hi. let y : ⊥ = omega arith in absurd y;
         until = λ v k x. absurd (false≢true x);
@@ -162,6 +164,8 @@ demand3 z store m is i =
       account = account-of (c .agrees);
       last = last-named (dsnBits z) (z .settings) freshHistory 0 (transcript z (begin z store) is) refl;
       reached = reached-written (c .agrees);
+      grown = c .agrees .core .origin;
+      due = c .agrees .core .starts;
       calls = each-call z wide (begin z store) freshHistory is i k;
       isSound = c .agrees .isSound;
       settings = c .settings;

@@ -183,6 +183,7 @@ module _ (p : Settings) where
           writes = y .writes;
           standsFor = y .standsFor;
           accepted = y .accepted;
+          opens = y .opens;
           names = y .names;
           releases = y .releases;
           ackAccepted = y .ackAccepted;
@@ -296,6 +297,8 @@ demand3-in-octets p store a i es o =
         account = c .account;
         last = c .last;
         reached = c .reached;
+        grown = c .grown;
+        due = c .due;
         calls = event-claims p x freshHistory es k (d .calls);
         isSound = c .isSound;
         settings = c .settings;

@@ -11,12 +11,12 @@ use native.Mathlib.Omega.{arith}
 use lib.Dec.{eqb}
 use lib.ListN.{length, getD, drop, length-append}
 use lib.Seq.{drop-append-le, drop-drop}
-use borrow.Author.Tests.{ltb-false, leb-false, eqb-true, eq-eqb, ne-eqb}
+use borrow.Author.Tests.{ltb-false, leb-false, eqb-true, not-false, eq-eqb, ne-eqb}
 use Rattle.octets.specs.Answers.{judge, done}
 use Rattle.octets.proofs.Judging.{passed}
 use Rattle.octets.proofs.Each.{and-right}
 use Rattle.wire.specs.Replies.{Encoding}
-use Rattle.session.specs.Servers.{chosen, changed, settle, withServers, transition, sentOne, acknowledged, ticked}
+use Rattle.session.specs.Servers.{sameActive, chosen, changed, settle, withServers, transition, sentOne, acknowledged, ticked}
 use Rattle.session.specs.Queue.{Entry, heldOctets, recordAt, has, with, pushed, dropFront, marked}
 use Rattle.session.specs.Sound.{sound}
 use Rattle.session.specs.Steps.{modulus, firstHeld, dsnAt, ackCount, Call, put, nextData, tick, ack, move, checks, withDelivery}
@@ -32,7 +32,7 @@ use Rattle.session.proofs.Choice.{chosen-below}
 use Rattle.session.proofs.Places.{dsn-add, dsn-back, dsn-ack, place-found}
 use Rattle.session.proofs.RingLaws.{write-length}
 use Rattle.session.proofs.QueueLaws.{or-elim, or-right, set-cases, shifted-at, has-with, has-zero, writtenTo}
-use Rattle.session.proofs.SoundFacts.{SoundFacts, sound-facts}
+use Rattle.session.proofs.SoundFacts.{SoundFacts, sound-facts, same-active}
 use Rattle.session.proofs.SoundKept.{Sized, Calm, move-calm, tick-calm, active-some, ack-lower}
 use Rattle.session.proofs.HeldLaws.{held-kept, held-put, held-release}
 use Rattle.session.proofs.Agrees.{Core}
@@ -51,7 +51,7 @@ written-released Nobody q l = refl
 written-released (Server v) q l = refl
 
 -- what was written to a server in an activation was written in it
-in-during : (ws : List Writing) (q v k : ℕ) → writtenIn ws q v k ≡ true → writtenDuring ws k ≡ true
+pub in-during : (ws : List Writing) (q v k : ℕ) → writtenIn ws q v k ≡ true → writtenDuring ws k ≡ true
 unfolding anyWriting
 in-during [] q v k e = e
 in-during (x ∷ xs) q v k e =
@@ -94,7 +94,9 @@ settle-keeps {w} {l} {s} {store} c = go (changed (s .settings) (s .delivery))
           stored = c .stored;
           behind = c .behind ∙ sym (held-kept s (s′ true) store refl (λ i. refl));
           stock = c .stock;
-          starts = rw (c .later (l .activation + 1) (omega arith));
+          origin = omega arith;
+          starts = sym (eq-eqb (l .released) (l .released) refl);
+          opened = λ x. let z : ⊥ = omega arith in absurd z;
           later = λ k h. c .later k (omega arith);
           since = λ v k e h b. let z : ⊥ = omega arith in absurd z;
           until =
@@ -106,7 +108,9 @@ settle-keeps {w} {l} {s} {store} c = go (changed (s .settings) (s .delivery))
           stored = c .stored;
           behind = c .behind ∙ sym (held-kept s (s′ false) store refl (λ i. refl));
           stock = c .stock;
+          origin = c .origin;
           starts = c .starts;
+          opened = c .opened;
           later = c .later;
           since = c .since;
           until = c .until;
@@ -121,7 +125,9 @@ calm-keeps {s} {store} d m c =
       stored = c .stored;
       behind = c .behind ∙ sym (held-kept s (withDelivery s d) store refl (λ i. refl));
       stock = c .stock;
+      origin = c .origin;
       starts = c .starts;
+      opened = c .opened;
       later = c .later;
       since = λ v k e h b. c .since v k (sym (m .active) ∙ e) h (omega arith);
       until = λ v k e. omega (arith, c .until v k e, m .reached);
@@ -175,7 +181,9 @@ module _ (enc : Encoding) (l : Ledger) (s : State) (store : List ℕ) (wide : 64
           places = λ j v h. k .places j v (omega arith);
           existing = k .existing;
         };
+        origin = c .origin;
         starts = c .starts;
+        opened = c .opened;
         later = c .later;
         since = c .since;
         until = c .until;
@@ -207,7 +215,9 @@ module _ (enc : Encoding) (l : Ledger) (s : State) (store : List ℕ) (wide : 64
           existing = λ j u g. or-elim (eqb place j && eqb v u) (writtenTo (l .writings) j u) g
               (λ z. omega (arith, below v ea, eqb-true v u (and-right (eqb place j) (eqb v u) z))) (k .existing j u);
         };
-        starts = rw (eq-eqb (l .activation) (l .activation) refl);
+        origin = c .origin;
+        starts = c .starts;
+        opened = λ x. rw (eq-eqb (l .activation) (l .activation) refl);
         later = λ j g. rw (ne-eqb (l .activation) j (λ z. omega arith)) (c .later j g);
         since = λ u j e lo hi. recent u j (cc) lo hi (ℕ-discrete j place);
         until = λ u j e. far u j e (ℕ-discrete j place);
@@ -252,9 +262,17 @@ module _ (enc : Encoding) (l : Ledger) (s : State) (store : List ℕ) (wide : 64
       let e : l .released + 1 + i ≡ l .released + (i + 1) = omega arith in
       ap (λ (x : ℕ). (x + i) % modulus w) first-held ∙ dsn-add w (s .settings) wide (l .released + 1) i ∙ ap (dsnOf w (s .settings)) e
 
+  -- an accepted DATA ACK names no more records than were reached
   pub acked : (room v d config : ℕ) → judge (checks enc room (ack v d config) s store) ≡ done → ackCount w s d ≤ s .delivery .reached
   unfolding checks
   acked room v d config e = ltb-false _ _ (passed (checks enc room (ack v d config) s store) tt e .1 .1 .1 .0)
+
+  -- and comes from the active server
+  pub acknowledger : (room v d config : ℕ) → judge (checks enc room (ack v d config) s store) ≡ done → s .delivery .active ≡ Server v
+  unfolding checks
+  acknowledger room v d config e =
+      same-active (s .delivery .active) (Server v)
+      (not-false (sameActive (s .delivery .active) (Server v)) (passed (checks enc room (ack v d config) s store) tt e .1 .0))
 
   -- the number of a DATA ACK is that of the place so many behind the released ones
   pub ack-dsn : (d : ℕ) → d < modulus w → dsnOf w (s .settings) (l .released + ackCount w s d) ≡ d
@@ -272,11 +290,11 @@ module _ (enc : Encoding) (l : Ledger) (s : State) (store : List ℕ) (wide : 64
       place-found w (s .settings) wide 64 (l .released) (ackCount w s d) d (omega (arith, f .numbers .reachedHeld, f .numbers .few))
       (ack-below d) (ack-dsn d h)
 
-  -- a DATA ACK that names no more records than were reached
-  ack-at : (v d config : ℕ) → d < modulus w → ackCount w s d ≤ s .delivery .reached
+  -- a DATA ACK of the active server that names no more records than were reached
+  ack-at : (v d config : ℕ) → d < modulus w → s .delivery .active ≡ Server v → ackCount w s d ≤ s .delivery .reached
       → Core w (ledgerAfter w (s .settings) (ack v d config) (s .delivery) l) (after w (ack v d config) s) store
   unfolding ledgerAfter after dropFront
-  ack-at v d config h b =
+  ack-at v d config h active b =
       let k = c .stock in
       let q = s .queue in
       let n : ℕ = ackCount w s d in
@@ -296,11 +314,32 @@ module _ (enc : Encoding) (l : Ledger) (s : State) (store : List ℕ) (wide : 64
           places = k .places;
           existing = k .existing;
         };
-        starts = c .starts;
+        origin = omega (arith, c .origin);
+        starts = none-more n;
+        opened = λ x. opens n b (ℕ-discrete n 0) x;
         later = c .later;
         since = λ u j x lo hi. c .since u j (sym (low .active) ∙ x) (omega arith) (omega (arith, low .reached));
         until = λ u j x. omega (arith, c .until u j x, low .reached);
       })
+    where
+      -- no record was released in this activation exactly where none was before, and n is 0
+      none-more : (n : ℕ) → s .due && eqb n 0 ≡ eqb (l .released + n) (l .began)
+      none-more n = ap (λ (x : Bool). x && eqb n 0) (c .starts) ∙ go (ℕ-discrete (l .released) (l .began)) (ℕ-discrete n 0)
+        where
+          go : Dec (l .released ≡ l .began) → Dec (n ≡ 0) → eqb (l .released) (l .began) && eqb n 0 ≡ eqb (l .released + n) (l .began)
+          go (yes x) (yes y) =
+              rw (eq-eqb (l .released) (l .began) x, eq-eqb n 0 y, eq-eqb (l .released + n) (l .began) (omega arith))
+          go (yes x) (no y) =
+              rw (eq-eqb (l .released) (l .began) x, ne-eqb n 0 y, ne-eqb (l .released + n) (l .began) (λ z. y (omega arith)))
+          go (no x) y =
+              rw (ne-eqb (l .released) (l .began) x, ne-eqb (l .released + n) (l .began) (λ z. x (omega (arith, c .origin))))
+
+      -- what is released was reached, and so was written
+      opens : (n : ℕ) → n ≤ s .delivery .reached → Dec (n ≡ 0) → l .began < l .released + n
+          → writtenDuring (l .writings) (l .activation) ≡ true
+      opens n b (yes e) x = c .opened (omega arith)
+      opens n b (no e) x =
+          in-during (l .writings) (l .released + 1) v (l .activation) (c .since v (l .released + 1) active (omega arith) (omega arith))
 
   -- every accepted call
   pub call-keeps : (room : ℕ) (k : Call) → InRange w k → judge (checks enc room k s store) ≡ done
@@ -310,7 +349,7 @@ module _ (enc : Encoding) (l : Ledger) (s : State) (store : List ℕ) (wide : 64
   call-keeps room nextData h e = next-keeps room e
   call-keeps room tick h e =
       calm-keeps (ticked (s .settings) (s .delivery)) (tick-calm (s .settings) (s .delivery) (f .numbers .settings .someDuration)) c
-  call-keeps room (ack v d config) h e = ack-at v d config h (acked room v d config e)
+  call-keeps room (ack v d config) h e = ack-at v d config h (acknowledger room v d config e) (acked room v d config e)
   call-keeps room (move v m) h e =
       let servers = transition v m (s .delivery .servers) in
       calm-keeps (withServers (s .delivery) servers) (move-calm servers) c

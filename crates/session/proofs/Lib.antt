@@ -20,4 +20,5 @@ pub mod Order
 pub mod Timer
 pub mod Refusals
 pub mod Counters
+pub mod Resends
 pub mod InOctets

@@ -1,7 +1,7 @@
 -- Soundness is a list of tests; each test that holds is a fact, and a state of which all the facts hold passes every test. One test that
--- fails makes the state unsound. Soundness looks at no template ID and no next DSN.
+-- fails makes the state unsound. Soundness looks at no template ID and no next DSN, and not at whether S is due.
 use mathlib.Core.Path.{_≡_, refl, sym, ap, _∙_}
-use mathlib.Core.Bool.{Bool, true, false, not, _&&_, _||_, false≢true}
+use mathlib.Core.Bool.{Bool, true, false, not, _&&_, false≢true}
 use mathlib.Core.List.{List, [], _∷_}
 use Prim.Native.Nat.{ℕ, zero, suc, _^_, _≤_, _<_}
 use lib.Dec.{eqb, leb, ltb}
@@ -52,15 +52,6 @@ all-fails [] i e = absurd (false≢true (sym e))
 all-fails (t ∷ ts) zero e = rw e
 all-fails (t ∷ ts) (suc i) e = rw (all-fails ts i e) (cond-same t false)
 
--- a test that is asked only where b is true
-asked : (b t : Bool) → not b || t ≡ true → b ≡ true → t ≡ true
-asked true t e q = e
-asked false t e q = absurd (false≢true q)
-
-ask : (b t : Bool) → (b ≡ true → t ≡ true) → not b || t ≡ true
-ask true t h = h refl
-ask false t h = refl
-
 -- ---- numbers
 
 pub record SettingsFacts (p : Settings) (room : ℕ) : Type 0 where
@@ -102,23 +93,22 @@ settings-hold p room f =
       le-leb room maxStoreOctets (f .smallRoom),
     )
 
-pub record NumbersFacts (p : Settings) (room : ℕ) (d : Delivery) (due : Bool) (count start : ℕ) : Type 0 where
+pub record NumbersFacts (p : Settings) (room : ℕ) (d : Delivery) (count start : ℕ) : Type 0 where
   pub settings : SettingsFacts p room
   pub few : count ≤ maxHeld
   pub inside : start < room
   pub sentReached : d .sent ≤ d .reached
   pub reachedHeld : d .reached ≤ count
   pub running : d .timer < p .duration
-  pub fresh : due ≡ true → d .reached ≡ 0
 
-pub numbers-facts : (p : Settings) (room : ℕ) (d : Delivery) (due : Bool) (count start : ℕ)
-    → numbersSound p room d due count start ≡ true → NumbersFacts p room d due count start
+pub numbers-facts : (p : Settings) (room : ℕ) (d : Delivery) (count start : ℕ)
+    → numbersSound p room d count start ≡ true → NumbersFacts p room d count start
 unfolding numbersSound
-numbers-facts p room d due count start e =
+numbers-facts p room d count start e =
     let at =
     both-at
     (settingsSound p room ∷ leb count maxHeld ∷ ltb start room ∷ leb (d .sent) (d .reached) ∷ leb (d .reached) count
-    ∷ ltb (d .timer) (p .duration) ∷ (not due || eqb (d .reached) 0) ∷ []) in
+    ∷ ltb (d .timer) (p .duration) ∷ []) in
     record {
       settings = settings-facts p room (at 0 e);
       few = leb-true _ _ (at 1 e);
@@ -126,13 +116,12 @@ numbers-facts p room d due count start e =
       sentReached = leb-true _ _ (at 3 e);
       reachedHeld = leb-true _ _ (at 4 e);
       running = ltb-true _ _ (at 5 e);
-      fresh = λ q. eqb-true _ _ (asked due (eqb (d .reached) 0) (at 6 e) q);
     }
 
-numbers-hold : (p : Settings) (room : ℕ) (d : Delivery) (due : Bool) (count start : ℕ)
-    → NumbersFacts p room d due count start → numbersSound p room d due count start ≡ true
+numbers-hold : (p : Settings) (room : ℕ) (d : Delivery) (count start : ℕ)
+    → NumbersFacts p room d count start → numbersSound p room d count start ≡ true
 unfolding numbersSound
-numbers-hold p room d due count start f =
+numbers-hold p room d count start f =
     rw (
       settings-hold p room (f .settings),
       le-leb count maxHeld (f .few),
@@ -141,7 +130,6 @@ numbers-hold p room d due count start f =
       le-leb (d .reached) count (f .reachedHeld),
       lt-ltb (d .timer) (p .duration) (f .running),
     )
-    (ask due (eqb (d .reached) 0) (λ q. eq-eqb (d .reached) 0 (f .fresh q)))
 
 -- ---- sound states
 
@@ -173,7 +161,7 @@ clauses s =
     let p = s .settings in
     let d = s .delivery in
     let q = s .queue in
-    numbersSound p (s .capacity) d (s .due) (q .count) (s .start)
+    numbersSound p (s .capacity) d (q .count) (s .start)
     ∷ every (q .count) (entrySound (p .servers) (q .lengths) (q .receivers))
     ∷ leb (heldOctets q) (s .capacity)
     ∷ sameActive (d .active) (chosen p d)
@@ -186,7 +174,7 @@ unfolding sound
 unsound s i e = sym (all-fails (clauses s) i e)
 
 pub record SoundFacts (s : State) : Type 0 where
-  pub numbers : NumbersFacts (s .settings) (s .capacity) (s .delivery) (s .due) (s .queue .count) (s .start)
+  pub numbers : NumbersFacts (s .settings) (s .capacity) (s .delivery) (s .queue .count) (s .start)
   pub short : (i : ℕ) → i < s .queue .count → getD (s .queue .lengths) i 0 ≤ maxRecordOctets
   pub known : (i : ℕ) → i < s .queue .count → getD (s .queue .receivers) i 0 < 2 ^ s .settings .servers
   pub fits : heldOctets (s .queue) ≤ s .capacity
@@ -207,7 +195,7 @@ sound-facts s e =
     let sent : (a : Active) → d .active ≡ a → activationSound d (q .receivers) a ≡ true =
     λ a k. ap (activationSound d (q .receivers)) (sym k) ∙ at 4 e in
     record {
-      numbers = numbers-facts p (s .capacity) d (s .due) (q .count) (s .start) (at 0 e);
+      numbers = numbers-facts p (s .capacity) d (q .count) (s .start) (at 0 e);
       short =
           λ i l. leb-true _ _ (and-left (leb (getD (q .lengths) i 0) maxRecordOctets) (ltb (getD (q .receivers) i 0) (2 ^ p .servers))
           (entry i l));
@@ -232,7 +220,7 @@ facts-sound s f =
     (lt-ltb (getD (q .receivers) i 0) (2 ^ p .servers) (f .known i l)) in
     let choice : sameActive (d .active) (chosen p d) ≡ true = rw (← f .choice) (active-same (d .active)) in
     rw (
-      numbers-hold p (s .capacity) d (s .due) (q .count) (s .start) (f .numbers),
+      numbers-hold p (s .capacity) d (q .count) (s .start) (f .numbers),
       every-intro (q .count) (entrySound (p .servers) (q .lengths) (q .receivers)) entry,
       le-leb (heldOctets q) (s .capacity) (f .fits),
       choice,

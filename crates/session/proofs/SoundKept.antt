@@ -3,7 +3,7 @@
 --
 use mathlib.Core.Path.{_≡_, refl, sym, ap, _∙_}
 use mathlib.Core.Logic.{_≢_}
-use mathlib.Core.Bool.{Bool, true, false, not, _||_, cond, false≢true}
+use mathlib.Core.Bool.{Bool, true, false, not, _&&_, _||_, cond, false≢true}
 use mathlib.Core.List.{List, _∷_}
 use Prim.Native.Nat.{ℕ, _+_, _-_, _%_, _^_, _≤_, _<_}
 use native.Mathlib.Nat.{mod-lt}
@@ -57,7 +57,6 @@ unsent-facts s z p few inside short known fits choice =
             sentReached = omega (arith, z .sent);
             reachedHeld = omega (arith, z .reached);
             running = omega (arith, z .timer, p .someDuration);
-            fresh = λ q. z .reached;
           };
       short = short;
       known = known;
@@ -99,7 +98,7 @@ pub record Sized (q : Queue) : Type 0 where
 
 -- what a state is known by before the choice is made anew: all that a sound one is, except the choice
 record Fit (s : State) : Type 0 where
-  numbers : NumbersFacts (s .settings) (s .capacity) (s .delivery) (s .due) (s .queue .count) (s .start)
+  numbers : NumbersFacts (s .settings) (s .capacity) (s .delivery) (s .queue .count) (s .start)
   short : (i : ℕ) → i < s .queue .count → getD (s .queue .lengths) i 0 ≤ maxRecordOctets
   known : (i : ℕ) → i < s .queue .count → getD (s .queue .receivers) i 0 < 2 ^ s .settings .servers
   fits : heldOctets (s .queue) ≤ s .capacity
@@ -201,8 +200,8 @@ pub record Lower (p : Settings) (n : ℕ) (d e : Delivery) : Type 0 where
   pub rest : d .active ≡ Nobody → e .timer ≡ 0
 
 module _ (s : State) (z : Sized (s .queue)) (f : SoundFacts s) where
-  -- a queue whose entries are those from n on, and a delivery with n records fewer reached
-  lower-fit : (n : ℕ) (d : Delivery) (q : Queue) (start : ℕ) → Lower (s .settings) n (s .delivery) d → start < s .capacity
+  -- a queue whose entries are those from n on, and a delivery with n records fewer reached, whether S is due or not
+  lower-fit : (n : ℕ) (d : Delivery) (due : Bool) (q : Queue) (start : ℕ) → Lower (s .settings) n (s .delivery) d → start < s .capacity
       → q .count ≡ s .queue .count - n
       → ((i : ℕ) → n + i < s .queue .count → getD (q .lengths) i 0 ≡ getD (s .queue .lengths) (n + i) 0)
       → ((i : ℕ) → n + i < s .queue .count → getD (q .receivers) i 0 ≡ getD (s .queue .receivers) (n + i) 0)
@@ -211,12 +210,12 @@ module _ (s : State) (z : Sized (s .queue)) (f : SoundFacts s) where
         settings = s .settings;
         capacity = s .capacity;
         delivery = d;
-        due = s .due;
+        due = due;
         queue = q;
         start = start;
         next = s .next;
       })
-  lower-fit n d q start m inside counted lengths receivers fits =
+  lower-fit n d due q start m inside counted lengths receivers fits =
       let k = f .numbers in
       record {
         numbers =
@@ -227,7 +226,6 @@ module _ (s : State) (z : Sized (s .queue)) (f : SoundFacts s) where
               sentReached = m .sent;
               reachedHeld = omega (arith, m .reached, k .reachedHeld);
               running = m .timer;
-              fresh = λ e. let y : s .delivery .reached ≡ 0 = k .fresh e in omega (arith, m .reached);
             };
         short = λ i l. rw (lengths i (omega arith)) (f .short (n + i) (omega arith));
         known = λ i l. rw (receivers i (omega arith)) (f .known (n + i) (omega arith));
@@ -245,7 +243,7 @@ module _ (s : State) (z : Sized (s .queue)) (f : SoundFacts s) where
   calm-fit : (d : Delivery) → Calm (s .settings) (s .delivery) d → Fit (withDelivery s d)
   calm-fit d m =
       let k = f .numbers in
-      lower-fit 0 d (s .queue) (s .start)
+      lower-fit 0 d (s .due) (s .queue) (s .start)
       (record {
         active = m .active;
         reached = omega (arith, m .reached);
@@ -289,7 +287,7 @@ module _ (s : State) (z : Sized (s .queue)) (f : SoundFacts s) where
       let q = s .queue in
       let n : ℕ = ackCount w s dsn in
       let whole : n + (q .count - n) ≡ q .count = omega (arith, k .reachedHeld) in
-      lower-fit n (acknowledged n (s .delivery)) (dropFront q n) ((s .start + octetsTo q n) % s .capacity) (ack-lower n)
+      lower-fit n (acknowledged n (s .delivery)) (s .due && eqb n 0) (dropFront q n) ((s .start + octetsTo q n) % s .capacity) (ack-lower n)
       (mod-lt (s .start + octetsTo q n) (omega (arith, k .settings .someRoom))) refl
       (λ i l. shifted-at (q .lengths) n i (omega (arith, z .lengths, k .few)))
       (λ i l. shifted-at (q .receivers) n i (omega (arith, z .receivers, k .few)))
@@ -314,7 +312,6 @@ module _ (s : State) (z : Sized (s .queue)) (f : SoundFacts s) where
               sentReached = k .sentReached;
               reachedHeld = omega (arith, k .reachedHeld);
               running = k .running;
-              fresh = k .fresh;
             };
         short = λ i l. set-cases (q .lengths) (length r) 0 (λ i x. x ≤ maxRecordOctets) n nl i (λ ne. f .short i (omega arith)) brief;
         known = λ i l.
@@ -350,7 +347,6 @@ module _ (s : State) (z : Sized (s .queue)) (f : SoundFacts s) where
               sentReached = omega arith;
               reachedHeld = omega (arith, k .reachedHeld);
               running = k .running;
-              fresh = λ e. absurd (false≢true e);
             };
         short = f .short;
         known = λ i l. set-cases (q .receivers) x 0 (λ i m. m < 2 ^ s .settings .servers) at nr i (λ n. f .known i l)

@@ -135,15 +135,21 @@ abbrev pub isDuplicateFor : Active → List Writing → ℕ → Bool
 isDuplicateFor active.Nobody writings q = false
 isDuplicateFor (active.Server v) writings q = writtenToOther writings q v
 
--- The head of the next DATA: the DSN of its place, S exactly where nothing was written in this activation, D exactly where its record
--- was written to another server.
+-- S: the place is the one with which the activation began, behind those released before it, and none was released since (02, ask 2).
+abbrev pub beganActivation : History → Bool
+beganActivation h =
+    let l = h .ledger in
+    eqb (nextPlace h) (l .began + 1) && eqb (l .released) (l .began)
+
+-- The head of the next DATA: the DSN of its place, S exactly where its record began the activation and none was released since, D exactly
+-- where it was written to another server.
 abbrev pub dueHead : Session → History → DataHead
 dueHead z h =
     record {
       session = z .settings .session;
       template = entryAt (h .ledger) (nextPlace h) .template;
       config = z .settings .config;
-      first = not (writtenDuring (h .ledger .writings) (h .ledger .activation));
+      first = beganActivation h;
       duplicate = isDuplicateFor (h .delivery .active) (h .ledger .writings) (nextPlace h);
       dsn = dsnOf (dsnBits z) (z .settings) (nextPlace h);
     }
@@ -227,6 +233,9 @@ pub record CallClaim (z : Session) (capacity room : ℕ) (h : History) (hs : Lis
   pub standsFor : c ≡ nextData → o .answer ≡ done → (q : ℕ) → h .ledger .released < q → q ≤ h .ledger .released + maxHeld
       → dsnOf (dsnBits z) (z .settings) q ≡ dsnOf (dsnBits z) (z .settings) (nextPlace h) → q ≡ nextPlace h
   pub accepted : c ≡ nextData → o .answer ≡ done → nextPlace h ≤ length (h .ledger .records)
+  -- the first DATA of an activation is of the record that began it, and so has S
+  pub opens : c ≡ nextData → o .answer ≡ done → writtenDuring (h .ledger .writings) (h .ledger .activation) ≡ false
+      → beganActivation h ≡ true
   -- an accepted DATA ACK names one place
   pub names : (v d config : ℕ) → c ≡ ack v d config → o .answer ≡ done → Named (dsnBits z) (z .settings) (h .ledger) d
   -- whatever a call releases was written to the acknowledging server in its activation
@@ -279,6 +288,9 @@ pub record Claim (z : Session) (x : Exporter) (ks : List AnsweredCall) (EachCall
   -- of the places that are not released, exactly the first `reached` were written to the active server in its activation
   pub reached : let h = historyOf z ks in (v q : ℕ) → h .delivery .active ≡ active.Server v → h .ledger .released < q
       → writtenIn (h .ledger .writings) q v (h .ledger .activation) ≡ leb q (h .ledger .released + h .delivery .reached)
+  -- at least those that were released when the activation began are released, and S is due exactly where no other is
+  pub grown : let l = historyOf z ks .ledger in l .began ≤ l .released
+  pub due : let l = historyOf z ks .ledger in x .state .due ≡ eqb (l .released) (l .began)
   -- every call is answered, writes and releases as the history has it
   pub calls : EachCall
   -- the state is sound, keeps its settings and its store's length, and agrees with the history

@@ -1,5 +1,4 @@
 -- The history of a session: what can be known of it from the settings, the calls' arguments and their answers (01, "History").
---
 use Prim.Native.Nat.{ℕ, zero, suc, _+_, _-_, _%_}
 use mathlib.Core.Bool.{Bool, false, _&&_, _||_, cond}
 use mathlib.Core.List.{List, [], _∷_, _++_}
@@ -21,12 +20,13 @@ pub record Writing : Type 0 where
   pub activation : ℕ
 
 -- The accepted records by place, from 1; how many are released; the writings, the latest in front; how often the choice has changed,
--- which numbers the activation.
+-- which numbers the activation; how many were released when it began.
 pub record Ledger : Type 0 where
   pub records : List Entry
   pub released : ℕ
   pub writings : List Writing
   pub activation : ℕ
+  pub began : ℕ
 
 -- The ledger, and a delivery of the history's own.
 pub record History : Type 0 where
@@ -35,19 +35,23 @@ pub record History : Type 0 where
 
 -- The ledger with these records.
 abbrev pub withRecords : Ledger → List Entry → Ledger
-withRecords l records = record { records = records; released = l .released; writings = l .writings; activation = l .activation }
+withRecords l records =
+    record { records = records; released = l .released; writings = l .writings; activation = l .activation; began = l .began }
 
 -- The ledger with n records released.
 abbrev pub withReleased : Ledger → ℕ → Ledger
-withReleased l n = record { records = l .records; released = n; writings = l .writings; activation = l .activation }
+withReleased l n =
+    record { records = l .records; released = n; writings = l .writings; activation = l .activation; began = l .began }
 
 -- The ledger with one more writing.
 abbrev pub withWriting : Ledger → Writing → Ledger
-withWriting l x = record { records = l .records; released = l .released; writings = x ∷ l .writings; activation = l .activation }
+withWriting l x =
+    record { records = l .records; released = l .released; writings = x ∷ l .writings; activation = l .activation; began = l .began }
 
--- The ledger in activation k.
+-- The ledger at the beginning of activation k.
 abbrev pub withActivation : Ledger → ℕ → Ledger
-withActivation l k = record { records = l .records; released = l .released; writings = l .writings; activation = k }
+withActivation l k =
+    record { records = l .records; released = l .released; writings = l .writings; activation = k; began = l .released }
 
 -- The sequence number of place q: the initial one belongs to place 1, and place 0 has the number before it.
 unfoldable pub dsnOf : ℕ → Settings → ℕ → ℕ
@@ -100,7 +104,7 @@ unfoldable pub freshHistory : History
 freshHistory =
     record {
       delivery = freshDelivery;
-      ledger = record { records = []; released = 0; writings = []; activation = 0 };
+      ledger = record { records = []; released = 0; writings = []; activation = 0; began = 0 };
     }
 
 -- ---- questions to the writings

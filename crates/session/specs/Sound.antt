@@ -1,6 +1,6 @@
 -- The limits of the settings, and the sound states (01, "Exporter").
 use Prim.Native.Nat.{ℕ, _^_}
-use mathlib.Core.Bool.{Bool, not, _&&_, _||_}
+use mathlib.Core.Bool.{Bool, _&&_}
 use mathlib.Core.List.{List, [], _∷_}
 use lib.Dec.{eqb, leb, ltb}
 use lib.ListN.{getD}
@@ -40,23 +40,23 @@ activationSound d receivers (active.Server v) = every (d .reached) (λ i. has (g
 abbrev pub entrySound : ℕ → List ℕ → List ℕ → ℕ → Bool
 entrySound servers lengths receivers i = leb (getD lengths i 0) maxRecordOctets && ltb (getD receivers i 0) (2 ^ servers)
 
--- The numbers of a state are in their limits; if S is due, nothing was reached.
-unfoldable pub numbersSound : Settings → ℕ → Delivery → Bool → ℕ → ℕ → Bool
-numbersSound p room d due count start =
+-- The numbers of a state are in their limits.
+unfoldable pub numbersSound : Settings → ℕ → Delivery → ℕ → ℕ → Bool
+numbersSound p room d count start =
     settingsSound p room
     && leb count maxHeld
     && ltb start room
     && leb (d .sent) (d .reached)
     && leb (d .reached) count
     && ltb (d .timer) (p .duration)
-    && (not due || eqb (d .reached) 0)
 
 -- The numbers are in their limits, the held records too, and they fit the store together; the active server is the one that the servers'
 -- phases choose; with nobody active sent, reached and timer are 0, else the first `reached` records were sent to the active server.
+-- Whether S is due plays no part (02, ask 2).
 unfoldable pub sound : State → Bool
 sound s =
     allOf
-    (numbersSound (s .settings) (s .capacity) (s .delivery) (s .due) (s .queue .count) (s .start)
+    (numbersSound (s .settings) (s .capacity) (s .delivery) (s .queue .count) (s .start)
     ∷ every (s .queue .count) (entrySound (s .settings .servers) (s .queue .lengths) (s .queue .receivers))
     ∷ leb (heldOctets (s .queue)) (s .capacity)
     ∷ sameActive (s .delivery .active) (chosen (s .settings) (s .delivery))

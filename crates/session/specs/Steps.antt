@@ -116,7 +116,12 @@ abbrev pub isDuplicate : Settings → Active → ℕ → Bool
 isDuplicate p active.Nobody m = false
 isDuplicate p (active.Server v) m = hasOther (p .servers) v m
 
--- The head of the next DATA: the record at place "sent", S where it is due, D where the record was sent to another server.
+-- S: no record was released in this activation, and the one to be written is the first held. So it is the record that began it.
+abbrev pub isFirst : State → Bool
+isFirst s = s .due && eqb (s .delivery .sent) 0
+
+-- The head of the next DATA: the record at place "sent", S where it began the activation and none was released since (02, ask 2), D where
+-- it was sent to another server.
 unfoldable pub headOf : ℕ → State → DataHead
 headOf w s =
     let i = s .delivery .sent in
@@ -124,7 +129,7 @@ headOf w s =
       session = s .settings .session;
       template = getD (s .queue .templates) i 0;
       config = s .settings .config;
-      first = s .due;
+      first = isFirst s;
       duplicate = isDuplicate (s .settings) (s .delivery .active) (getD (s .queue .receivers) i 0);
       dsn = dsnAt w s i;
     }
@@ -266,7 +271,7 @@ after w nextData s =
       settings = s .settings;
       capacity = s .capacity;
       delivery = sentOne (s .delivery);
-      due = false;
+      due = s .due;
       queue = markedFor (s .delivery .active) (s .queue) (s .delivery .sent);
       start = s .start;
       next = s .next;
@@ -278,7 +283,7 @@ after w (ack v dsn config) s =
       settings = s .settings;
       capacity = s .capacity;
       delivery = acknowledged n (s .delivery);
-      due = s .due;
+      due = s .due && eqb n 0;
       queue = dropFront (s .queue) n;
       start = ringPlace (s .capacity) (s .start) (s .queue .lengths) n;
       next = s .next;

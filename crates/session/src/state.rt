@@ -76,7 +76,7 @@ pub struct State {
     pub capacity: usize,
     // the servers, and how far the active one was sent the queue
     pub delivery: Delivery,
-    // whether the next DATA is the first of its activation and so has S set
+    // whether S is due: no record was released in this activation
     pub due: bool,
     // the records held
     pub queue: Queue,

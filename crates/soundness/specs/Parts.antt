@@ -1,6 +1,6 @@
 -- A state by its parts, for functions that are handed the parts. These definitions render no rule of 01.
 use Prim.Native.Nat.{ℕ, _<_}
-use mathlib.Core.Bool.{Bool}
+use mathlib.Core.Bool.{Bool, false}
 use mathlib.Core.List.{List, []}
 use Rattle.session.specs.declared.state.Active.{Active}
 use Rattle.session.specs.declared.state.Active.the-variants as active
@@ -8,7 +8,7 @@ use Rattle.session.specs.declared.state.Settings.{Settings}
 use Rattle.session.specs.declared.state.Delivery.{Delivery}
 use Rattle.session.specs.declared.state.State.{State}
 
--- A state, by its parts. Where a function does not look at template IDs or the next DSN, [] and 0 stand for them.
+-- A state, by its parts. Where a function does not look at S being due, the template IDs or the next DSN, false, [] and 0 stand for them.
 abbrev pub stateOf : Settings → ℕ → Delivery → Bool → ℕ → List ℕ → List ℕ → List ℕ → ℕ → ℕ → State
 stateOf p capacity d due count lengths templates receivers start next =
     record {
@@ -30,4 +30,4 @@ Below n (active.Server v) = v < n
 abbrev pub partsIn : State → State
 partsIn s =
     let q = s .queue in
-    stateOf (s .settings) (s .capacity) (s .delivery) (s .due) (q .count) (q .lengths) [] (q .receivers) (s .start) 0
+    stateOf (s .settings) (s .capacity) (s .delivery) false (q .count) (q .lengths) [] (q .receivers) (s .start) 0

@@ -1,6 +1,7 @@
 // The limits of the settings, and whether a state is sound.
 ghost use mathlib.Core.Path.{_≡_};
 ghost use Prim.Native.Nat.{_≤_, _<_};
+ghost use mathlib.Core.Bool.{false};
 ghost use mathlib.Core.List.{[]};
 ghost use lib.ListN.{getD};
 ghost use Rattle.octets.specs.Each.{every};
@@ -32,15 +33,8 @@ pub(crate) fn settings_sound(p: Settings, room: usize) -> bool
 }
 
 // Whether the numbers of a state are in their limits.
-fn numbers_sound(
-    p: Settings,
-    room: usize,
-    d: Delivery,
-    due: bool,
-    count: usize,
-    start: usize,
-) -> bool
-    ensures { λ r. ⌜ r ≡ numbersSound p room d due count start ⌝ }
+fn numbers_sound(p: Settings, room: usize, d: Delivery, count: usize, start: usize) -> bool
+    ensures { λ r. ⌜ r ≡ numbersSound p room d count start ⌝ }
 {
     settings_sound(p, room)
         & (count <= MAX_HELD)
@@ -48,7 +42,6 @@ fn numbers_sound(
         & (d.sent <= d.reached)
         & (d.reached <= count)
         & (d.timer < p.duration)
-        & (!due | (d.reached == 0))
 }
 
 // Whether each of n records has at most 1,024 octets and was sent to existing servers only.
@@ -103,15 +96,14 @@ pub fn parts_sound<'a>(
     p: Settings,
     room: usize,
     d: Delivery,
-    due: bool,
     count: usize,
     lengths: &'a [u16; MAX_HELD],
     receivers: &'a [u16; MAX_HELD],
     start: usize,
 ) -> bool
-    ensures { λ r. ⌜ r ≡ sound (stateOf p room d due count (now (lengths .entry)) [] (now (receivers .entry)) start 0) ⌝ }
+    ensures { λ r. ⌜ r ≡ sound (stateOf p room d false count (now (lengths .entry)) [] (now (receivers .entry)) start 0) ⌝ }
 {
-    if !numbers_sound(p, room, d, due, count, start) {
+    if !numbers_sound(p, room, d, count, start) {
         return false;
     }
     if !entries_sound(lengths, receivers, count, p.servers) {

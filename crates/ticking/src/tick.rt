@@ -150,7 +150,6 @@ pub fn tick(s: State) -> Stepped
         p,
         s.capacity,
         d,
-        s.due,
         s.queue.count,
         &lengths,
         &receivers,

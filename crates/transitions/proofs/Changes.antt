@@ -1,5 +1,5 @@
--- Transitions change only a state's delivery and S, and look at no template ID and no next DSN. So what they do to a state is what they do
--- to the parts that soundness looks at, applied to that state. The first laws say what a refused and an accepted step is.
+-- Transitions change only a state's delivery and whether S is due, and look at no template ID and no next DSN. So what they do to a state is
+-- what they do to the other parts, applied to that state. The first laws say what a refused and an accepted step is.
 use mathlib.Core.Path.{_≡_, refl, ap, _∙_}
 use mathlib.Core.Bool.{Bool, true, false, cond, not}
 use mathlib.Core.List.{List, []}
@@ -15,14 +15,23 @@ use Rattle.wire.specs.Replies.{silent, Encoding, layout}
 use Rattle.session.specs.Steps.{Outcome, Call, step, answer, checks, after, settled, storeAfter, written, move, replyTo, transitionChecks}
 use Rattle.session.specs.Steps.{outputAfter, wroteOf}
 use Rattle.servers.specs.Changes.{changeOf, appliedTo, settledChange, refusedChange}
-use Rattle.soundness.specs.Parts.{stateOf, partsIn}
+use Rattle.soundness.specs.Parts.{stateOf}
 use Rattle.servers.specs.declared.change.Change.{Change}
 use Rattle.session.specs.declared.state.State.{State}
 use Rattle.session.specs.declared.state.Wrote.{Wrote}
-use Rattle.soundness.proofs.Parts.{parts-of}
 use Rattle.session.proofs.StepLaws.{settled-same, step-refused, step-done}
 
 -- ---- transitions
+
+-- the parts of a state that a transition looks at: those that soundness looks at, and whether S is due
+abbrev moveParts : State → State
+moveParts s =
+    let q = s .queue in
+    stateOf (s .settings) (s .capacity) (s .delivery) (s .due) (q .count) (q .lengths) [] (q .receivers) (s .start) 0
+
+move-sound : (s : State) → sound (moveParts s) ≡ sound s
+unfolding sound
+move-sound s = refl
 
 module _ (enc : Encoding) (room v : ℕ) (t : Transition) (s : State) where
   -- what a transition is judged by
@@ -39,9 +48,9 @@ module _ (enc : Encoding) (room v : ℕ) (t : Transition) (s : State) where
   unfolding answer checks
   move-judged e f = rw (e, f)
 
-  move-same : answer enc room (move v t) (partsIn s) [] ≡ answer enc room (move v t) s []
+  move-same : answer enc room (move v t) (moveParts s) [] ≡ answer enc room (move v t) s []
   unfolding answer checks
-  move-same = rw (parts-of s)
+  move-same = rw (move-sound s)
 
   -- a transition by parts
   outcome : State → ℕ → Bool → Outcome
@@ -52,9 +61,9 @@ module _ (enc : Encoding) (room v : ℕ) (t : Transition) (s : State) where
 
   move-parts : _≡_ {A = Wrote}
       (record {
-        answer = changeOf (step enc room (move v t) (partsIn s) []) .answer;
-        written = changeOf (step enc room (move v t) (partsIn s) []) .written;
-        state = appliedTo s (changeOf (step enc room (move v t) (partsIn s) []));
+        answer = changeOf (step enc room (move v t) (moveParts s) []) .answer;
+        written = changeOf (step enc room (move v t) (moveParts s) []) .written;
+        state = appliedTo s (changeOf (step enc room (move v t) (moveParts s) []));
       })
       (wroteOf (step enc room (move v t) s []))
   unfolding step after settled written storeAfter outcome
@@ -62,25 +71,25 @@ module _ (enc : Encoding) (room v : ℕ) (t : Transition) (s : State) where
     where
       go : (a : ℕ) (b : Bool) → _≡_ {A = Wrote}
           (record {
-            answer = changeOf (outcome (partsIn s) a b) .answer;
-            written = changeOf (outcome (partsIn s) a b) .written;
-            state = appliedTo s (changeOf (outcome (partsIn s) a b));
+            answer = changeOf (outcome (moveParts s) a b) .answer;
+            written = changeOf (outcome (moveParts s) a b) .written;
+            state = appliedTo s (changeOf (outcome (moveParts s) a b));
           })
           (wroteOf (outcome s a b))
       go a true = refl
       go a false = refl
 
-  move-output : (out : List ℕ) → outputAfter out (step enc room (move v t) (partsIn s) []) ≡ outputAfter out (step enc room (move v t) s [])
+  move-output : (out : List ℕ) → outputAfter out (step enc room (move v t) (moveParts s) []) ≡ outputAfter out (step enc room (move v t) s [])
   unfolding step written storeAfter outcome
   move-output out = rw move-same (go (answer enc room (move v t) s []) (eqb (answer enc room (move v t) s []) done))
     where
-      go : (a : ℕ) (b : Bool) → outputAfter out (outcome (partsIn s) a b) ≡ outputAfter out (outcome s a b)
+      go : (a : ℕ) (b : Bool) → outputAfter out (outcome (moveParts s) a b) ≡ outputAfter out (outcome s a b)
       go a true = refl
       go a false = refl
 
   -- what a transition changes by parts, applied to the state
   pub moved-applied : (out left : List ℕ) (x : Change) (s′ : State)
-      → (x ≡ changeOf (step enc room (move v t) (partsIn s) [])) × (left ≡ outputAfter out (step enc room (move v t) (partsIn s) []))
+      → (x ≡ changeOf (step enc room (move v t) (moveParts s) [])) × (left ≡ outputAfter out (step enc room (move v t) (moveParts s) []))
       → s′ ≡ appliedTo s x
       → _≡_ {A = Wrote} (record { answer = x .answer; written = x .written; state = s′ }) (wroteOf (step enc room (move v t) s []))
       × (left ≡ outputAfter out (step enc room (move v t) s []))

@@ -168,7 +168,7 @@ fn move_change<'a>(
         let o = step crane (length (now (out .entry))) (move v (transitionOf (now (table .entry)) m)) s [] in
         (r ≡ changeOf o) × (now (out .exit) ≡ outputAfter (now (out .entry)) o)) ⌝ }
 {
-    if !soundness::sound::parts_sound(p, capacity, d, due, count, lengths, receivers, start) {
+    if !soundness::sound::parts_sound(p, capacity, d, count, lengths, receivers, start) {
         return servers::change::refuse_change(Answer::UNSOUND_STATE, d, due);
     }
     if p.servers <= v {

@@ -77,7 +77,7 @@ returns c =
     let a =
     c .before .before .before .before .before .before .before .before .before .before .before .before .before .before .before .args in
     let x = c .before .before .put-change in
-    (put-applied (a .s) (a .store .now) (a .table .now) (a .id) (a .r .now) (x .result) (x .ensures .0), x .ensures .1)
+    put-applied (a .s) (a .store .now) (a .table .now) (a .id) (a .r .now) (x .result) _ (x .ensures)
 
 pub put-spec : {M : Type 1} → statement M
 put-spec =

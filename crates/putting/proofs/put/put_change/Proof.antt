@@ -1,6 +1,7 @@
 -- `put_change` meets its contract. A refusal changes nothing. A record that can be put finds fewer than 64 held and has at most 1,024
 -- octets, so every sum fits; it fills the first unused entries, and its octets follow the held ones.
 use mathlib.Core.Path.{_∙_}
+use mathlib.Core.Bool.{false}
 use native.Mathlib.Omega.{arith}
 use Rattle.soundness.specs.Parts.{stateOf}
 use Rattle.session.proofs.SoundFacts.{sound-facts}
@@ -35,7 +36,7 @@ returns : tie.Need-returns
 returns c =
     let a = c .before .before .before .before .before .before .before .before .before .before .before .args in
     let s =
-    stateOf (a .p) (a .capacity) (a .d) (a .due) (a .count) (a .lengths .now) (a .templates .now) (a .receivers .now) (a .start)
+    stateOf (a .p) (a .capacity) (a .d) false (a .count) (a .lengths .now) (a .templates .now) (a .receivers .now) (a .start)
     (a .next) in
     let ps = c .before .before .before .before .before .before .before .parts-sound in
     let n = c .before .before .before .before .before .before .octets-to in
@@ -53,7 +54,7 @@ add-ring-write : tie.Need-add-ring-write
 add-ring-write c =
     let a = c .before .before .before .before .before .before .before .before .args in
     let s =
-    stateOf (a .p) (a .capacity) (a .d) (a .due) (a .count) (a .lengths .now) (a .templates .now) (a .receivers .now) (a .start)
+    stateOf (a .p) (a .capacity) (a .d) false (a .count) (a .lengths .now) (a .templates .now) (a .receivers .now) (a .start)
     (a .next) in
     let ps = c .before .before .before .before .parts-sound in
     let n = c .before .before .before .octets-to in
@@ -68,11 +69,11 @@ add-ring-write c =
 ring-write-requires : tie.Need-ring-write-requires
 ring-write-requires c κs = search needs
 
-cast-t34 : tie.Need-cast-t34
-cast-t34 c =
+cast-t33 : tie.Need-cast-t33
+cast-t33 c =
     let a = c .before .before .before .before .before .before .before .before .before .before .before .args in
     let s =
-    stateOf (a .p) (a .capacity) (a .d) (a .due) (a .count) (a .lengths .now) (a .templates .now) (a .receivers .now) (a .start)
+    stateOf (a .p) (a .capacity) (a .d) false (a .count) (a .lengths .now) (a .templates .now) (a .receivers .now) (a .start)
     (a .next) in
     let ps = c .before .before .before .before .before .before .before .parts-sound in
     let n = c .before .before .before .before .before .before .octets-to in
@@ -83,11 +84,11 @@ cast-t34 c =
     let f = put-known s (a .store .now) (a .table .now) (a .id) (a .r .now) (pa .result) j (c .before .before .before .before .if1 .left) in
     omega (arith, f .short)
 
-add-t33 : tie.Need-add-t33
-add-t33 c =
+add-t32 : tie.Need-add-t32
+add-t32 c =
     let a = c .before .before .before .before .before .before .before .before .before .before .before .args in
     let s =
-    stateOf (a .p) (a .capacity) (a .d) (a .due) (a .count) (a .lengths .now) (a .templates .now) (a .receivers .now) (a .start)
+    stateOf (a .p) (a .capacity) (a .d) false (a .count) (a .lengths .now) (a .templates .now) (a .receivers .now) (a .start)
     (a .next) in
     let ps = c .before .before .before .before .before .before .before .parts-sound in
     let n = c .before .before .before .before .before .before .octets-to in
@@ -108,7 +109,7 @@ returns-2 : tie.Need-returns-2
 returns-2 c =
     let a = c .before .before .before .before .before .before .before .before .before .before .before .before .args in
     let s =
-    stateOf (a .p) (a .capacity) (a .d) (a .due) (a .count) (a .lengths .now) (a .templates .now) (a .receivers .now) (a .start)
+    stateOf (a .p) (a .capacity) (a .d) false (a .count) (a .lengths .now) (a .templates .now) (a .receivers .now) (a .start)
     (a .next) in
     let ps = c .before .before .before .before .before .before .before .before .parts-sound in
     let n = c .before .before .before .before .before .before .before .octets-to in
@@ -139,8 +140,8 @@ put-change-spec =
     cast-ring-write
     add-ring-write
     ring-write-requires
-    cast-t34
-    add-t33
+    cast-t33
+    add-t32
     wrapping-add-u32-requires
     same-length
     returns-2)

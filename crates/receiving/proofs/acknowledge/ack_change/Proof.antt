@@ -1,5 +1,6 @@
 -- `ack_change` meets its contract. An unsound state and a refused acknowledgement change nothing; else the records that the DSN names are
 -- released. These are at most those reached, and the ring's start is inside the store.
+use mathlib.Core.Bool.{false}
 use mathlib.Core.List.{[]}
 use mathlib.Core.Path.{sym, _∙_}
 use native.Mathlib.Omega.{arith}
@@ -20,8 +21,8 @@ refuse-ack-requires c κs = search needs
 returns : tie.Need-returns
 returns c =
     let a = c .before .before .before .args in
-    let parts = stateOf (a .p) (a .capacity) (a .d) (a .due) (a .count) (a .lengths .now) [] (a .receivers .now) (a .start) 0 in
-    let s = stateOf (a .p) (a .capacity) (a .d) (a .due) (a .count) (a .lengths .now) [] (a .receivers .now) (a .start) (a .next) in
+    let parts = stateOf (a .p) (a .capacity) (a .d) false (a .count) (a .lengths .now) [] (a .receivers .now) (a .start) 0 in
+    let s = stateOf (a .p) (a .capacity) (a .d) false (a .count) (a .lengths .now) [] (a .receivers .now) (a .start) (a .next) in
     let e = failed-sound parts (c .before .before .parts-sound .result) (c .before .before .parts-sound .ensures) (c .before .if1 .taken) in
     refused-ack crane (a .v) (a .dsn) (a .config) s 1 (c .refuse-ack .result) (λ z. omega arith)
     (ack-unsound crane (a .v) (a .dsn) (a .config) s (sym (ack-sound-parts s) ∙ e)) (c .refuse-ack .ensures)
@@ -29,7 +30,7 @@ returns c =
 ack-count-requires : tie.Need-ack-count-requires
 ack-count-requires c κs =
     let a = c .before .before .args in
-    let s = stateOf (a .p) (a .capacity) (a .d) (a .due) (a .count) (a .lengths .now) [] (a .receivers .now) (a .start) 0 in
+    let s = stateOf (a .p) (a .capacity) (a .d) false (a .count) (a .lengths .now) [] (a .receivers .now) (a .start) 0 in
     let f = sound-facts s (passed-sound s (c .before .parts-sound .result) (c .before .parts-sound .ensures) (c .if1 .left)) in
     omega (arith, f .numbers .few)
 
@@ -45,8 +46,8 @@ refuse-ack-requires-2 c κs = search needs
 returns-2 : tie.Need-returns-2
 returns-2 c =
     let a = c .before .before .before .before .before .before .args in
-    let parts = stateOf (a .p) (a .capacity) (a .d) (a .due) (a .count) (a .lengths .now) [] (a .receivers .now) (a .start) 0 in
-    let s = stateOf (a .p) (a .capacity) (a .d) (a .due) (a .count) (a .lengths .now) [] (a .receivers .now) (a .start) (a .next) in
+    let parts = stateOf (a .p) (a .capacity) (a .d) false (a .count) (a .lengths .now) [] (a .receivers .now) (a .start) 0 in
+    let s = stateOf (a .p) (a .capacity) (a .d) false (a .count) (a .lengths .now) [] (a .receivers .now) (a .start) (a .next) in
     let e =
     passed-sound parts (c .before .before .before .before .before .parts-sound .result)
     (c .before .before .before .before .before .parts-sound .ensures) (c .before .before .before .before .if1 .left) in
@@ -58,7 +59,7 @@ returns-2 c =
 accept-ack-requires : tie.Need-accept-ack-requires
 accept-ack-requires c κs =
     let a = c .before .before .before .before .before .args in
-    let s = stateOf (a .p) (a .capacity) (a .d) (a .due) (a .count) (a .lengths .now) [] (a .receivers .now) (a .start) 0 in
+    let s = stateOf (a .p) (a .capacity) (a .d) false (a .count) (a .lengths .now) [] (a .receivers .now) (a .start) 0 in
     let f =
     sound-facts s (passed-sound s (c .before .before .before .before .parts-sound .result)
     (c .before .before .before .before .parts-sound .ensures) (c .before .before .before .if1 .left)) in
@@ -70,8 +71,8 @@ accept-ack-requires c κs =
 returns-3 : tie.Need-returns-3
 returns-3 c =
     let a = c .before .before .before .before .before .before .args in
-    let parts = stateOf (a .p) (a .capacity) (a .d) (a .due) (a .count) (a .lengths .now) [] (a .receivers .now) (a .start) 0 in
-    let s = stateOf (a .p) (a .capacity) (a .d) (a .due) (a .count) (a .lengths .now) [] (a .receivers .now) (a .start) (a .next) in
+    let parts = stateOf (a .p) (a .capacity) (a .d) false (a .count) (a .lengths .now) [] (a .receivers .now) (a .start) 0 in
+    let s = stateOf (a .p) (a .capacity) (a .d) false (a .count) (a .lengths .now) [] (a .receivers .now) (a .start) (a .next) in
     let e =
     sym (ack-sound-parts s)
     ∙ passed-sound parts (c .before .before .before .before .before .parts-sound .result)

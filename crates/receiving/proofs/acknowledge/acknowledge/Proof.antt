@@ -15,8 +15,9 @@ queue-after-requires c κs =
 
 returns : tie.Need-returns
 returns c =
-    rw (c .before .before .before .queue-after .ensures, c .before .before .before .before .ack-change .ensures)
-    (ack-parts crane _ _ _ (c .before .before .before .before .before .before .before .before .before .before .before .args .s))
+    let stored = c .before .before .before .before .before in
+    rw (stored .queue-after .ensures, stored .before .ack-change .ensures)
+    (ack-parts crane _ _ _ (stored .before .before .before .before .before .before .before .before .args .s))
 
 pub acknowledge-spec : {M : Type 1} → statement M
 acknowledge-spec = tie.close (tie.spec ack-change-requires queue-after-requires returns)

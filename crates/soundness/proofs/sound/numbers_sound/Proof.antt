@@ -9,7 +9,7 @@ settings-sound-requires c κs = search needs
 
 returns : tie.Need-returns
 unfolding numbersSound
-returns c = rw (c .before .before .before .before .before .settings-sound .ensures)
+returns c = rw (c .before .before .before .before .settings-sound .ensures)
 
 pub numbers-sound-spec : {M : Type 1} → statement M
 numbers-sound-spec = tie.close (tie.spec settings-sound-requires returns)

@@ -22,7 +22,7 @@ entries-sound-requires : tie.Need-entries-sound-requires
 entries-sound-requires c κs =
     let a = c .before .before .args in
     let f =
-    numbers-facts (a .p) (a .room) (a .d) (a .due) (a .count) (a .start)
+    numbers-facts (a .p) (a .room) (a .d) (a .count) (a .start)
     (rw (← c .before .numbers-sound .ensures) (not-false _ (c .if1 .left))) in
     (f .few, f .settings .fewServers)
 
@@ -52,7 +52,7 @@ activation-sound-requires : tie.Need-activation-sound-requires
 activation-sound-requires c κs =
     let a = c .before .before .before .before .before .before .before .before .before .before .before .args in
     let f =
-    numbers-facts (a .p) (a .room) (a .d) (a .due) (a .count) (a .start)
+    numbers-facts (a .p) (a .room) (a .d) (a .count) (a .start)
     (rw (← c .before .before .before .before .before .before .before .before .before .before .numbers-sound .ensures)
     (not-false _ (c .before .before .before .before .before .before .before .before .before .if1 .left))) in
     let e = same-active (a .d .active) _ (sym (c .before .same-active .ensures) ∙ not-false _ (c .if4 .left)) in (

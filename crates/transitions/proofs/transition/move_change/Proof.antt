@@ -11,6 +11,7 @@ use Rattle.session.specs.Steps.{move}
 use Rattle.wire.specs.Replies.{crane}
 use Rattle.transitions.specs.Moves.{transitionOf}
 use Rattle.session.proofs.SoundFacts.{passed-sound, failed-sound}
+use Rattle.soundness.proofs.Parts.{parts-of}
 use Rattle.transitions.proofs.Changes.{move-unsound, move-unknown, refused-change, moved-change}
 use Rattle.transitions.proofs.Moves.{any-table, table-fits, move-refused, move-roomed, fitted, unfitted}
 use borrow.Author.Needs.{needs}
@@ -28,7 +29,7 @@ returns c =
     let a = c .before .before .before .before .before .args in
     let s = stateOf (a .p) (a .capacity) (a .d) (a .due) (a .count) (a .lengths .now) [] (a .receivers .now) (a .start) 0 in
     let t = transitionOf (a .table .now) (a .m) in
-    let e = failed-sound s (c .before .before .parts-sound .result) (c .before .before .parts-sound .ensures) (c .before .if1 .taken) in
+    let e = failed-sound s (c .before .before .parts-sound .result) (c .before .before .parts-sound .ensures ∙ parts-of s) (c .before .if1 .taken) in
     refused-change crane (length (a .out .now)) (move (a .v) t) s (a .out .now) 1 (c .refuse-change .result) (λ z. omega arith)
     (move-unsound crane (length (a .out .now)) (a .v) t s e) (c .refuse-change .ensures)
 
@@ -41,7 +42,7 @@ returns-2 c =
     let s = stateOf (a .p) (a .capacity) (a .d) (a .due) (a .count) (a .lengths .now) [] (a .receivers .now) (a .start) 0 in
     let t = transitionOf (a .table .now) (a .m) in
     let e =
-    passed-sound s (c .before .before .before .before .parts-sound .result) (c .before .before .before .before .parts-sound .ensures)
+    passed-sound s (c .before .before .before .before .parts-sound .result) (c .before .before .before .before .parts-sound .ensures ∙ parts-of s)
     (c .before .before .before .if1 .left) in
     refused-change crane (length (a .out .now)) (move (a .v) t) s (a .out .now) 2 (c .refuse-change2 .result) (λ z. omega arith)
     (move-unknown crane (length (a .out .now)) (a .v) t s e (le-leb (a .p .servers) (a .v) (c .before .if2 .taken)))
@@ -63,7 +64,7 @@ returns-3 c =
     let t = transitionOf (a .table .now) (a .m) in
     let e =
     passed-sound s (c .before .before .before .before .before .before .before .before .parts-sound .result)
-    (c .before .before .before .before .before .before .before .before .parts-sound .ensures)
+    (c .before .before .before .before .before .before .before .before .parts-sound .ensures ∙ parts-of s)
     (c .before .before .before .before .before .before .before .if1 .left) in
     let q = rw (c .before .before .before .phase-at .ensures) at (c .before .before .turn-answer .ensures) in
     refused-change crane (length (a .out .now)) (move (a .v) t) s (a .out .now) (c .before .before .turn-answer .result)
@@ -108,7 +109,7 @@ returns-4 c =
     let s = stateOf (a .p) (a .capacity) (a .d) (a .due) (a .count) (a .lengths .now) [] (a .receivers .now) (a .start) 0 in
     let t = transitionOf (a .table .now) (a .m) in
     let f = fitted _ _ _ _ (rw (told .reply .given .1) at (wrote .write-reply .ensures)) in
-    let e = passed-sound s (sound .before .parts-sound .result) (sound .before .parts-sound .ensures) (sound .if1 .left) in
+    let e = passed-sound s (sound .before .parts-sound .result) (sound .before .parts-sound .ensures ∙ parts-of s) (sound .if1 .left) in
     let q = rw (judged .before .phase-at .ensures) at (judged .turn-answer .ensures) in
     moved-change crane (length (a .out .now)) (a .v) t s (a .out .now) _ _ (c .settle-change .result)
     (move-roomed (length (a .out .now)) (a .v) t s (judged .turn-answer .result) e (lt-leb (a .p .servers) (a .v) (known .if2 .left)) q
@@ -131,7 +132,7 @@ returns-5 c =
     let s = stateOf (a .p) (a .capacity) (a .d) (a .due) (a .count) (a .lengths .now) [] (a .receivers .now) (a .start) 0 in
     let t = transitionOf (a .table .now) (a .m) in
     let f = unfitted _ _ _ _ (rw (told .reply2 .given .1) at (wrote .write-reply .ensures)) in
-    let e = passed-sound s (sound .before .parts-sound .result) (sound .before .parts-sound .ensures) (sound .if1 .left) in
+    let e = passed-sound s (sound .before .parts-sound .result) (sound .before .parts-sound .ensures ∙ parts-of s) (sound .if1 .left) in
     let q = rw (judged .before .phase-at .ensures) at (judged .turn-answer .ensures) in
     let r =
     refused-change crane (length (a .out .now)) (move (a .v) t) s (a .out .now) _ (c .refuse-change4 .result)
