@@ -200,7 +200,7 @@ module _ (enc : Encoding) (v dsn config : ℕ) (s : State) where
           rw (step-refused enc 0 (ack v dsn config) (ackParts s) [] _ h refl, q) (omega arith)
 
   -- an acknowledgement by parts
-  pub ack-parts : _≡_ {A = Wrote}
+  ack-parts : _≡_ {A = Wrote}
       (record {
         answer = ackChangeOf (namedIn (enc .width) s dsn) (step enc 0 (ack v dsn config) (ackParts s) []) .answer;
         written = 0;
@@ -236,6 +236,27 @@ module _ (enc : Encoding) (v dsn config : ℕ) (s : State) where
             dropped-none (s .queue),
             and-true (s .due),
           )
+
+  -- the state with such a change: the counters, whether S is due, and the queue, by what was released
+  pub ack-applied : (x : AckChange) (q : Queue) (due : Bool)
+      → x ≡ ackChangeOf (namedIn (enc .width) s dsn) (step enc 0 (ack v dsn config) (ackParts s) [])
+      → q ≡ dropFront (s .queue) (x .released) → due ≡ (s .due && eqb (x .released) 0)
+      → _≡_ {A = Wrote}
+      (record {
+        answer = x .answer;
+        written = 0;
+        state = record {
+          settings = s .settings;
+          capacity = s .capacity;
+          delivery = withCounts (s .delivery) (x .sent) (x .reached) (x .timer);
+          due = due;
+          queue = q;
+          start = x .start;
+          next = s .next;
+        };
+      })
+      (wroteOf (step enc 0 (ack v dsn config) s []))
+  ack-applied x q due e k d = rw (d, k, e) ack-parts
 
 -- ---- the output
 

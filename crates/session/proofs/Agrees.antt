@@ -8,7 +8,7 @@ use lib.Dec.{eqb}
 use lib.ListN.{length, getD, drop}
 use Rattle.session.specs.Queue.{Entry, has, held}
 use Rattle.session.specs.Sound.{sound}
-use Rattle.session.specs.History.{Writing, Ledger, History, dsnOf, writtenIn, writtenDuring}
+use Rattle.session.specs.History.{Writing, Ledger, History, dsnOf, writtenIn, writtenDuring, firstWritten}
 use Rattle.session.specs.declared.state.Active.the-variants.{Server}
 use Rattle.session.specs.declared.state.Settings.{Settings}
 use Rattle.session.specs.declared.state.Queue.{Queue}
@@ -33,11 +33,13 @@ pub record Core (w : ℕ) (l : Ledger) (s : State) (store : List ℕ) : Type 0 w
   pub behind : drop (l .released) (l .records) ≡ held s store
   pub stock : Stock w (s .settings) (l .records) (l .released) (l .writings) (s .queue) (s .next)
   -- S is due exactly where nothing was released in this activation
-  pub origin : l .began ≤ l .released
-  pub starts : s .due ≡ eqb (l .released) (l .began)
+  pub origin : l .releasedBefore ≤ l .released
+  pub starts : s .due ≡ eqb (l .released) (l .releasedBefore)
   -- what was released in it was written in it, and nothing was written in a later one
-  pub opened : l .began < l .released → writtenDuring (l .writings) (l .activation) ≡ true
+  pub opened : l .releasedBefore < l .released → writtenDuring (l .writings) (l .activation) ≡ true
   pub later : (k : ℕ) → l .activation < k → writtenDuring (l .writings) k ≡ false
+  -- what was written first in it is the first place behind those released before it
+  pub first : firstWritten (l .writings) (l .activation) (l .releasedBefore + 1) ≡ l .releasedBefore + 1
   -- each place that was reached was written to the active server in its activation
   pub since : (v k : ℕ) → s .delivery .active ≡ Server v → l .released < k → k ≤ l .released + s .delivery .reached
       → writtenIn (l .writings) k v (l .activation) ≡ true

@@ -3,7 +3,7 @@
 --
 use mathlib.Core.Path.{_≡_, refl, sym, ap, _∙_, subst}
 use mathlib.Core.Logic.{inl, inr}
-use mathlib.Core.Bool.{Bool, true, false, not, _&&_, _||_, cond, false≢true, and-false}
+use mathlib.Core.Bool.{Bool, true, false, not, _&&_, _||_, cond, false≢true, and-true, and-false}
 use mathlib.Core.List.{List, [], _∷_, _++_}
 use Prim.Native.Nat.{ℕ, _+_, _-_, _≤_, _<_}
 use native.Mathlib.Nat.{zero-add, mod-lt}
@@ -26,9 +26,9 @@ use Rattle.session.specs.Limits.{maxHeld}
 use Rattle.session.specs.Steps.{modulus, ackCount, Call, put, nextData, tick, ack, move, isDuplicate, isFirst, headOf, written}
 use Rattle.session.specs.Steps.{isSessions, checks, soundFor, answer, after, settled, storeAfter, Outcome, step}
 use Rattle.session.specs.History.{Ledger, History, dsnOf, ackPlace, deliveryAfter, ledgerAfter, afterAccepted, afterCall, writtenIn}
-use Rattle.session.specs.History.{writtenDuring}
+use Rattle.session.specs.History.{writtenDuring, firstWritten}
 use Rattle.session.specs.Claim.{Session, InRange, entryAt, nextPlace, isDuplicateFor, dueReply, octetsTogether, dueChecks, Named}
-use Rattle.session.specs.Claim.{beganActivation, ReleasedBy, Acknowledgeable, CallClaim, Account}
+use Rattle.session.specs.Claim.{isFirstIn, ReleasedBy, Acknowledgeable, CallClaim, Account}
 use Rattle.session.specs.declared.state.Active.{Active}
 use Rattle.session.specs.declared.state.Active.the-variants.{Nobody, Server}
 use Rattle.session.specs.declared.state.Delivery.{Delivery}
@@ -42,7 +42,7 @@ use Rattle.session.proofs.SoundKept.{active-some, after-sized, accepted
 use Rattle.session.proofs.HeldLaws.{held-read}
 use Rattle.session.proofs.StepLaws.{step-answer}
 use Rattle.session.proofs.Keeps.{begun, begun-released, written-released, settle-keeps, held-dsn, acked, ack-dsn, ack-below}
-use Rattle.session.proofs.Keeps.{ack-named, acknowledger, in-during, call-keeps, call-delivery}
+use Rattle.session.proofs.Keeps.{ack-named, acknowledger, first-none, first-any, nothing-released, call-keeps, call-delivery}
 
 -- ---- the state is sound
 
@@ -205,7 +205,7 @@ module _ (enc : Encoding) (room : ℕ) (h : History) (s : State) (store : List �
 
   -- S is set by the state exactly where its record began the activation and none was released since
   first-at : isFirst s
-      ≡ (eqb (h .ledger .released + (s .delivery .sent + 1)) (h .ledger .began + 1) && eqb (h .ledger .released) (h .ledger .began))
+      ≡ (eqb (h .ledger .released + (s .delivery .sent + 1)) (h .ledger .releasedBefore + 1) && eqb (h .ledger .released) (h .ledger .releasedBefore))
   first-at = ap (λ (x : Bool). x && eqb n 0) (a .core .starts) ∙ go (ℕ-discrete r b) (ℕ-discrete n 0)
     where
       n : ℕ
@@ -215,37 +215,43 @@ module _ (enc : Encoding) (room : ℕ) (h : History) (s : State) (store : List �
       r = h .ledger .released
 
       b : ℕ
-      b = h .ledger .began
+      b = h .ledger .releasedBefore
 
       go : Dec (r ≡ b) → Dec (n ≡ 0) → eqb r b && eqb n 0 ≡ eqb (r + (n + 1)) (b + 1) && eqb r b
       go (yes x) (yes y) = rw (eq-eqb r b x, eq-eqb n 0 y, eq-eqb (r + (n + 1)) (b + 1) (omega arith))
       go (yes x) (no y) = rw (eq-eqb r b x, ne-eqb n 0 y, ne-eqb (r + (n + 1)) (b + 1) (λ z. y (omega arith)))
       go (no x) y = rw (ne-eqb r b x) (sym (and-false (eqb (r + (n + 1)) (b + 1))))
 
-  -- the first DATA of an activation is of the record that began it
-  opens-with : writtenDuring (h .ledger .writings) (h .ledger .activation) ≡ false → judge (checks enc room nextData s store) ≡ done
-      → beganActivation h ≡ true
+  -- that record was written first in the activation, if any was
+  first-written : judge (checks enc room nextData s store) ≡ done
+      → isFirstIn h ≡ eqb (nextPlace h) (firstWritten (h .ledger .writings) (h .ledger .activation) (nextPlace h))
   unfolding checks
-  opens-with none e = go (active-some (s .delivery .active) (passed (checks enc room nextData s store) tt e .0))
+  first-written e = go (writtenDuring (l .writings) (l .activation)) refl
     where
-      unreached : (v : ℕ) → s .delivery .active ≡ Server v → Dec (s .delivery .reached ≡ 0) → s .delivery .reached ≡ 0
-      unreached v k (yes x) = x
-      unreached v k (no x) =
-          absurd (false≢true (sym none
-          ∙ in-during (h .ledger .writings) (h .ledger .released + 1) v (h .ledger .activation)
-          (a .core .since v (h .ledger .released + 1) k (omega arith) (omega (arith, x)))))
+      l : Ledger
+      l = h .ledger
 
-      unreleased : Dec (h .ledger .released ≡ h .ledger .began) → h .ledger .released ≡ h .ledger .began
-      unreleased (yes x) = x
-      unreleased (no x) = absurd (false≢true (sym none ∙ a .core .opened (omega (arith, x, a .core .origin))))
+      active : (v : ℕ) × (s .delivery .active ≡ Server v)
+      active = active-some (s .delivery .active) (passed (checks enc room nextData s store) tt e .0)
 
-      go : (v : ℕ) × (s .delivery .active ≡ Server v) → beganActivation h ≡ true
-      go x =
-          let reached = unreached (x .0) (x .1) (ℕ-discrete (s .delivery .reached) 0) in
-          let released = unreleased (ℕ-discrete (h .ledger .released) (h .ledger .began)) in
+      -- none was released since where the place is the one with which the activation began
+      same : Dec (nextPlace h ≡ l .releasedBefore + 1)
+          → eqb (nextPlace h) (l .releasedBefore + 1) && eqb (l .released) (l .releasedBefore) ≡ eqb (nextPlace h) (l .releasedBefore + 1)
+      same (yes x) = rw (eq-eqb (l .released) (l .releasedBefore) (omega (arith, a .core .origin))) (and-true (eqb (nextPlace h) (l .releasedBefore + 1)))
+      same (no x) = rw (ne-eqb (nextPlace h) (l .releasedBefore + 1) x)
+
+      go : (b : Bool) → writtenDuring (l .writings) (l .activation) ≡ b
+          → isFirstIn h ≡ eqb (nextPlace h) (firstWritten (l .writings) (l .activation) (nextPlace h))
+      go true x =
+          rw (first-any (l .writings) (l .activation) (nextPlace h) (l .releasedBefore + 1) x, a .core .first)
+          (same (ℕ-discrete (nextPlace h) (l .releasedBefore + 1)))
+      go false x =
+          let none = nothing-released enc l s store wide (a .isSound) (a .sized) (a .core) (active .0) (active .1) x in
           rw (
-            eq-eqb (nextPlace h) (h .ledger .began + 1) (omega (arith, next-place, reached, released, facts .numbers .sentReached)),
-            eq-eqb (h .ledger .released) (h .ledger .began) released,
+            first-none (l .writings) (l .activation) (nextPlace h) x,
+            eq-eqb (nextPlace h) (l .releasedBefore + 1) (omega (arith, next-place, none .0, none .1)),
+            eq-eqb (l .released) (l .releasedBefore) (none .1),
+            eq-eqb (nextPlace h) (nextPlace h) refl,
           )
 
   next-written : s .delivery .sent < s .queue .count → written w nextData s store ≡ dueReply (sessionAt enc s) h nextData
@@ -484,7 +490,7 @@ module _ (enc : Encoding) (room : ℕ) (h : History) (s : State) (store : List �
         writes = step-writes k;
         standsFor = λ e x. stands-for (checked nextData e x);
         accepted = λ e x. next-accepted (checked nextData e x);
-        opens = λ e x none. opens-with none (checked nextData e x);
+        marks = λ e x. first-written (checked nextData e x);
         names = λ v d config e x. names-one v d config (subst (InRange w) e i) (checked (ack v d config) e x);
         releases = step-releases k i (o .answer) (sym (call-answer k));
         ackAccepted = λ v q e active x.

@@ -13,6 +13,7 @@ use Rattle.session.specs.Queue.{heldFrom, held}
 use Rattle.session.specs.Sound.{settingsSound}
 use Rattle.session.specs.Steps.{modulus, Call, put, nextData, tick, ack, move, fresh, refusedState, setUp}
 use Rattle.session.specs.History.{History, deliveryAfter, ledgerAfter, afterAccepted, afterCall, freshHistory, anyWriting}
+use Rattle.session.specs.History.{firstWritten}
 use Rattle.session.specs.Claim.{Invocation, Session, dsnBits, Exporter, outcome, advance, run, begin, AnsweredCall, transcript}
 use Rattle.session.specs.Claim.{historyFrom, Premises, InRange, AllInRange, nextPlace, CallClaim, namedBy, lastNamed, Calls}
 use Rattle.session.specs.Claim.{historyOf, Demand3, Demand3Of64}
@@ -116,7 +117,7 @@ set-up p room e = go (settingsSound p room) refl e
 
 fresh-agrees : (w : ℕ) (p : Settings) (store : List ℕ) → 64 < modulus w → settingsSound p (length store) ≡ true → p .initial < modulus w
     → Agrees w freshHistory (fresh p (length store)) store
-unfolding fresh freshHistory anyWriting heldFrom
+unfolding fresh freshHistory anyWriting firstWritten heldFrom
 fresh-agrees w p store wide e i =
     record {
       delivery = refl;
@@ -135,6 +136,7 @@ fresh-agrees w p store wide e i =
         origin = omega arith;
         starts = refl;
         opened = λ x. let y : ⊥ = omega arith in absurd y;
+        first = refl;
         later = λ k h. refl;
         since = λ v k x lo hi. let y : ⊥ = omega arith in absurd y;
         until = λ v k x. absurd (false≢true x);
@@ -164,7 +166,8 @@ demand3 z store m is i =
       account = account-of (c .agrees);
       last = last-named (dsnBits z) (z .settings) freshHistory 0 (transcript z (begin z store) is) refl;
       reached = reached-written (c .agrees);
-      grown = c .agrees .core .origin;
+      beganWith = c .agrees .core .first;
+      noFewer = c .agrees .core .origin;
       due = c .agrees .core .starts;
       calls = each-call z wide (begin z store) freshHistory is i k;
       isSound = c .agrees .isSound;

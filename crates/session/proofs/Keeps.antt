@@ -22,7 +22,7 @@ use Rattle.session.specs.Sound.{sound}
 use Rattle.session.specs.Steps.{modulus, firstHeld, dsnAt, ackCount, Call, put, nextData, tick, ack, move, checks, withDelivery}
 use Rattle.session.specs.Steps.{after, settled, storeAfter}
 use Rattle.session.specs.History.{Writing, Ledger, withActivation, dsnOf, ackPlace, deliveryAfter, writtenBy, ledgerAfter, anyWriting}
-use Rattle.session.specs.History.{writtenIn, writtenDuring}
+use Rattle.session.specs.History.{writtenIn, writtenDuring, firstWritten}
 use Rattle.session.specs.Claim.{InRange}
 use Rattle.session.specs.declared.state.Active.{Active}
 use Rattle.session.specs.declared.state.Active.the-variants.{Nobody, Server}
@@ -51,7 +51,7 @@ written-released Nobody q l = refl
 written-released (Server v) q l = refl
 
 -- what was written to a server in an activation was written in it
-pub in-during : (ws : List Writing) (q v k : ℕ) → writtenIn ws q v k ≡ true → writtenDuring ws k ≡ true
+in-during : (ws : List Writing) (q v k : ℕ) → writtenIn ws q v k ≡ true → writtenDuring ws k ≡ true
 unfolding anyWriting
 in-during [] q v k e = e
 in-during (x ∷ xs) q v k e =
@@ -66,6 +66,27 @@ in-during (x ∷ xs) q v k e =
     go false true false r d e f = f e
     go false false true r d e f = refl
     go false false false r d e f = f e
+
+-- what was written first in an activation, where nothing was, and where something was
+pub first-none : (ws : List Writing) (k q : ℕ) → writtenDuring ws k ≡ false → firstWritten ws k q ≡ q
+unfolding anyWriting firstWritten
+first-none [] k q e = refl
+first-none (x ∷ xs) k q e = go (eqb (x .activation) k) (first-none xs k q) e
+  where
+    go : (b : Bool) → (writtenDuring xs k ≡ false → firstWritten xs k q ≡ q) → b || writtenDuring xs k ≡ false
+        → firstWritten xs k (cond b (x .place) q) ≡ q
+    go true f h = absurd (false≢true (sym h))
+    go false f h = f h
+
+pub first-any : (ws : List Writing) (k q r : ℕ) → writtenDuring ws k ≡ true → firstWritten ws k q ≡ firstWritten ws k r
+unfolding anyWriting firstWritten
+first-any [] k q r e = absurd (false≢true e)
+first-any (x ∷ xs) k q r e = go (eqb (x .activation) k) (first-any xs k q r) e
+  where
+    go : (b : Bool) → (writtenDuring xs k ≡ true → firstWritten xs k q ≡ firstWritten xs k r) → b || writtenDuring xs k ≡ true
+        → firstWritten xs k (cond b (x .place) q) ≡ firstWritten xs k (cond b (x .place) r)
+    go true f h = refl
+    go false f h = f h
 
 -- the choice made anew
 pub settle-keeps : {w : ℕ} {l : Ledger} {s : State} {store : List ℕ} → Core w l s store
@@ -98,6 +119,7 @@ settle-keeps {w} {l} {s} {store} c = go (changed (s .settings) (s .delivery))
           starts = sym (eq-eqb (l .released) (l .released) refl);
           opened = λ x. let z : ⊥ = omega arith in absurd z;
           later = λ k h. c .later k (omega arith);
+          first = first-none (l .writings) (l .activation + 1) (l .released + 1) (c .later (l .activation + 1) (omega arith));
           since = λ v k e h b. let z : ⊥ = omega arith in absurd z;
           until =
               λ v k e. absurd (false≢true
@@ -112,6 +134,7 @@ settle-keeps {w} {l} {s} {store} c = go (changed (s .settings) (s .delivery))
           starts = c .starts;
           opened = c .opened;
           later = c .later;
+          first = c .first;
           since = c .since;
           until = c .until;
         }
@@ -129,6 +152,7 @@ calm-keeps {s} {store} d m c =
       starts = c .starts;
       opened = c .opened;
       later = c .later;
+      first = c .first;
       since = λ v k e h b. c .since v k (sym (m .active) ∙ e) h (omega arith);
       until = λ v k e. omega (arith, c .until v k e, m .reached);
     }
@@ -185,14 +209,33 @@ module _ (enc : Encoding) (l : Ledger) (s : State) (store : List ℕ) (wide : 64
         starts = c .starts;
         opened = c .opened;
         later = c .later;
+        first = c .first;
         since = c .since;
         until = c .until;
       }
 
+  -- where nothing was written in the activation, nothing was sent and nothing released in it
+  pub nothing-released : (v : ℕ) → s .delivery .active ≡ Server v → writtenDuring (l .writings) (l .activation) ≡ false
+      → (s .delivery .sent ≡ 0) × (l .released ≡ l .releasedBefore)
+  nothing-released v ea none = (
+    omega (arith, unreached (ℕ-discrete (s .delivery .reached) 0), f .numbers .sentReached),
+    unreleased (ℕ-discrete (l .released) (l .releasedBefore)),
+  )
+    where
+      unreached : Dec (s .delivery .reached ≡ 0) → s .delivery .reached ≡ 0
+      unreached (yes x) = x
+      unreached (no x) =
+          absurd (false≢true (sym none
+          ∙ in-during (l .writings) (l .released + 1) v (l .activation) (c .since v (l .released + 1) ea (omega arith) (omega (arith, x)))))
+
+      unreleased : Dec (l .released ≡ l .releasedBefore) → l .released ≡ l .releasedBefore
+      unreleased (yes x) = x
+      unreleased (no x) = absurd (false≢true (sym none ∙ c .opened (omega (arith, x, c .origin))))
+
   -- next data, where server v is active
   next-at : (v : ℕ) → s .delivery .active ≡ Server v → s .delivery .sent < s .queue .count
       → Core w (ledgerAfter w (s .settings) nextData (s .delivery) l) (after w nextData s) store
-  unfolding ledgerAfter after sentOne marked anyWriting recordAt
+  unfolding ledgerAfter after sentOne marked anyWriting firstWritten recordAt
   next-at v ea h =
       let k = c .stock in
       let q = s .queue in
@@ -219,10 +262,22 @@ module _ (enc : Encoding) (l : Ledger) (s : State) (store : List ℕ) (wide : 64
         starts = c .starts;
         opened = λ x. rw (eq-eqb (l .activation) (l .activation) refl);
         later = λ j g. rw (ne-eqb (l .activation) j (λ z. omega arith)) (c .later j g);
+        first =
+            ap (λ (b : Bool). firstWritten (l .writings) (l .activation) (cond b place (l .releasedBefore + 1)))
+            (eq-eqb (l .activation) (l .activation) refl)
+            ∙ first-still (writtenDuring (l .writings) (l .activation)) refl;
         since = λ u j e lo hi. recent u j (cc) lo hi (ℕ-discrete j place);
         until = λ u j e. far u j e (ℕ-discrete j place);
       })
     where
+      first-still : (b : Bool) → writtenDuring (l .writings) (l .activation) ≡ b
+          → firstWritten (l .writings) (l .activation) (l .released + (s .delivery .sent + 1)) ≡ l .releasedBefore + 1
+      first-still true e =
+          first-any (l .writings) (l .activation) (l .released + (s .delivery .sent + 1)) (l .releasedBefore + 1) e ∙ c .first
+      first-still false e =
+          let z = nothing-released v ea e in
+          first-none (l .writings) (l .activation) (l .released + (s .delivery .sent + 1)) e ∙ omega (arith, z .0, z .1)
+
       far : (u j : ℕ)
           → (eqb (l .released + (s .delivery .sent + 1)) j && eqb v u && eqb (l .activation) (l .activation))
           || writtenIn (l .writings) j u (l .activation) ≡ true
@@ -318,24 +373,25 @@ module _ (enc : Encoding) (l : Ledger) (s : State) (store : List ℕ) (wide : 64
         starts = none-more n;
         opened = λ x. opens n b (ℕ-discrete n 0) x;
         later = c .later;
+        first = c .first;
         since = λ u j x lo hi. c .since u j (sym (low .active) ∙ x) (omega arith) (omega (arith, low .reached));
         until = λ u j x. omega (arith, c .until u j x, low .reached);
       })
     where
       -- no record was released in this activation exactly where none was before, and n is 0
-      none-more : (n : ℕ) → s .due && eqb n 0 ≡ eqb (l .released + n) (l .began)
-      none-more n = ap (λ (x : Bool). x && eqb n 0) (c .starts) ∙ go (ℕ-discrete (l .released) (l .began)) (ℕ-discrete n 0)
+      none-more : (n : ℕ) → s .due && eqb n 0 ≡ eqb (l .released + n) (l .releasedBefore)
+      none-more n = ap (λ (x : Bool). x && eqb n 0) (c .starts) ∙ go (ℕ-discrete (l .released) (l .releasedBefore)) (ℕ-discrete n 0)
         where
-          go : Dec (l .released ≡ l .began) → Dec (n ≡ 0) → eqb (l .released) (l .began) && eqb n 0 ≡ eqb (l .released + n) (l .began)
+          go : Dec (l .released ≡ l .releasedBefore) → Dec (n ≡ 0) → eqb (l .released) (l .releasedBefore) && eqb n 0 ≡ eqb (l .released + n) (l .releasedBefore)
           go (yes x) (yes y) =
-              rw (eq-eqb (l .released) (l .began) x, eq-eqb n 0 y, eq-eqb (l .released + n) (l .began) (omega arith))
+              rw (eq-eqb (l .released) (l .releasedBefore) x, eq-eqb n 0 y, eq-eqb (l .released + n) (l .releasedBefore) (omega arith))
           go (yes x) (no y) =
-              rw (eq-eqb (l .released) (l .began) x, ne-eqb n 0 y, ne-eqb (l .released + n) (l .began) (λ z. y (omega arith)))
+              rw (eq-eqb (l .released) (l .releasedBefore) x, ne-eqb n 0 y, ne-eqb (l .released + n) (l .releasedBefore) (λ z. y (omega arith)))
           go (no x) y =
-              rw (ne-eqb (l .released) (l .began) x, ne-eqb (l .released + n) (l .began) (λ z. x (omega (arith, c .origin))))
+              rw (ne-eqb (l .released) (l .releasedBefore) x, ne-eqb (l .released + n) (l .releasedBefore) (λ z. x (omega (arith, c .origin))))
 
       -- what is released was reached, and so was written
-      opens : (n : ℕ) → n ≤ s .delivery .reached → Dec (n ≡ 0) → l .began < l .released + n
+      opens : (n : ℕ) → n ≤ s .delivery .reached → Dec (n ≡ 0) → l .releasedBefore < l .released + n
           → writtenDuring (l .writings) (l .activation) ≡ true
       opens n b (yes e) x = c .opened (omega arith)
       opens n b (no e) x =

@@ -25,7 +25,7 @@ use Rattle.session.specs.Steps.{storeAfter, step, fresh, setUp}
 use Rattle.session.specs.History.{dsnOf, placeOf, deliveryAfter, ledgerAfter, afterAccepted, afterCall, freshHistory, anyWriting}
 use Rattle.session.specs.Claim.{advance, begin}
 use Rattle.session.specs.Counters.{Released}
-use Rattle.session.specs.Resends.{DueRules, DueRule, answersFrom, marksFrom, marksDue, examples, ExamplesHold}
+use Rattle.session.specs.Resends.{DueRules, DueRule, answersFrom, marksFrom, marksDue, ResendExamples}
 use Rattle.session.specs.declared.state.State.{State}
 use Rattle.session.proofs.SoundFacts.{sound-facts, active-same}
 use Rattle.session.proofs.SoundKept.{tick-calm}
@@ -110,37 +110,14 @@ due-rule enc room c s store = go (ℕ-discrete (answer enc room c s store) done)
 
 -- ---- the examples
 
-pub resend-examples : ExamplesHold examples
+pub resend-examples : ResendExamples
 unfolding numberOf uintIn octetsIn every firstFrom isType widthOf isMessage bodyFits messageOf layoutOf meaningOf keySound blockEnd
     headSound paddingSound blockSound blockAt tableSound templateIndex templateAt fixedLength fieldLength fieldAt recordValid choose changed
     settle transition otherAgreed expired ticked sentOne acknowledged sumOf ringRead ringWrite recordAt has hasOther pushed dropFront marked
     settingsSound numbersSound sound ackCount headOf written checks answer after settled storeAfter step fresh setUp dsnOf placeOf
     deliveryAfter ledgerAfter afterAccepted afterCall freshHistory anyWriting advance begin answersFrom marksFrom marksDue
-resend-examples = (
-  (refl, (refl, refl)),
-  (
-    (refl, (refl, refl)),
-    (
-      (refl, (refl, refl)),
-      (
-        (refl, (refl, refl)),
-        (
-          (refl, (refl, refl)),
-          (
-            (refl, (refl, refl)),
-            (
-              (refl, (refl, refl)),
-              (
-                (refl, (refl, refl)),
-                (
-                  (refl, (refl, refl)),
-                  ((refl, (refl, refl)), ((refl, (refl, refl)), ((refl, (refl, refl)), tt))),
-                ),
-              ),
-            ),
-          ),
-        ),
-      ),
-    ),
-  ),
-)
+resend-examples =
+    record {
+      resends = ((refl, (refl, refl)), ((refl, (refl, refl)), ((refl, (refl, refl)), ((refl, (refl, refl)), ((refl, (refl, refl)), ((refl, (refl, refl)), tt))))));
+      beginnings = ((refl, (refl, refl)), ((refl, (refl, refl)), ((refl, (refl, refl)), ((refl, (refl, refl)), ((refl, (refl, refl)), ((refl, (refl, refl)), ((refl, (refl, refl)), ((refl, (refl, refl)), ((refl, (refl, refl)), tt)))))))));
+    }

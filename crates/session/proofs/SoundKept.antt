@@ -3,7 +3,7 @@
 --
 use mathlib.Core.Path.{_≡_, refl, sym, ap, _∙_}
 use mathlib.Core.Logic.{_≢_}
-use mathlib.Core.Bool.{Bool, true, false, not, _&&_, _||_, cond, false≢true}
+use mathlib.Core.Bool.{Bool, true, false, not, _||_, cond, false≢true}
 use mathlib.Core.List.{List, _∷_}
 use Prim.Native.Nat.{ℕ, _+_, _-_, _%_, _^_, _≤_, _<_}
 use native.Mathlib.Nat.{mod-lt}
@@ -243,7 +243,7 @@ module _ (s : State) (z : Sized (s .queue)) (f : SoundFacts s) where
   calm-fit : (d : Delivery) → Calm (s .settings) (s .delivery) d → Fit (withDelivery s d)
   calm-fit d m =
       let k = f .numbers in
-      lower-fit 0 d (s .due) (s .queue) (s .start)
+      lower-fit 0 d _ (s .queue) (s .start)
       (record {
         active = m .active;
         reached = omega (arith, m .reached);
@@ -287,7 +287,7 @@ module _ (s : State) (z : Sized (s .queue)) (f : SoundFacts s) where
       let q = s .queue in
       let n : ℕ = ackCount w s dsn in
       let whole : n + (q .count - n) ≡ q .count = omega (arith, k .reachedHeld) in
-      lower-fit n (acknowledged n (s .delivery)) (s .due && eqb n 0) (dropFront q n) ((s .start + octetsTo q n) % s .capacity) (ack-lower n)
+      lower-fit n (acknowledged n (s .delivery)) _ (dropFront q n) ((s .start + octetsTo q n) % s .capacity) (ack-lower n)
       (mod-lt (s .start + octetsTo q n) (omega (arith, k .settings .someRoom))) refl
       (λ i l. shifted-at (q .lengths) n i (omega (arith, z .lengths, k .few)))
       (λ i l. shifted-at (q .receivers) n i (omega (arith, z .receivers, k .few)))

@@ -24,7 +24,7 @@ use Rattle.session.specs.Sound.{sound}
 use Rattle.session.specs.Steps.{modulus, Call, put, nextData, tick, ack, move, isSessions, replyTo, transitionChecks, Outcome, step}
 use Rattle.session.specs.Steps.{setUp}
 use Rattle.session.specs.History.{Writing, Ledger, History, dsnOf, placeOf, ackPlace, afterCall, freshHistory, anyWriting, writtenIn}
-use Rattle.session.specs.History.{writtenDuring}
+use Rattle.session.specs.History.{firstWritten}
 use Rattle.session.specs.declared.state.Active.{Active}
 use Rattle.session.specs.declared.state.Active.the-variants as active
 use Rattle.session.specs.declared.state.Settings.{Settings}
@@ -135,11 +135,12 @@ abbrev pub isDuplicateFor : Active → List Writing → ℕ → Bool
 isDuplicateFor active.Nobody writings q = false
 isDuplicateFor (active.Server v) writings q = writtenToOther writings q v
 
--- S: the place is the one with which the activation began, behind those released before it, and none was released since (02, ask 2).
-abbrev pub beganActivation : History → Bool
-beganActivation h =
+-- S (02, ask 2): the place is the one with which the activation began, the first behind those released before it, and none was released
+-- since.
+abbrev pub isFirstIn : History → Bool
+isFirstIn h =
     let l = h .ledger in
-    eqb (nextPlace h) (l .began + 1) && eqb (l .released) (l .began)
+    eqb (nextPlace h) (l .releasedBefore + 1) && eqb (l .released) (l .releasedBefore)
 
 -- The head of the next DATA: the DSN of its place, S exactly where its record began the activation and none was released since, D exactly
 -- where it was written to another server.
@@ -149,7 +150,7 @@ dueHead z h =
       session = z .settings .session;
       template = entryAt (h .ledger) (nextPlace h) .template;
       config = z .settings .config;
-      first = beganActivation h;
+      first = isFirstIn h;
       duplicate = isDuplicateFor (h .delivery .active) (h .ledger .writings) (nextPlace h);
       dsn = dsnOf (dsnBits z) (z .settings) (nextPlace h);
     }
@@ -233,9 +234,9 @@ pub record CallClaim (z : Session) (capacity room : ℕ) (h : History) (hs : Lis
   pub standsFor : c ≡ nextData → o .answer ≡ done → (q : ℕ) → h .ledger .released < q → q ≤ h .ledger .released + maxHeld
       → dsnOf (dsnBits z) (z .settings) q ≡ dsnOf (dsnBits z) (z .settings) (nextPlace h) → q ≡ nextPlace h
   pub accepted : c ≡ nextData → o .answer ≡ done → nextPlace h ≤ length (h .ledger .records)
-  -- the first DATA of an activation is of the record that began it, and so has S
-  pub opens : c ≡ nextData → o .answer ≡ done → writtenDuring (h .ledger .writings) (h .ledger .activation) ≡ false
-      → beganActivation h ≡ true
+  -- of the writings alone: a DATA has S exactly where its place is the one that was written first in the activation, or none was
+  pub marks : c ≡ nextData → o .answer ≡ done
+      → isFirstIn h ≡ eqb (nextPlace h) (firstWritten (h .ledger .writings) (h .ledger .activation) (nextPlace h))
   -- an accepted DATA ACK names one place
   pub names : (v d config : ℕ) → c ≡ ack v d config → o .answer ≡ done → Named (dsnBits z) (z .settings) (h .ledger) d
   -- whatever a call releases was written to the acknowledging server in its activation
@@ -288,9 +289,12 @@ pub record Claim (z : Session) (x : Exporter) (ks : List AnsweredCall) (EachCall
   -- of the places that are not released, exactly the first `reached` were written to the active server in its activation
   pub reached : let h = historyOf z ks in (v q : ℕ) → h .delivery .active ≡ active.Server v → h .ledger .released < q
       → writtenIn (h .ledger .writings) q v (h .ledger .activation) ≡ leb q (h .ledger .released + h .delivery .reached)
-  -- at least those that were released when the activation began are released, and S is due exactly where no other is
-  pub grown : let l = historyOf z ks .ledger in l .began ≤ l .released
-  pub due : let l = historyOf z ks .ledger in x .state .due ≡ eqb (l .released) (l .began)
+  -- the activation began with the first place behind those released before it: what was written first in it, if anything was, is that place
+  pub beganWith : let l = historyOf z ks .ledger in
+      firstWritten (l .writings) (l .activation) (l .releasedBefore + 1) ≡ l .releasedBefore + 1
+  -- no fewer are released than before the activation, and S is due exactly where no more are
+  pub noFewer : let l = historyOf z ks .ledger in l .releasedBefore ≤ l .released
+  pub due : let l = historyOf z ks .ledger in x .state .due ≡ eqb (l .released) (l .releasedBefore)
   -- every call is answered, writes and releases as the history has it
   pub calls : EachCall
   -- the state is sound, keeps its settings and its store's length, and agrees with the history

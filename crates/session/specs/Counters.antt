@@ -1,5 +1,5 @@
--- The rules about sent and reached, one by one (01, "Exporter", the lines on next data and DATA ACK), for every state and every call that
--- is accepted: what the call leaves of the counters, of S being due (02, ask 2) and of the queue.
+-- The rules about sent and reached, one by one (01, "Exporter", the lines on next data and DATA ACK), for every state: what an accepted
+-- next data or DATA ACK leaves of the counters, of S being due (02, ask 2) and of the queue.
 use mathlib.Core.Path.{_≡_}
 use mathlib.Core.Bool.{false}
 use mathlib.Core.List.{List}

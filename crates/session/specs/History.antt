@@ -20,13 +20,13 @@ pub record Writing : Type 0 where
   pub activation : ℕ
 
 -- The accepted records by place, from 1; how many are released; the writings, the latest in front; how often the choice has changed,
--- which numbers the activation; how many were released when it began.
+-- which numbers the activation; how many were released before it began.
 pub record Ledger : Type 0 where
   pub records : List Entry
   pub released : ℕ
   pub writings : List Writing
   pub activation : ℕ
-  pub began : ℕ
+  pub releasedBefore : ℕ
 
 -- The ledger, and a delivery of the history's own.
 pub record History : Type 0 where
@@ -36,22 +36,46 @@ pub record History : Type 0 where
 -- The ledger with these records.
 abbrev pub withRecords : Ledger → List Entry → Ledger
 withRecords l records =
-    record { records = records; released = l .released; writings = l .writings; activation = l .activation; began = l .began }
+    record {
+      records = records;
+      released = l .released;
+      writings = l .writings;
+      activation = l .activation;
+      releasedBefore = l .releasedBefore;
+    }
 
 -- The ledger with n records released.
 abbrev pub withReleased : Ledger → ℕ → Ledger
 withReleased l n =
-    record { records = l .records; released = n; writings = l .writings; activation = l .activation; began = l .began }
+    record {
+      records = l .records;
+      released = n;
+      writings = l .writings;
+      activation = l .activation;
+      releasedBefore = l .releasedBefore;
+    }
 
 -- The ledger with one more writing.
 abbrev pub withWriting : Ledger → Writing → Ledger
 withWriting l x =
-    record { records = l .records; released = l .released; writings = x ∷ l .writings; activation = l .activation; began = l .began }
+    record {
+      records = l .records;
+      released = l .released;
+      writings = x ∷ l .writings;
+      activation = l .activation;
+      releasedBefore = l .releasedBefore;
+    }
 
 -- The ledger at the beginning of activation k.
 abbrev pub withActivation : Ledger → ℕ → Ledger
 withActivation l k =
-    record { records = l .records; released = l .released; writings = l .writings; activation = k; began = l .released }
+    record {
+      records = l .records;
+      released = l .released;
+      writings = l .writings;
+      activation = k;
+      releasedBefore = l .released;
+    }
 
 -- The sequence number of place q: the initial one belongs to place 1, and place 0 has the number before it.
 unfoldable pub dsnOf : ℕ → Settings → ℕ → ℕ
@@ -104,7 +128,7 @@ unfoldable pub freshHistory : History
 freshHistory =
     record {
       delivery = freshDelivery;
-      ledger = record { records = []; released = 0; writings = []; activation = 0; began = 0 };
+      ledger = record { records = []; released = 0; writings = []; activation = 0; releasedBefore = 0 };
     }
 
 -- ---- questions to the writings
@@ -121,3 +145,8 @@ writtenIn ws q v k = anyWriting (λ x. eqb (x .place) q && eqb (x .server) v && 
 -- Something was written in activation k.
 abbrev pub writtenDuring : List Writing → ℕ → Bool
 writtenDuring ws k = anyWriting (λ x. eqb (x .activation) k) ws
+
+-- The place that was written first in activation k, or q where none was; the latest writing stands in front.
+unfoldable pub firstWritten : List Writing → ℕ → ℕ → ℕ
+firstWritten [] k q = q
+firstWritten (x ∷ xs) k q = firstWritten xs k (cond (eqb (x .activation) k) (x .place) q)

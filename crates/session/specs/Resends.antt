@@ -1,12 +1,11 @@
--- S on records that are sent again (02, ask 2): what becomes of S being due under any call, and sessions with the marks of every DATA that
--- they write, one for each case of the rule.
+-- S on records that are sent again (02, ask 2): what becomes of S being due under any call, and sessions with the DSN and S of every DATA
+-- that they write.
 use mathlib.Core.Path.{_≡_}
 use mathlib.Core.Logic.{_≢_}
-use mathlib.Core.Bool.{Bool, true, false, cond}
+use mathlib.Core.Bool.{Bool, true, false}
 use mathlib.Core.List.{List, [], _∷_, _++_}
 use Prim.Native.Nat.{ℕ, _≤_, _<_}
-use lib.Dec.{eqb}
-use lib.ListN.{length, replicate}
+use lib.ListN.{length, set, replicate}
 use Rattle.octets.specs.Answers.{done}
 use Rattle.wire.specs.Replies.{Reply, silent, message, Encoding, crane}
 use Rattle.messages.specs.declared.message.Message.{Message}
@@ -40,12 +39,12 @@ pub record Mark : Type 0 where
   pub first : Bool
 
 -- A DATA with S.
-abbrev pub marked : ℕ → Mark
-marked dsn = record { dsn = dsn; first = true }
+abbrev pub withS : ℕ → Mark
+withS dsn = record { dsn = dsn; first = true }
 
 -- A DATA without S.
-abbrev pub plain : ℕ → Mark
-plain dsn = record { dsn = dsn; first = false }
+abbrev pub withoutS : ℕ → Mark
+withoutS dsn = record { dsn = dsn; first = false }
 
 -- The mark of a message, if it is DATA.
 abbrev pub markOf : Message → List Mark
@@ -65,9 +64,9 @@ abbrev pub markIn : Reply → List Mark
 markIn silent = []
 markIn (message m part) = markOf m
 
--- Two servers, the first of the higher priority; DSNs from 0 on; the timer runs out at the first tick after one record was reached.
+-- Two servers, the first of the higher priority; DSNs from 0 on; the timer runs out at every tick at which a record is reached.
 abbrev pub aSession : Session
-aSession = record { encoding = crane; settings = settingsWith 2 (1 ∷ replicate maxServers 0) 1 1 }
+aSession = record { encoding = crane; settings = settingsWith 2 (set (replicate maxServers 0) 0 1) 1 1 }
 
 -- A call with an output that has room for any message here.
 abbrev pub invoked : Call → Invocation
@@ -103,11 +102,11 @@ puts = put aTable 3 (0x00 ∷ 0x05 ∷ [])
 abbrev pub acks : ℕ → Call
 acks dsn = ack 0 dsn 1
 
--- The first server acknowledges the DSN before the first one, and so no record.
+-- The first server acknowledges the DSN before the first one, which is no record as long as none is released.
 abbrev pub acksNone : Call
 acksNone = acks 4294967295
 
--- The first server is active, and was sent the records 0 and 1.
+-- The first server agrees, and is sent the records of the DSNs 0 and 1.
 abbrev pub sentTwo : List Call
 sentTwo = agreed 0 ++ (puts ∷ puts ∷ nextData ∷ nextData ∷ [])
 
@@ -128,38 +127,62 @@ abbrev pub ExamplesHold : List Example → Type 0
 ExamplesHold [] = Unit {0}
 ExamplesHold (x ∷ xs) = ExampleHolds x × ExamplesHold xs
 
-abbrev pub examples : List Example
-examples =
-    -- sent again before a release: by a tick, and by a DATA ACK of no record
-    record { calls = sentTwo ++ (tick ∷ nextData ∷ nextData ∷ []); marks = marked 0 ∷ plain 1 ∷ marked 0 ∷ plain 1 ∷ [] }
-    ∷ record { calls = sentTwo ++ (acksNone ∷ nextData ∷ nextData ∷ []); marks = marked 0 ∷ plain 1 ∷ marked 0 ∷ plain 1 ∷ [] }
-    -- sent again after a release: by a tick, and by a DATA ACK of no record more
-    ∷ record { calls = sentTwo ++ (acks 0 ∷ tick ∷ nextData ∷ []); marks = marked 0 ∷ plain 1 ∷ plain 1 ∷ [] }
-    ∷ record { calls = sentTwo ++ (acks 0 ∷ acks 0 ∷ nextData ∷ []); marks = marked 0 ∷ plain 1 ∷ plain 1 ∷ [] }
+-- What the first server is sent again, and whether it has S.
+abbrev pub examplesOfResends : List Example
+examplesOfResends =
+    -- before a release: by ticks, and by a DATA ACK of no record
+    record {
+      calls = sentTwo ++ (tick ∷ nextData ∷ nextData ∷ tick ∷ nextData ∷ []);
+      marks = withS 0 ∷ withoutS 1 ∷ withS 0 ∷ withoutS 1 ∷ withS 0 ∷ [];
+    }
+    ∷ record { calls = sentTwo ++ (acksNone ∷ nextData ∷ nextData ∷ []); marks = withS 0 ∷ withoutS 1 ∷ withS 0 ∷ withoutS 1 ∷ [] }
+    -- after a release: by a tick, and by a DATA ACK of no record more
+    ∷ record { calls = sentTwo ++ (acks 0 ∷ tick ∷ nextData ∷ []); marks = withS 0 ∷ withoutS 1 ∷ withoutS 1 ∷ [] }
+    ∷ record { calls = sentTwo ++ (acks 0 ∷ acks 0 ∷ nextData ∷ []); marks = withS 0 ∷ withoutS 1 ∷ withoutS 1 ∷ [] }
     -- the release comes between the tick and the sending again
-    ∷ record { calls = sentTwo ++ (tick ∷ acks 0 ∷ nextData ∷ []); marks = marked 0 ∷ plain 1 ∷ plain 1 ∷ [] }
-    -- the activation begins with an empty queue; a DATA ACK of no record comes before the first one
-    ∷ record { calls = agreed 0 ++ (puts ∷ nextData ∷ tick ∷ nextData ∷ []); marks = marked 0 ∷ marked 0 ∷ [] }
-    ∷ record { calls = agreed 0 ++ (acksNone ∷ puts ∷ nextData ∷ []); marks = marked 0 ∷ [] }
-    -- the queue is emptied and filled again within an activation
-    ∷ record { calls = sentTwo ++ (acks 1 ∷ puts ∷ nextData ∷ tick ∷ nextData ∷ []); marks = marked 0 ∷ plain 1 ∷ plain 2 ∷ plain 2 ∷ [] }
-    -- the same server is active anew, and begins with the first record that is held
-    ∷ record {
-      calls = sentTwo ++ (acks 0 ∷ move 0 down ∷ []) ++ agreed 0 ++ (nextData ∷ tick ∷ nextData ∷ []);
-      marks = marked 0 ∷ plain 1 ∷ marked 1 ∷ marked 1 ∷ [];
-    }
-    -- another server takes over: at line down, and where the first turns late
-    ∷ record {
-      calls = agreed 1 ++ sentTwo ++ (acks 0 ∷ move 0 down ∷ nextData ∷ []);
-      marks = marked 0 ∷ plain 1 ∷ marked 1 ∷ [];
-    }
-    ∷ record {
-      calls = agreed 1 ++ sentTwo ++ (tick ∷ nextData ∷ nextData ∷ []);
-      marks = marked 0 ∷ plain 1 ∷ marked 0 ∷ plain 1 ∷ [];
-    }
-    -- a release that comes only after the first record was sent again: the next one has no S in this activation
+    ∷ record { calls = sentTwo ++ (tick ∷ acks 0 ∷ nextData ∷ []); marks = withS 0 ∷ withoutS 1 ∷ withoutS 1 ∷ [] }
+    -- the release comes after the sending again: the next record has no S in this activation, and has it in the next one
     ∷ record {
       calls = sentTwo ++ (tick ∷ nextData ∷ acks 1 ∷ puts ∷ nextData ∷ move 0 down ∷ []) ++ agreed 0 ++ (nextData ∷ []);
-      marks = marked 0 ∷ plain 1 ∷ marked 0 ∷ plain 2 ∷ marked 2 ∷ [];
+      marks = withS 0 ∷ withoutS 1 ∷ withS 0 ∷ withoutS 2 ∷ withS 2 ∷ [];
     }
     ∷ []
+
+-- With which record an activation begins.
+abbrev pub examplesOfBeginnings : List Example
+examplesOfBeginnings =
+    -- none is held when the activation begins: with the first one put, also where a DATA ACK of no record comes before it
+    record { calls = agreed 0 ++ (puts ∷ nextData ∷ tick ∷ nextData ∷ []); marks = withS 0 ∷ withS 0 ∷ [] }
+    ∷ record { calls = agreed 0 ++ (acksNone ∷ puts ∷ nextData ∷ []); marks = withS 0 ∷ [] }
+    -- a queue that is emptied and filled again within an activation begins none
+    ∷ record {
+      calls = sentTwo ++ (acks 1 ∷ puts ∷ nextData ∷ tick ∷ nextData ∷ []);
+      marks = withS 0 ∷ withoutS 1 ∷ withoutS 2 ∷ withoutS 2 ∷ [];
+    }
+    -- the same server is active anew: with the first record held
+    ∷ record {
+      calls = sentTwo ++ (acks 0 ∷ move 0 down ∷ []) ++ agreed 0 ++ (nextData ∷ tick ∷ nextData ∷ []);
+      marks = withS 0 ∷ withoutS 1 ∷ withS 1 ∷ withS 1 ∷ [];
+    }
+    -- another server takes over: at line down, where the first turns late, and where one of higher priority agrees
+    ∷ record {
+      calls = agreed 1 ++ sentTwo ++ (acks 0 ∷ move 0 down ∷ nextData ∷ []);
+      marks = withS 0 ∷ withoutS 1 ∷ withS 1 ∷ [];
+    }
+    ∷ record { calls = agreed 1 ++ sentTwo ++ (acks 0 ∷ tick ∷ nextData ∷ []); marks = withS 0 ∷ withoutS 1 ∷ withS 1 ∷ [] }
+    ∷ record {
+      calls = agreed 1 ++ (puts ∷ puts ∷ nextData ∷ ack 1 0 1 ∷ []) ++ agreed 0 ++ (nextData ∷ []);
+      marks = withS 0 ∷ withS 1 ∷ [];
+    }
+    -- a server that agrees and is not chosen begins none: before a release, and after one
+    ∷ record { calls = sentTwo ++ agreed 1 ++ (acksNone ∷ nextData ∷ []); marks = withS 0 ∷ withoutS 1 ∷ withS 0 ∷ [] }
+    ∷ record {
+      calls = sentTwo ++ (acks 0 ∷ []) ++ agreed 1 ++ (acks 0 ∷ nextData ∷ []);
+      marks = withS 0 ∷ withoutS 1 ∷ withoutS 1 ∷ [];
+    }
+    ∷ []
+
+-- All of them.
+pub record ResendExamples : Type 0 where
+  pub resends : ExamplesHold examplesOfResends
+  pub beginnings : ExamplesHold examplesOfBeginnings

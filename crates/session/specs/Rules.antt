@@ -106,7 +106,7 @@ abbrev pub activeOf : ℕ → ℕ → Phase → Phase → Active
 activeOf v u own other = cond (isAgreed own) (Server v) (cond (isAgreed other) (Server u) Nobody)
 
 -- An exporter of v and u in these phases. It holds one record, which was sent to all servers; where one of the two is active, it counts as
--- sent and reached, and the timer is the one given, of 10 ticks.
+-- sent and reached, and the timer is the one given, of 10 ticks. S is not due.
 abbrev pub pair : ℕ → ℕ → Phase → Phase → ℕ → State
 pair v u own other timer =
     let sent : ℕ = cond (isAgreed own || isAgreed other) 1 0 in
@@ -114,7 +114,7 @@ pair v u own other timer =
     (record { servers = both v u own other; active = activeOf v u own other; sent = sent; reached = sent; timer = sent * timer })
     1 (replicate maxHeld 2) 255 1
 
--- An answer, what is left of the delivery and of the mark that is due, and the octets written.
+-- An answer, what is left of the delivery, whether S is due, and the octets written.
 pub record Result : Type 0 where
   pub answer : ℕ
   pub delivery : Delivery
@@ -128,7 +128,7 @@ resultOf e s =
     record { answer = o .answer; delivery = o .state .delivery; due = o .state .due; written = octetsWritten o }
 
 -- With v and u in these phases, and counters as they are in a delivery: the active server is chosen anew, and a changed choice makes sent,
--- reached and timer 0 and S due.
+-- reached and timer 0 and S due; where the choice stays, S stays not due.
 abbrev pub chosenAnew : ℕ → ℕ → Phase → Phase → Delivery → ℕ → List ℕ → Result
 chosenAnew v u own other d answer written =
     let active = activeOf v u own other in

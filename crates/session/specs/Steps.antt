@@ -116,12 +116,13 @@ abbrev pub isDuplicate : Settings → Active → ℕ → Bool
 isDuplicate p active.Nobody m = false
 isDuplicate p (active.Server v) m = hasOther (p .servers) v m
 
--- S: no record was released in this activation, and the one to be written is the first held. So it is the record that began it.
+-- S (02, ask 2): no record was released in this activation, so that S is due, and the record to be written is the first one held. It is
+-- then the record with which the activation began.
 abbrev pub isFirst : State → Bool
 isFirst s = s .due && eqb (s .delivery .sent) 0
 
--- The head of the next DATA: the record at place "sent", S where it began the activation and none was released since (02, ask 2), D where
--- it was sent to another server.
+-- The head of the next DATA: the record at place "sent", S where it began the activation and none was released since, D where it was sent
+-- to another server.
 unfoldable pub headOf : ℕ → State → DataHead
 headOf w s =
     let i = s .delivery .sent in
@@ -254,7 +255,7 @@ withDelivery s d = withDue s d (s .due)
 abbrev pub markedFor : Active → Queue → ℕ → Queue
 markedFor a q i = marked q i (markedSet a (getD (q .receivers) i 0))
 
--- The state before the choice is made anew.
+-- The state before the choice is made anew. A DATA ACK that releases a record makes S due no more; no other call changes that here.
 unfoldable pub after : ℕ → Call → State → State
 after w (put table id r) s =
     record {

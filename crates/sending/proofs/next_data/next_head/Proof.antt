@@ -1,5 +1,6 @@
 -- `next_head` meets its contract. Each field is that of `headOf`: most are copied, and the two calls give D and the DSN. The place is below
 -- 64, so both arrays are read inside.
+use mathlib.Core.Path.{refl}
 use Rattle.session.specs.Steps.{headOf}
 use borrow.Author.Needs.{needs}
 use Rattle.sending.proofs.next_data.next_head.Statement.{statement}
@@ -25,7 +26,7 @@ dsn-at-requires c κs = search needs
 
 returns : tie.Need-returns
 unfolding headOf
-returns c = simp (c .dsn-at .ensures, c .before .is-duplicate .ensures)
+returns c = simp (c .dsn-at .ensures, c .before .is-duplicate .ensures) refl
 
 pub next-head-spec : {M : Type 1} → statement M
 next-head-spec =
