@@ -23,7 +23,7 @@ use Rattle.wire.specs.Replies.{crane, layout}
 use Rattle.session.specs.Servers.{withCounts, sentOne}
 use Rattle.session.specs.Queue.{ringRead, recordAt, octetsTo, markedSet, marked}
 use Rattle.session.specs.Sound.{sound}
-use Rattle.session.specs.Steps.{Outcome, headOf, sendChecks, nextData, answer, checks, soundFor, after, settled, written, nextDataStep}
+use Rattle.session.specs.Steps.{dsnAt, isDuplicate, isFirst, Outcome, headOf, sendChecks, nextData, answer, checks, soundFor, after, settled, written, nextDataStep}
 use Rattle.session.specs.Steps.{wroteOf, outputAfter}
 use Rattle.sending.specs.Sendings.{SendFacts, sendingOf}
 use Rattle.soundness.specs.Parts.{stateOf}
@@ -120,6 +120,23 @@ sent-few s store f = omega (arith, f .more, sound-facts s (f .isSound) .numbers 
 -- what the head of the next DATA looks at: not the store's length, the lengths and the start
 abbrev headParts : State → State
 headParts s = stateOf (s .settings) 0 (s .delivery) (s .due) (s .queue .count) [] (s .queue .templates) (s .queue .receivers) 0 (s .next)
+
+-- the head by its fields: S, D and the DSN are found, the others are copied
+pub head-made : (s : State) (first duplicate : Bool) (dsn : ℕ) → first ≡ isFirst (s .due) (s .delivery .sent)
+    → duplicate ≡ isDuplicate (s .settings) (s .delivery .active) (getD (s .queue .receivers) (s .delivery .sent) 0)
+    → dsn ≡ dsnAt 32 s (s .delivery .sent)
+    → _≡_ {A = DataHead}
+    (record {
+      session = s .settings .session;
+      template = getD (s .queue .templates) (s .delivery .sent) 0;
+      config = s .settings .config;
+      first = first;
+      duplicate = duplicate;
+      dsn = dsn;
+    })
+    (headOf 32 s)
+unfolding headOf
+head-made s first duplicate dsn x y z = rw (x, y, z)
 
 head-parts : (s : State) → headOf 32 (headParts s) ≡ headOf 32 s
 unfolding headOf

@@ -13,7 +13,7 @@ ghost use Rattle.session.specs.Queue.{markedSet, ringRead};
 ghost use Rattle.session.specs.Sound.{sound};
 ghost use Rattle.sending.specs.Sendings.{SendFacts, sendingOf};
 ghost use Rattle.soundness.specs.Parts.{Below, stateOf};
-ghost use Rattle.session.specs.Steps.{dsnAtBy, isDuplicate, headOf, sendChecks, nextDataStep, wroteOf, outputAfter};
+ghost use Rattle.session.specs.Steps.{dsnAtBy, isFirst, isDuplicate, headOf, sendChecks, nextDataStep, wroteOf, outputAfter};
 use octets::Answer;
 use session::limits::MAX_HELD;
 use session::state::Active;
@@ -74,6 +74,13 @@ fn send_answer<'a>(
     Answer::DONE
 }
 
+// Whether the record at place i has S.
+fn is_first(due: bool, i: usize) -> bool
+    ensures { λ r. ⌜ r ≡ isFirst due i ⌝ }
+{
+    due & (i == 0)
+}
+
 // Whether a record that was sent to a set of servers is a duplicate for the active one.
 fn is_duplicate(p: Settings, active: Active, set: u16) -> bool
     ensures { λ r. ⌜ r ≡ isDuplicate p active set ⌝ }
@@ -112,7 +119,7 @@ fn next_head<'a>(
         session: p.session,
         template: templates[i],
         config: p.config,
-        first: due & (i == 0),
+        first: is_first(due, i),
         duplicate: is_duplicate(p, active, receivers[i]),
         dsn: dsn_at(next, count, i),
     }

@@ -204,7 +204,7 @@ module _ (enc : Encoding) (room : ℕ) (h : History) (s : State) (store : List �
       (a .core .stock .existing (h .ledger .released + (s .delivery .sent + 1)))
 
   -- S is set by the state exactly where its record began the activation and none was released since
-  first-at : isFirst s
+  first-at : isFirst (s .due) (s .delivery .sent)
       ≡ (eqb (h .ledger .released + (s .delivery .sent + 1)) (h .ledger .releasedBefore + 1) && eqb (h .ledger .released) (h .ledger .releasedBefore))
   first-at = ap (λ (x : Bool). x && eqb n 0) (a .core .starts) ∙ go (ℕ-discrete r b) (ℕ-discrete n 0)
     where
@@ -226,7 +226,8 @@ module _ (enc : Encoding) (room : ℕ) (h : History) (s : State) (store : List �
   first-written : judge (checks enc room nextData s store) ≡ done
       → isFirstIn h ≡ eqb (nextPlace h) (firstWritten (h .ledger .writings) (h .ledger .activation) (nextPlace h))
   unfolding checks
-  first-written e = go (writtenDuring (l .writings) (l .activation)) refl
+  first-written e =
+      same (ℕ-discrete (nextPlace h) (l .releasedBefore + 1)) ∙ ap (eqb (nextPlace h)) (sym (began (writtenDuring (l .writings) (l .activation)) refl))
     where
       l : Ledger
       l = h .ledger
@@ -237,22 +238,18 @@ module _ (enc : Encoding) (room : ℕ) (h : History) (s : State) (store : List �
       -- none was released since where the place is the one with which the activation began
       same : Dec (nextPlace h ≡ l .releasedBefore + 1)
           → eqb (nextPlace h) (l .releasedBefore + 1) && eqb (l .released) (l .releasedBefore) ≡ eqb (nextPlace h) (l .releasedBefore + 1)
-      same (yes x) = rw (eq-eqb (l .released) (l .releasedBefore) (omega (arith, a .core .origin))) (and-true (eqb (nextPlace h) (l .releasedBefore + 1)))
+      same (yes x) =
+          rw (eq-eqb (l .released) (l .releasedBefore) (omega (arith, a .core .origin)))
+          (and-true (eqb (nextPlace h) (l .releasedBefore + 1)))
       same (no x) = rw (ne-eqb (nextPlace h) (l .releasedBefore + 1) x)
 
-      go : (b : Bool) → writtenDuring (l .writings) (l .activation) ≡ b
-          → isFirstIn h ≡ eqb (nextPlace h) (firstWritten (l .writings) (l .activation) (nextPlace h))
-      go true x =
-          rw (first-any (l .writings) (l .activation) (nextPlace h) (l .releasedBefore + 1) x, a .core .first)
-          (same (ℕ-discrete (nextPlace h) (l .releasedBefore + 1)))
-      go false x =
+      -- which was written first in it, or will be
+      began : (b : Bool) → writtenDuring (l .writings) (l .activation) ≡ b
+          → firstWritten (l .writings) (l .activation) (nextPlace h) ≡ l .releasedBefore + 1
+      began true x = first-any (l .writings) (l .activation) (nextPlace h) (l .releasedBefore + 1) x ∙ a .core .first
+      began false x =
           let none = nothing-released enc l s store wide (a .isSound) (a .sized) (a .core) (active .0) (active .1) x in
-          rw (
-            first-none (l .writings) (l .activation) (nextPlace h) x,
-            eq-eqb (nextPlace h) (l .releasedBefore + 1) (omega (arith, next-place, none .0, none .1)),
-            eq-eqb (l .released) (l .releasedBefore) (none .1),
-            eq-eqb (nextPlace h) (nextPlace h) refl,
-          )
+          first-none (l .writings) (l .activation) (nextPlace h) x ∙ omega (arith, next-place, none .0, none .1)
 
   next-written : s .delivery .sent < s .queue .count → written w nextData s store ≡ dueReply (sessionAt enc s) h nextData
   unfolding written headOf

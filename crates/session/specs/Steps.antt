@@ -116,10 +116,10 @@ abbrev pub isDuplicate : Settings → Active → ℕ → Bool
 isDuplicate p active.Nobody m = false
 isDuplicate p (active.Server v) m = hasOther (p .servers) v m
 
--- S (02, ask 2): no record was released in this activation, so that S is due, and the record to be written is the first one held. It is
--- then the record with which the activation began.
-abbrev pub isFirst : State → Bool
-isFirst s = s .due && eqb (s .delivery .sent) 0
+-- S (02, ask 2): it is due, since no record was released in this activation, and the record at place i is the first one held. That record
+-- is then the one with which the activation began.
+abbrev pub isFirst : Bool → ℕ → Bool
+isFirst due i = due && eqb i 0
 
 -- The head of the next DATA: the record at place "sent", S where it began the activation and none was released since, D where it was sent
 -- to another server.
@@ -130,7 +130,7 @@ headOf w s =
       session = s .settings .session;
       template = getD (s .queue .templates) i 0;
       config = s .settings .config;
-      first = isFirst s;
+      first = isFirst (s .due) i;
       duplicate = isDuplicate (s .settings) (s .delivery .active) (getD (s .queue .receivers) i 0);
       dsn = dsnAt w s i;
     }

@@ -1,7 +1,6 @@
--- `next_head` meets its contract. Each field is that of `headOf`: most are copied, and the two calls give D and the DSN. The place is below
+-- `next_head` meets its contract. Each field is that of `headOf`: three are copied, and the calls give S, D and the DSN. The place is below
 -- 64, so both arrays are read inside.
-use mathlib.Core.Path.{refl}
-use Rattle.session.specs.Steps.{headOf}
+use Rattle.sending.proofs.Sends.{head-made}
 use borrow.Author.Needs.{needs}
 use Rattle.sending.proofs.next_data.next_head.Statement.{statement}
 use Rattle.sending.proofs.next_data.next_head.Tie as tie
@@ -11,6 +10,9 @@ mul-t10 c = search needs
 
 element-copy-out-t13 : tie.Need-element-copy-out-t13
 element-copy-out-t13 c = search needs
+
+is-first-requires : tie.Need-is-first-requires
+is-first-requires c κs = search needs
 
 mul-is-duplicate : tie.Need-mul-is-duplicate
 mul-is-duplicate c = search needs
@@ -25,8 +27,8 @@ dsn-at-requires : tie.Need-dsn-at-requires
 dsn-at-requires c κs = search needs
 
 returns : tie.Need-returns
-unfolding headOf
-returns c = simp (c .dsn-at .ensures, c .before .is-duplicate .ensures) refl
+returns c =
+    head-made _ _ _ _ (c .before .before .before .is-first .ensures) (c .before .is-duplicate .ensures) (c .dsn-at .ensures)
 
 pub next-head-spec : {M : Type 1} → statement M
 next-head-spec =
@@ -34,6 +36,7 @@ next-head-spec =
     (tie.spec
     mul-t10
     element-copy-out-t13
+    is-first-requires
     mul-is-duplicate
     element-copy-out-is-duplicate
     is-duplicate-requires
