@@ -49,7 +49,7 @@ pub const PROFILES: [Profile; 18] = [
     profile(
         "resends",
         2,
-        "one or two servers, many resends, acknowledgements between sent and reached",
+        "one or two servers, many resends before and after a first release, acknowledgements between sent and reached",
         sessions::resends,
     ),
     profile("ring", 2, "records of 0 to 1,024 octets that go round the store", sessions::ring),

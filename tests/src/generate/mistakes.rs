@@ -35,7 +35,7 @@ const fn mistake(name: &'static str, event: fn(&mut Program, &Event) -> Outcome)
     Mistake { name, begin: |_| {}, event }
 }
 
-const MISTAKES: [Mistake; 38] = [
+const MISTAKES: [Mistake; 47] = [
     mistake("STOP starts a closed server", |program, event| program.stop_from(ServerState::Closed, event)),
     mistake("STOP leaves a started server started", |program, event| program.stop_from(ServerState::Started, event)),
     mistake("STOP starts an offered server", |program, event| program.stop_from(ServerState::Offered, event)),
@@ -50,6 +50,29 @@ const MISTAKES: [Mistake; 38] = [
     mistake("an acknowledgement is tested against sent", Program::acknowledgement_of_sent),
     mistake("DSNs are compared as plain numbers", Program::plain_numbers),
     mistake("D is set on a resend to the same server", Program::d_on_resends),
+    mistake("S is set only on the first writing", |program, event| {
+        program.marks(event, |before| is_due(before) && before.reached == 0)
+    }),
+    mistake("S is set on every resend of the first held record", |program, event| {
+        program.marks(event, |before| before.sent == 0 && (is_due(before) || before.reached > 0))
+    }),
+    mistake("S is set on every record until the first release", |program, event| program.marks(event, is_due)),
+    mistake("S is kept after a release", |program, event| program.marks(event, |before| before.sent == 0)),
+    mistake("S is set again once all that was sent is released", |program, event| {
+        program.marks(event, |before| before.sent == 0 && (is_due(before) || before.reached == 0))
+    }),
+    mistake("S is cleared by an acknowledgement of nothing", |program, event| {
+        program.clears_s(event, |event, before, after| is_ack(event) && before.released == after.released)
+    }),
+    mistake("S is cleared by a tick's resend", |program, event| {
+        program.clears_s(event, |event, before, after| {
+            event.kind == TICK && before.active == after.active && before.sent > after.sent
+        })
+    }),
+    mistake("S is not set in an activation that begins with an empty queue", |program, event| {
+        program.clears_s(event, |_, before, after| before.active != after.active && after.queue.is_empty())
+    }),
+    mistake("S is not set again for the same server", Program::s_once_for_a_server),
     mistake("what was sent is dropped at failover", Program::drop_at_failover),
     mistake("a late server is active again at once", Program::straight_back),
     mistake("a timer that runs out leaves the active server agreed", Program::never_late),
@@ -106,6 +129,16 @@ const MISTAKES: [Mistake; 38] = [
         program.writes(event, OFFER, |_, written| written[9] = 1)
     }),
 ];
+
+/// The activation has released nothing, so S is due on its first record.
+fn is_due(exporter: &Exporter) -> bool {
+    exporter.began == exporter.released + 1
+}
+
+/// An accepted message that is a DATA ACK.
+fn is_ack(event: &Event) -> bool {
+    event.kind == MESSAGE && event.body[1] == DATA_ACK
+}
 
 /// Big-endian if so, else the given order.
 fn big_if(is_so: bool, order: Order) -> Order {
@@ -292,6 +325,43 @@ impl Program {
         let mut outcome = self.right(event);
         if resends && event.kind == NEXT && outcome.answer == DONE {
             outcome.written[11] |= 2;
+        }
+        outcome
+    }
+
+    /// Takes an event, and if it is an accepted next data, sets S exactly if the exporter before it was so.
+    fn marks(&mut self, event: &Event, has_s: fn(&Exporter) -> bool) -> Outcome {
+        let s = has_s(&self.replay.exporter);
+        let mut outcome = self.right(event);
+        if event.kind == NEXT && outcome.answer == DONE {
+            outcome.written[11] = (outcome.written[11] & !1) | u8::from(s);
+        }
+        outcome
+    }
+
+    /// Takes an event, and if it is accepted and so, by the exporter before and after it, no S is due any more in this
+    /// activation: the place that began it becomes 0, which is no record.
+    fn clears_s(&mut self, event: &Event, is_so: fn(&Event, &Exporter, &Exporter) -> bool) -> Outcome {
+        let before = self.replay.exporter.clone();
+        let outcome = self.right(event);
+        if outcome.answer == DONE && is_so(event, &before, &self.replay.exporter) {
+            self.replay.exporter.began = 0;
+        }
+        outcome
+    }
+
+    /// A changed choice makes S due only if another server was active last, which the marks remember.
+    fn s_once_for_a_server(&mut self, event: &Event) -> Outcome {
+        let before = self.replay.exporter.clone();
+        let outcome = self.right(event);
+        let exporter = &mut self.replay.exporter;
+        if exporter.active == before.active {
+            return outcome;
+        }
+        self.marked.extend(before.active);
+        match exporter.active {
+            Some(server) if !self.marked.contains(&server) => self.marked.clear(),
+            _ => exporter.began = before.began,
         }
         outcome
     }

@@ -1,6 +1,6 @@
 //! Tests that the tapes of a default run meet every situation in which the rules differ.
 
-use super::{in_turn, tape, DEFAULT_TAPES, SEEDS_APART};
+use super::{in_turn, tape, DEFAULT_TAPES, PROFILES, SEEDS_APART};
 use crate::messages::{DATA_ACK, FINAL_TMPL_DATA_ACK, START, START_NEGOTIATE, STOP};
 use crate::model::answer::{DONE, OUT_OF_TURN, RECORD_INVALID, RECORD_TOO_LONG, STORE_FULL, UNSOUND_TABLE};
 use crate::model::exporter::{Exporter, ServerState, LARGEST_STORE};
@@ -18,8 +18,13 @@ type Counts = BTreeMap<&'static str, u64>;
 
 /// The sound tapes of a default run whose settings are taken: the events after these, and the replay before them.
 pub fn set_up() -> impl Iterator<Item = (Vec<Event>, Replay)> {
-    (0..DEFAULT_TAPES).filter_map(|index| {
-        let (profile, seed) = in_turn(index);
+    set_up_of(|_| true)
+}
+
+/// The same, of some profiles only, by name.
+fn set_up_of(is_asked: fn(&str) -> bool) -> impl Iterator<Item = (Vec<Event>, Replay)> {
+    let tapes = (0..DEFAULT_TAPES).map(in_turn).filter(move |(profile, _)| is_asked(PROFILES[*profile].name));
+    tapes.filter_map(|(profile, seed)| {
         let mut events = split(&tape(profile, SEEDS_APART + seed)).ok()?;
         let replay = Replay::set_up(&events[0].body).ok()?;
         Some((events.split_off(1), replay))
@@ -28,7 +33,12 @@ pub fn set_up() -> impl Iterator<Item = (Vec<Event>, Replay)> {
 
 /// Those whose table is taken too: the events after it.
 pub fn sessions() -> impl Iterator<Item = (Vec<Event>, Replay)> {
-    set_up().filter_map(|(mut events, mut replay)| {
+    sessions_of(|_| true)
+}
+
+/// The same, of some profiles only, by name.
+fn sessions_of(is_asked: fn(&str) -> bool) -> impl Iterator<Item = (Vec<Event>, Replay)> {
+    set_up_of(is_asked).filter_map(|(mut events, mut replay)| {
         let taken = replay.take_table(&events[0].body) == DONE;
         taken.then(|| (events.split_off(1), replay))
     })
@@ -45,17 +55,32 @@ pub fn fields(table: &[u8], id: u16, record: &[u8]) -> Vec<Field> {
     fields
 }
 
-#[test]
-fn every_situation_is_met() {
+/// Each situation is met often enough in these sessions.
+fn assert_met(situations: &[Situation], sessions: impl Iterator<Item = (Vec<Event>, Replay)>) {
     let mut counts = Counts::new();
-    for (events, replay) in sessions() {
-        count_session(&mut counts, &events, replay);
+    for (events, replay) in sessions {
+        count_session(&mut counts, situations, &events, replay);
     }
-    for (name, _) in SITUATIONS {
+    for (name, _) in situations {
         let times = counts.get(name).copied().unwrap_or(0);
         println!("{name}: {times}");
         assert!(times >= LEAST, "'{name}' was met {times} times");
     }
+}
+
+#[test]
+fn every_situation_is_met() {
+    assert_met(&SITUATIONS, sessions());
+}
+
+#[test]
+fn every_situation_of_s_is_met() {
+    assert_met(&S_SITUATIONS, sessions());
+}
+
+#[test]
+fn every_situation_of_s_is_met_by_the_profile_of_resends() {
+    assert_met(&S_SITUATIONS, sessions_of(|name| name == "resends"));
 }
 
 #[test]
@@ -120,18 +145,27 @@ fn every_kind_of_flags_is_met() {
 }
 
 /// Runs a session and counts what each of its events meets.
-fn count_session(counts: &mut Counts, events: &[Event], mut replay: Replay) {
+fn count_session(counts: &mut Counts, situations: &[Situation], events: &[Event], mut replay: Replay) {
     let mut stopped = BTreeMap::new();
     let mut octets_put = 0;
+    let mut activation = Activation::default();
     for event in events {
         let before = replay.exporter.clone();
         let outcome = replay.event(event.kind, event.server, &event.body);
-        let after = &replay.exporter;
-        let table = &replay.table;
-        let step = Step { event, before: &before, after, table, outcome: &outcome, stopped: &stopped, octets_put };
-        for (name, _) in SITUATIONS.iter().filter(|(_, holds)| holds(&step)) {
+        let step = Step {
+            event,
+            before: &before,
+            after: &replay.exporter,
+            table: &replay.table,
+            outcome: &outcome,
+            stopped: &stopped,
+            octets_put,
+            activation,
+        };
+        for (name, _) in situations.iter().filter(|(_, holds)| holds(&step)) {
             *counts.entry(name).or_default() += 1;
         }
+        activation = step.activation_after();
         if step.receives(START) {
             stopped.remove(&event.server);
         } else if step.receives(STOP) {
@@ -140,6 +174,23 @@ fn count_session(counts: &mut Counts, events: &[Event], mut replay: Replay) {
             octets_put += step.record_octets();
         }
     }
+}
+
+/// What the events before one say of the activation.
+#[derive(Clone, Copy, Default)]
+struct Activation {
+    /// The server of the activation before it.
+    last_server: Option<u8>,
+    /// It began with nothing held.
+    began_empty: bool,
+    /// It has released a record.
+    released: bool,
+    /// A release has left nothing held.
+    emptied: bool,
+    /// How often S was written.
+    marked: usize,
+    /// The kind of the last event by which sending began again at the first held record.
+    resend: Option<u8>,
 }
 
 /// An event with the exporter before and after it.
@@ -153,6 +204,7 @@ struct Step<'a> {
     stopped: &'a BTreeMap<u8, ServerState>,
     /// The octets of all records put before.
     octets_put: usize,
+    activation: Activation,
 }
 
 impl Step<'_> {
@@ -194,6 +246,44 @@ impl Step<'_> {
     /// The flags of the DATA message that was written.
     fn flags(&self) -> u8 {
         self.outcome.written.get(11).copied().unwrap_or(0)
+    }
+
+    /// DATA with S.
+    fn marks(&self) -> bool {
+        self.is(NEXT) && self.flags() & 1 == 1
+    }
+
+    /// DATA of the first held record, once more to the same server in the same activation.
+    fn sends_first_again(&self) -> bool {
+        self.is(NEXT) && self.before.sent == 0 && self.before.reached > 0
+    }
+
+    /// The same, where sending began again by an event of that kind.
+    fn sends_first_again_by(&self, kind: u8) -> bool {
+        self.sends_first_again() && self.activation.resend == Some(kind)
+    }
+
+    /// The activation's first release.
+    fn releases_first(&self) -> bool {
+        self.releases() > 0 && !self.activation.released
+    }
+
+    /// What this event and those before it say of the activation after it.
+    fn activation_after(&self) -> Activation {
+        let Activation { last_server, released, emptied, marked, resend, .. } = self.activation;
+        if self.after.active != self.before.active {
+            let last_server = self.before.active.or(last_server);
+            return Activation { last_server, began_empty: self.after.queue.is_empty(), ..Activation::default() };
+        }
+        let releases = self.releases() > 0;
+        let sends_again = !releases && self.after.sent < self.before.sent;
+        Activation {
+            released: released || releases,
+            emptied: emptied || releases && self.after.queue.is_empty(),
+            marked: marked + usize::from(self.marks()),
+            resend: if sends_again { Some(self.event.kind) } else { resend },
+            ..self.activation
+        }
     }
 
     /// The octets of the record of a put.
@@ -277,9 +367,9 @@ impl Step<'_> {
 type Situation = (&'static str, fn(&Step) -> bool);
 
 const SITUATIONS: [Situation; 66] = [
-    ("a first DATA without D", |step| step.is(NEXT) && step.flags() == 1),
-    ("a first DATA with D", |step| step.is(NEXT) && step.flags() == 3),
-    ("a later DATA with D", |step| step.is(NEXT) && step.flags() == 2),
+    ("S without D", |step| step.is(NEXT) && step.flags() == 1),
+    ("S and D", |step| step.is(NEXT) && step.flags() == 3),
+    ("D without S", |step| step.is(NEXT) && step.flags() == 2),
     ("DATA sent again to the same server", |step| step.is(NEXT) && step.before.sent < step.before.reached),
     ("DATA of a record across the end of the store", |step| step.sends(|place, octets, store| place + octets > store)),
     ("an empty record", |step| step.is(PUT) && step.event.body.len() == 2),
@@ -406,4 +496,36 @@ const SITUATIONS: [Situation; 66] = [
     }),
     ("a little-endian table is offered", |step| step.is_under_little(OFFER)),
     ("DATA under a little-endian table", |step| step.is_under_little(NEXT)),
+];
+
+/// Those in which it matters when S is set: on the record that began the activation, until the activation's first
+/// release.
+const S_SITUATIONS: [Situation; 14] = [
+    ("S again after a tick's resend", |step| step.marks() && step.sends_first_again_by(TICK)),
+    ("S again after an acknowledgement of nothing", |step| step.marks() && step.sends_first_again_by(MESSAGE)),
+    ("S a third time", |step| step.marks() && step.activation.marked == 2),
+    ("S and D again", |step| step.marks() && step.flags() == 3 && step.sends_first_again()),
+    ("the first held record again without S by a tick", |step| !step.marks() && step.sends_first_again_by(TICK)),
+    ("the first held record again without S by an acknowledgement", |step| {
+        !step.marks() && step.sends_first_again_by(MESSAGE)
+    }),
+    ("a record that is not the first before a release", |step| {
+        step.is(NEXT) && step.before.sent > 0 && !step.activation.released
+    }),
+    ("S in an activation that began with an empty queue", |step| step.marks() && step.activation.began_empty),
+    ("a queue that is emptied and filled again within an activation", |step| {
+        step.is(NEXT) && step.before.reached == 0 && step.activation.emptied
+    }),
+    ("S in another activation of the same server", |step| {
+        step.marks() && step.before.reached == 0 && step.activation.last_server == step.before.active
+    }),
+    ("S at a takeover on a record that was written before", |step| {
+        let takes_over = step.activation.last_server.is_some() && step.activation.last_server != step.before.active;
+        takes_over && step.marks() && step.before.reached == 0 && step.flags() == 3
+    }),
+    ("a first release after S was set again", |step| step.releases_first() && step.activation.marked > 1),
+    ("the same of more than was sent again", |step| {
+        step.releases_first() && step.activation.marked > 1 && step.releases() > step.before.sent
+    }),
+    ("a first release between a resend and the writing", |step| step.releases_first() && step.before.sent == 0),
 ];

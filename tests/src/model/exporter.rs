@@ -63,7 +63,11 @@ pub struct Exporter {
     pub reached: usize,
     pub timer: u16,
     pub active: Option<u8>,
-    pub s_due: bool,
+    /// How many records were ever released. The records put have places from 1 on, so this is the
+    /// place before the first held one.
+    pub released: usize,
+    /// The place of the record that began the activation; it may be put only after that.
+    pub began: usize,
 }
 
 /// A call's answer and how many octets it wrote at the output's start.
@@ -102,7 +106,7 @@ fn require(holds: bool, refusal: u8) -> Result<(), u8> {
 /// Set-up, the calls and what they are judged by.
 impl Exporter {
     /// Set-up, judged 20 for the settings and the store's length. At first no record is held, all
-    /// servers are closed, the counters are 0, and S is to be set. The store is not written.
+    /// servers are closed, the counters are 0, and S is for place 1. The store is not written.
     pub fn set_up(settings: Settings, store: &[u8]) -> Result<Exporter, u8> {
         let store_fits = (SMALLEST_STORE..=LARGEST_STORE).contains(&store.len());
         require(store_fits && settings.in_limits(), answer::SETTINGS_OUTSIDE_LIMITS)?;
@@ -117,7 +121,8 @@ impl Exporter {
             reached: 0,
             timer: 0,
             active: None,
-            s_due: true,
+            released: 0,
+            began: 1,
         })
     }
 
@@ -150,17 +155,20 @@ impl Exporter {
         Reply::of(self.try_next_data(store, out))
     }
 
-    /// S marks the activation's first DATA, D a record that some other server was sent before. One
-    /// more counts as sent, and reached keeps the highest count.
+    /// S marks the record that began the activation, told by its place among all records put. Once
+    /// the activation has released a record, every place written lies behind that one. D marks a
+    /// record that some other server was sent before. One more counts as sent, and reached keeps the
+    /// highest count.
     fn try_next_data(&mut self, store: &[u8], out: &mut [u8]) -> Result<usize, u8> {
         require(self.is_sound() && store.len() == self.store_length, answer::UNSOUND_STATE)?;
         let server = self.active.ok_or(answer::NO_ACTIVE_SERVER)?;
         let held = self.queue.get(self.sent).ok_or(answer::NOTHING_TO_SEND)?;
+        let place = self.released + self.sent + 1;
         let data = Message::Data {
             session: self.settings.session,
             template_id: held.template_id,
             configuration_id: self.settings.configuration_id,
-            s: self.s_due,
+            s: place == self.began,
             d: held.sent_to.iter().any(|other| *other != server),
             dsn: self.first_held_dsn().wrapping_add(self.sent as u32),
         };
@@ -170,7 +178,6 @@ impl Exporter {
         }
         self.sent += 1;
         self.reached = self.reached.max(self.sent);
-        self.s_due = false;
         self.settle();
         Ok(written)
     }
@@ -340,11 +347,12 @@ impl Exporter {
     fn release(&mut self) {
         if let Some(held) = self.queue.pop_front() {
             self.ring_start = self.ring_place(held.length).unwrap_or(0);
+            self.released += 1;
         }
     }
 
-    /// Makes the choice once more; where it differs from before, the counters start at 0 and S is
-    /// to be set.
+    /// Makes the choice once more; where it differs from before, an activation begins: the counters
+    /// start at 0, and the record that begins it is the first held one, or the next to be put.
     fn settle(&mut self) {
         let chosen = self.choose();
         if chosen != self.active {
@@ -352,7 +360,7 @@ impl Exporter {
             self.sent = 0;
             self.reached = 0;
             self.timer = 0;
-            self.s_due = true;
+            self.began = self.released + 1;
         }
     }
 
@@ -467,7 +475,6 @@ impl Exporter {
             && self.timer < self.settings.duration
             && self.active == self.choose()
             && (self.active.is_some() || at_rest)
-            && (!self.s_due || self.reached == 0)
     }
 
     /// The sets hold only servers that exist, and the active one in each record reached.

@@ -83,9 +83,10 @@ fn set_up_limits() {
 fn fresh_exporter() {
     let mut bench = Bench::new(Settings { first_dsn: 9, ..settings(&[0, 1]) }, 1_024);
     let fresh = &bench.exporter;
-    assert!(fresh.is_sound() && fresh.queue.is_empty() && fresh.s_due);
+    assert!(fresh.is_sound() && fresh.queue.is_empty());
     assert_eq!((fresh.next_dsn, fresh.first_held_dsn(), fresh.active), (9, 9, None));
     assert_eq!((fresh.sent, fresh.reached, fresh.timer, fresh.ring_start), (0, 0, 0, 0));
+    assert_eq!((fresh.released, fresh.began), (0, 1));
     assert_eq!(fresh.states, [ServerState::Closed; 8]);
     assert!(bench.store.iter().all(|octet| *octet == 0xaa));
     assert_eq!(bench.next(), refused(13));
@@ -108,7 +109,7 @@ fn assert_unsound(bench: &mut Bench, rule: &str) {
 }
 
 /// Each breaks one rule of a state with an active server and three records, two of them sent.
-const BREAKS: [Break; 21] = [
+const BREAKS: [Break; 20] = [
     ("no servers", |e| e.settings.servers = 0),
     ("nine servers", |e| e.settings.servers = 9),
     ("threshold 0", |e| e.settings.threshold = 0),
@@ -129,7 +130,6 @@ const BREAKS: [Break; 21] = [
     ("timer", |e| e.timer = 2),
     ("another active", |e| e.active = Some(1)),
     ("no active", |e| e.active = None),
-    ("S due", |e| e.s_due = true),
     ("sent to no server", |e| {
         e.queue[2].sent_to.insert(2);
     }),
@@ -157,7 +157,7 @@ fn unsound_states_are_refused() {
 
 #[test]
 fn unsound_without_an_active_server() {
-    let breaks: [Break; 2] = [("timer", |e| e.timer = 1), ("reached", |e| (e.reached, e.s_due) = (1, false))];
+    let breaks: [Break; 2] = [("timer", |e| e.timer = 1), ("reached", |e| e.reached = 1)];
     for (rule, break_rule) in breaks {
         let mut bench = Bench::new(settings(&[1, 2]), 1_024);
         bench.put(&blob(5, 1));
@@ -172,12 +172,22 @@ fn what_soundness_does_not_look_at() {
     bench.put(&blob(5, 1));
     bench.exporter.states[2] = ServerState::Agreed;
     bench.exporter.settings.priorities[2] = 9;
-    bench.exporter.s_due = false;
     bench.exporter.next_dsn = 77;
     bench.exporter.queue[0].template_id = 99;
     assert!(bench.exporter.is_sound());
     assert_eq!(bench.exporter.tick(), 0);
     assert_eq!(bench.exporter.active, None);
+}
+
+#[test]
+fn soundness_does_not_look_at_where_the_activation_began() {
+    let mut bench = written_records(0, 2);
+    for (began, flags) in [(1, [1, 0]), (2, [0, 1]), (3, [0, 0]), (0, [0, 0])] {
+        bench.exporter.began = began;
+        assert!(bench.exporter.is_sound());
+        assert_eq!(bench.ack(0, u32::MAX), 0);
+        assert_eq!([bench.next_flags().0, bench.next_flags().0], flags, "{began}");
+    }
 }
 
 #[test]
@@ -376,7 +386,7 @@ fn active_server_is_the_highest_lowest_numbered() {
 }
 
 #[test]
-fn s_marks_the_first_data_of_an_activation() {
+fn s_marks_the_record_that_began_the_activation() {
     let mut bench = written_records(0, 0);
     for _ in 0..3 {
         bench.put(&blob(5, 1));
@@ -384,12 +394,93 @@ fn s_marks_the_first_data_of_an_activation() {
     assert_eq!(bench.exporter.next_data(&bench.store, &mut []), refused(12));
     assert_eq!((bench.next_flags(), bench.next_flags()), ((1, 0), (0, 1)));
     assert_eq!(bench.ack(0, u32::MAX), 0);
-    assert_eq!(bench.next_flags(), (0, 0));
+    assert_eq!(bench.exporter.next_data(&bench.store, &mut []), refused(12));
+    assert_eq!(bench.next_flags(), (1, 0));
     bench.start(0);
     assert_eq!((bench.exporter.active, bench.exporter.reached), (None, 0));
     bench.offer(0);
     bench.final_ack(0);
     assert_eq!((bench.next_flags(), bench.next_flags()), ((1, 0), (0, 1)));
+}
+
+/// Cases of the mark S, each a name and what happens, word by word. There are two servers of one priority, and a timer
+/// runs out at the second tick.
+///
+/// `agree:0` is START, offer and agreement of server 0, and `ticks` two ticks. `ack:1` is a DATA ACK of place 1 by the
+/// active server, and `refused:1` one that is answered 11. `S:1`, `SD:1`, `D:1` and `-:1` are the DATA that next
+/// data writes, its marks and its place.
+const S_CASES: [(&str, &str); 29] = [
+    ("a tick's resend before a release", "agree:0 put put S:1 -:2 ticks S:1 -:2 ticks S:1"),
+    ("an ack of nothing before a release", "agree:0 put put S:1 -:2 ack:0 S:1 -:2 ack:0 S:1"),
+    ("both before a release", "agree:0 put put S:1 ticks S:1 ack:0 S:1 ack:0 ticks S:1 -:2"),
+    ("a tick's resend after a release", "agree:0 put put S:1 -:2 ack:1 ticks -:2 ticks -:2"),
+    ("an ack of nothing after a release", "agree:0 put put S:1 -:2 ack:1 ack:1 -:2 ack:1 -:2"),
+    ("a release after resends", "agree:0 put put S:1 -:2 ticks S:1 ack:0 S:1 ack:1 -:2 ticks -:2"),
+    ("a release of all after resends", "agree:0 put S:1 ticks S:1 ack:1 put -:2 ticks -:2"),
+    ("a timer that does not run out", "agree:0 put S:1 tick put -:2 ack:0 S:1"),
+    ("a refused ack before a release", "agree:0 put put S:1 refused:2 ticks S:1"),
+    ("an empty queue at first", "agree:0 put S:1 put -:2 ticks S:1 -:2"),
+    ("an empty queue, acknowledged and ticked", "agree:0 ack:0 ticks put put S:1 ack:0 S:1 -:2"),
+    ("an empty queue after releases", "agree:0 put S:1 ack:1 down:0 agree:0 put S:2 ticks S:2 ack:2 put -:3"),
+    ("records put before", "put put put agree:0 S:1 -:2 -:3 ticks S:1"),
+    ("a queue emptied and filled again", "agree:0 put S:1 ack:1 put -:2 ticks -:2 ack:1 -:2 ack:2 put -:3"),
+    ("the same server after line down", "agree:0 put put S:1 -:2 ack:1 down:0 agree:0 S:2 ticks S:2 ack:1 S:2"),
+    ("the same server after STOP", "agree:0 put put S:1 -:2 ack:1 stop:0 agree:0 S:2 ack:2 put -:3"),
+    ("the same server after START", "agree:0 put put S:1 ack:1 -:2 agree:0 S:2 ticks S:2"),
+    ("the same server after START NEGOTIATE", "agree:0 put put S:1 ack:1 -:2 negotiate:0 agree:0 S:2 ticks S:2"),
+    ("the same server, once nothing was written", "agree:0 put put down:0 agree:0 S:1 down:0 agree:0 S:1 -:2"),
+    ("another server that is not active", "agree:0 put put S:1 -:2 ack:1 agree:1 down:1 ticks -:2"),
+    ("a takeover at line down", "agree:0 agree:1 put put S:1 -:2 down:0 SD:1 D:2 ack:0 SD:1 ack:1 ack:1 D:2"),
+    ("a takeover after a release", "agree:0 agree:1 put put S:1 -:2 ack:1 down:0 SD:2 ticks SD:2 put -:3"),
+    ("a takeover before the first held is written", "agree:0 agree:1 put put S:1 ack:1 down:0 S:2 ticks S:2"),
+    ("a server that turns late", "agree:0 agree:1 put put S:1 -:2 ticks SD:1 D:2 ticks SD:1 ack:1 ticks D:2"),
+    ("a server that turns late after a release", "agree:0 agree:1 put put S:1 -:2 ack:1 ticks SD:2 ack:1 SD:2"),
+    ("a takeover and back", "agree:0 agree:1 put S:1 down:0 SD:1 agree:0 SD:1 ack:1 put -:2 down:0 SD:2"),
+    ("a release between tick and writing", "agree:0 put put put S:1 -:2 -:3 ticks ack:1 -:2 -:3 ticks -:2"),
+    ("a release between ack and writing", "agree:0 put put put S:1 -:2 -:3 ack:0 ack:2 -:3 ack:2 -:3"),
+    (
+        "a late release after a resend",
+        "agree:0 put put S:1 -:2 ticks S:1 ack:2 put -:3 refused:1 ticks -:3 refused:1 down:0 agree:0 S:3 ack:3",
+    ),
+];
+
+/// The marks of DATA by its flags.
+const MARKS: [&str; 4] = ["-", "S", "D", "SD"];
+
+/// Lets a word of a case happen, and says it as it came out.
+fn word_as_it_came(bench: &mut Bench, word: &str) -> String {
+    let (what, number) = word.split_once(':').unwrap_or((word, "0"));
+    let number: u32 = number.parse().expect("a number");
+    let before_first = bench.exporter.settings.first_dsn.wrapping_sub(1);
+    let (dsn, server) = (before_first.wrapping_add(number), number as u8);
+    let active = bench.exporter.active.unwrap_or(0);
+    let done = match what {
+        "put" => bench.put(&blob(5, 1)) == 0,
+        "tick" => bench.exporter.tick() == 0,
+        "ticks" => [bench.exporter.tick(), bench.exporter.tick()] == [0, 0],
+        "agree" => [bench.start(server), bench.offer(server), bench.final_ack(server)].iter().all(|r| r.answer == 0),
+        "negotiate" => bench.negotiate(server).answer == 0,
+        "down" => bench.exporter.line_down(server) == 0,
+        "stop" => bench.stop(server).answer == 0,
+        "ack" => bench.ack(active, dsn) == 0,
+        "refused" => bench.ack(active, dsn) == 11,
+        _ => {
+            let (flags, dsn) = bench.next_flags();
+            return format!("{}:{}", MARKS[usize::from(flags)], dsn.wrapping_sub(before_first));
+        }
+    };
+    format!("{}{word}", if done { "" } else { "not " })
+}
+
+#[test]
+fn table_of_the_mark_s() {
+    for first_dsn in [1, 0, u32::MAX, u32::MAX - 1, 1 << 31] {
+        for (name, words) in S_CASES {
+            let mut bench = Bench::new(Settings { first_dsn, ..settings(&[0, 0]) }, 1_024);
+            let came: Vec<String> = words.split(' ').map(|word| word_as_it_came(&mut bench, word)).collect();
+            assert_eq!(came.join(" "), words, "{name}, first DSN {first_dsn}");
+        }
+    }
 }
 
 #[test]
@@ -450,7 +541,6 @@ fn ticks_count_from_the_threshold() {
     bench.next();
     assert_eq!(ticks(&mut bench, 1), [0]);
     assert_eq!((bench.exporter.sent, bench.exporter.reached), (0, 2));
-    assert!(!bench.exporter.s_due);
     assert_eq!(ticks(&mut bench, 1), [1]);
     assert_eq!(bench.ack(0, 0), 0);
     assert_eq!((bench.exporter.timer, bench.exporter.sent, bench.exporter.reached), (0, 0, 1));
@@ -481,7 +571,7 @@ fn tick_without_an_active_server() {
 fn ack_beyond_sent_within_reached() {
     let mut bench = written_records(0, 4);
     assert_eq!(bench.ack(0, u32::MAX), 0);
-    assert_eq!(bench.next_flags(), (0, 0));
+    assert_eq!(bench.next_flags(), (1, 0));
     assert_eq!(bench.ack(0, 2), 0);
     assert_eq!((bench.exporter.queue.len(), bench.exporter.sent, bench.exporter.reached), (1, 0, 1));
     assert_eq!(bench.next_flags(), (0, 3));
@@ -583,30 +673,36 @@ impl Pair {
         }
     }
 
-    /// An exporter with these servers and three records. An active server was sent two of them, and its timer runs out
-    /// at the next tick.
+    /// An exporter with these servers and three records. An active server has acknowledged one more and was sent two of
+    /// the three, and its timer runs out at the next tick.
     fn bench(&self, priorities: [u8; 2]) -> Bench {
         let mut bench = Bench::new(settings(&priorities), 1_024);
         bench.exporter.states[usize::from(self.own)] = self.own_state;
         bench.exporter.states[usize::from(1 - self.own)] = self.other_state;
         bench.exporter.active = self.active();
+        if let Some(server) = self.active() {
+            assert_eq!((bench.put(&blob(5, 1)), bench.next_flags(), bench.ack(server, 0)), (0, (1, 0), 0), "{self:?}");
+        }
         for _ in 0..3 {
             assert_eq!(bench.put(&blob(5, 1)), 0, "{self:?}");
         }
         if self.active().is_some() {
-            assert_eq!((bench.next_flags(), bench.next_flags(), bench.exporter.tick()), ((1, 0), (0, 1), 0));
+            assert_eq!((bench.next_flags(), bench.next_flags(), bench.exporter.tick()), ((0, 1), (0, 2), 0));
         }
         bench
     }
 
-    /// The exporter has these servers; its counters are those before if the choice is the same, else 0.
+    /// The exporter has these servers; its counters are those before if the choice is the same, else 0, and the first
+    /// held record begins the activation.
     fn assert_after(&self, before: &Exporter, after: &Exporter, rule: &str) {
         let states = [after.state(self.own), after.state(1 - self.own)];
         assert_eq!((states, after.active), ([self.own_state, self.other_state], self.active()), "{rule}: {self:?}");
         let same = before.active == after.active;
-        let counters = |exporter: &Exporter| (exporter.sent, exporter.reached, exporter.timer, exporter.s_due);
-        assert_eq!(counters(after), if same { counters(before) } else { (0, 0, 0, true) }, "{rule}: {self:?}");
-        assert_eq!((after.queue.len(), after.next_dsn), (3, 3), "{rule}: {self:?}");
+        let counters = |exporter: &Exporter| (exporter.sent, exporter.reached, exporter.timer, exporter.began);
+        let anew = (0, 0, 0, before.released + 1);
+        assert_eq!(counters(after), if same { counters(before) } else { anew }, "{rule}: {self:?}");
+        assert_eq!((after.queue.len(), after.released), (3, before.released), "{rule}: {self:?}");
+        assert_eq!(after.next_dsn, before.next_dsn, "{rule}: {self:?}");
     }
 }
 

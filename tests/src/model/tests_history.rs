@@ -33,6 +33,8 @@ struct History {
     released: usize,
     writings: Vec<Writing>,
     activation: usize,
+    /// The activation that released a record last.
+    last_releasing: Option<usize>,
     states: Vec<ServerState>,
     active: Option<u8>,
     sent: usize,
@@ -49,6 +51,7 @@ impl History {
             released: 0,
             writings: Vec::new(),
             activation: 0,
+            last_releasing: None,
             states,
             active: None,
             sent: 0,
@@ -100,6 +103,9 @@ impl History {
     fn release_to(&mut self, place: usize) {
         let n = place - self.released;
         self.released = place;
+        if n > 0 {
+            self.last_releasing = Some(self.activation);
+        }
         self.reached -= n;
         self.sent = if n == 0 { 0 } else { self.sent.saturating_sub(n) };
         self.timer = if n == 0 { self.timer } else { 0 };
@@ -132,15 +138,17 @@ impl History {
         }
     }
 
-    /// The DATA message that the last writing must be.
+    /// The DATA message that the last writing must be. It has S if its record is the one with which the writings of the
+    /// activation began and the activation has released nothing.
     fn last_data(&self) -> (Message, Vec<u8>) {
         let (last, earlier) = self.writings.split_last().expect("a writing");
+        let first = self.writings.iter().find(|writing| writing.activation == last.activation).expect("a writing");
         let (template_id, record) = self.records[last.place - 1].clone();
         let message = Message::Data {
             session: self.settings.session,
             template_id,
             configuration_id: self.settings.configuration_id,
-            s: earlier.iter().all(|writing| writing.activation != last.activation),
+            s: first.place == last.place && self.last_releasing != Some(last.activation),
             d: earlier.iter().any(|writing| writing.place == last.place && writing.server != last.server),
             dsn: self.dsn(last.place),
         };
@@ -215,8 +223,9 @@ fn assert_agree(bench: &Bench, history: &History) {
     assert_eq!(held, history.records[history.released..]);
 }
 
-/// A run of random calls; how often each answer was given.
-fn random_run(seed: u64, calls: usize) -> [usize; 23] {
+/// A run of random calls; how often each answer was given, and how often the first held record was sent again without
+/// S and with S.
+fn random_run(seed: u64, calls: usize) -> ([usize; 23], [usize; 2]) {
     let mut random = Random(seed);
     let limits = Settings {
         first_dsn: u32::MAX - random.below(200) as u32,
@@ -228,7 +237,7 @@ fn random_run(seed: u64, calls: usize) -> [usize; 23] {
     bench.out.truncate(1_100);
     let mut history = History::new(limits);
     let puts = 1 + random.below(11);
-    let mut answers = [0; 23];
+    let (mut answers, mut resends) = ([0; 23], [0; 2]);
     for _ in 0..calls {
         let before = (bench.exporter.clone(), bench.store.clone(), bench.out.clone());
         let call = random_call(&bench, &mut random, puts);
@@ -243,20 +252,24 @@ fn random_run(seed: u64, calls: usize) -> [usize; 23] {
         if matches!(call, Call::Next) {
             let (message, record) = history.last_data();
             assert_eq!(read(&bench.out[..reply.written]), Ok((message, record.as_slice())));
+            if before.0.sent == 0 && before.0.reached > 0 {
+                resends[usize::from(bench.out[11] & 1)] += 1;
+            }
         }
     }
-    answers
+    (answers, resends)
 }
 
 #[test]
 fn exporter_agrees_with_its_history() {
-    let mut answers = [0; 23];
+    let (mut answers, mut resends) = ([0; 23], [0; 2]);
     for seed in 0..24 {
-        for (total, count) in answers.iter_mut().zip(random_run(seed, 800)) {
-            *total += count;
-        }
+        let counts = random_run(seed, 800);
+        answers.iter_mut().zip(counts.0).for_each(|(total, count)| *total += count);
+        resends.iter_mut().zip(counts.1).for_each(|(total, count)| *total += count);
     }
     for answer in [0, 2, 9, 11, 13, 14, 18, 19] {
         assert!(answers[answer] > 0, "answer {answer} was not given");
     }
+    assert!(resends.iter().all(|count| *count >= 10), "{resends:?}");
 }
