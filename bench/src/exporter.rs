@@ -36,6 +36,7 @@ pub struct State {
     sent: usize,
     reached: usize,
     timer: u16,
+    /// No record has been released since the activation began, so its first has S.
     due: bool,
     count: usize,
     lengths: [u16; MAX_HELD],
@@ -101,7 +102,6 @@ impl State {
             && self.sent <= self.reached
             && self.reached <= self.count
             && self.timer < self.settings.duration
-            && (!self.due || self.reached == 0)
     }
 
     /// With no active server nothing was sent; else the first records were sent to it.
@@ -200,7 +200,7 @@ impl State {
             session: self.settings.session,
             template: self.templates[i],
             config: self.settings.config,
-            first: self.due,
+            first: self.due && i == 0,
             duplicate: self.receivers[i] & !(1 << active) != 0,
             dsn: first.wrapping_add(i as u32),
         }
@@ -230,7 +230,6 @@ impl State {
         self.receivers[i] |= 1 << active;
         self.sent = i + 1;
         self.reached = self.reached.max(i + 1);
-        self.due = false;
         Ok(total)
     }
 
@@ -259,6 +258,7 @@ impl State {
         self.reached -= n;
         self.sent = self.sent.saturating_sub(n);
         self.timer = 0;
+        self.due = false;
         Ok(())
     }
 
