@@ -44,7 +44,7 @@ abbrev pub output : List ℕ
 output = replicate 64 0
 
 -- A record is put before anybody listens, and cannot be sent yet. Server 0 starts, is offered the table and agrees to it: now the record is
--- sent, marked as the first of the activation; there is no second. Its acknowledgement releases it, and a tick finds nothing to wait for.
+-- sent, with S, since it began the activation; there is no second. Its acknowledgement releases it, and a tick finds nothing to wait for.
 abbrev pub turns : List Turn
 turns =
     record { call = Put aTable 3 (0x00 ∷ 0x05 ∷ []); answer = done; octets = [] }

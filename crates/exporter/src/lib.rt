@@ -14,6 +14,13 @@
 //    another one takes over, or all that was not acknowledged is sent again.
 // Each call may be made at any time, in any state: one that is out of turn is refused. specs/Driving.antt goes through a whole session.
 //
+// What to watch for: the record that began an activation has S each time it is written before the activation's first release (02, ask 2).
+// If it is sent again, and DATA ACKs then release it and records behind it that were not yet sent again, a collector that takes S as the
+// DSN to go on from (02, ask 4) waits for those, which are never sent again: it discards what follows, and its DATA ACKs are answered 11.
+// The way out is a new activation: call `line_down` for that server and, when its START comes, go through 3 and 4 again; the first record
+// held is then sent with S. A duration that is long beside the time that a server takes to answer makes this rare.
+// examples/late-release-after-a-resend.txt goes through such a session; docs/DECISIONS.md names two hazards more, of repeats.
+//
 // What is lent: the store, the same octets each time and of the length that set-up saw, to `put` and `next_data`, which keep the records'
 // octets there as a ring; the session's template table to `put` and `offer_templates` (`session_table::is_sessions` says whether a table is
 // the session's); an output to every call that writes, from its first octet on, and no octet after the message changes. The caller sends

@@ -170,7 +170,7 @@ ackParts s =
     stateOf (s .settings) (s .capacity) (s .delivery) false (s .queue .count) (s .queue .lengths) [] (s .queue .receivers) (s .start)
     (s .next)
 
--- soundness looks at no template ID, no next DSN and not at S
+-- soundness does not look at the next DSN
 pub ack-sound-parts : (s : State) → sound (partsIn s) ≡ sound (ackParts s)
 unfolding sound
 ack-sound-parts s = refl

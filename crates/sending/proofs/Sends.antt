@@ -3,11 +3,11 @@
 use mathlib.Core.Path.{_≡_, refl, sym, ap, _∙_}
 use mathlib.Core.Bool.{Bool, true, false, cond, not, _&&_}
 use mathlib.Core.List.{List, [], _∷_}
-use Prim.Native.Nat.{ℕ, _+_, _-_, _%_, _≤_, _<_, max}
-use native.Mathlib.Nat.{mod-eq-of-lt, add-mod-right, mod-mod}
+use Prim.Native.Nat.{ℕ, _+_, _%_, _≤_, _<_, max}
+use native.Mathlib.Nat.{mod-mod}
 use native.Mathlib.Omega.{arith}
 use borrow.Author.Tests.{not-false, eq-eqb, ne-eqb, eqb-true, eqb-false, leb-false, lt-leb, le-ltb, lt-ltb, ltb-true, ltb-false}
-use lib.Dec.{eqb, leb, ltb}
+use lib.Dec.{eqb, ltb}
 use lib.ListN.{length, getD, set}
 use lib.Seq.{sets, set-getD, length-sets}
 use Rattle.octets.specs.Answers.{Check, _when_, judge, done, unsoundState, outputTooShort}
@@ -23,8 +23,8 @@ use Rattle.wire.specs.Replies.{crane, layout}
 use Rattle.session.specs.Servers.{withCounts, sentOne}
 use Rattle.session.specs.Queue.{ringRead, recordAt, octetsTo, markedSet, marked}
 use Rattle.session.specs.Sound.{sound}
-use Rattle.session.specs.Steps.{dsnAt, isDuplicate, isFirst, Outcome, headOf, sendChecks, nextData, answer, checks, soundFor, after, settled, written, nextDataStep}
-use Rattle.session.specs.Steps.{wroteOf, outputAfter}
+use Rattle.session.specs.Steps.{dsnAt, isFirst, isDuplicate, headOf, sendChecks, nextData, answer, checks, soundFor, after, settled}
+use Rattle.session.specs.Steps.{written, Outcome, nextDataStep, wroteOf, outputAfter}
 use Rattle.sending.specs.Sendings.{SendFacts, sendingOf}
 use Rattle.soundness.specs.Parts.{stateOf}
 use Rattle.sending.specs.declared.next_data.Sending.{Sending}

@@ -6,7 +6,7 @@ use session::state::Delivery;
 use session::state::Settings;
 use session::state::State;
 
-// A call's answer, how many octets it wrote, and the delivery and S as it leaves them.
+// A call's answer, how many octets it wrote, and the delivery and whether S is due, as it leaves them.
 pub struct Change {
     // 0, or the number of the refusal
     pub answer: u8,

@@ -1,20 +1,24 @@
 -- What holds between the history and the exporter's state and store after every call. The state is sound by itself; beside that, the held
 -- records are the accepted ones behind the released number, sets and reached are what the writings say, and S is due by what was released.
 use mathlib.Core.Path.{_≡_}
-use mathlib.Core.Bool.{true, false}
+use mathlib.Core.Bool.{Bool, true, false}
 use mathlib.Core.List.{List}
 use Prim.Native.Nat.{ℕ, _+_, _≤_, _<_}
 use lib.Dec.{eqb}
 use lib.ListN.{length, getD, drop}
 use Rattle.session.specs.Queue.{Entry, has, held}
 use Rattle.session.specs.Sound.{sound}
-use Rattle.session.specs.History.{Writing, Ledger, History, dsnOf, writtenIn, writtenDuring, firstWritten}
+use Rattle.session.specs.History.{Writing, Ledger, History, dsnOf, anyWriting, writtenIn, firstWritten}
 use Rattle.session.specs.declared.state.Active.the-variants.{Server}
 use Rattle.session.specs.declared.state.Settings.{Settings}
 use Rattle.session.specs.declared.state.Queue.{Queue}
 use Rattle.session.specs.declared.state.State.{State}
 use Rattle.session.proofs.QueueLaws.{writtenTo}
 use Rattle.session.proofs.SoundKept.{Sized}
+
+-- something was written in activation k
+abbrev pub writtenDuring : List Writing → ℕ → Bool
+writtenDuring ws k = anyWriting (λ x. eqb (x .activation) k) ws
 
 -- the queue and the next DSN, against the records, the released number R and the writings
 pub record Stock (w : ℕ) (p : Settings) (records : List Entry) (R : ℕ) (writings : List Writing) (q : Queue) (next : ℕ) : Type 0 where
@@ -32,7 +36,7 @@ pub record Core (w : ℕ) (l : Ledger) (s : State) (store : List ℕ) : Type 0 w
   -- the records behind the released ones are the held ones
   pub behind : drop (l .released) (l .records) ≡ held s store
   pub stock : Stock w (s .settings) (l .records) (l .released) (l .writings) (s .queue) (s .next)
-  -- S is due exactly where nothing was released in this activation
+  -- no fewer are released than before the activation, and S is due exactly where no more are
   pub origin : l .releasedBefore ≤ l .released
   pub starts : s .due ≡ eqb (l .released) (l .releasedBefore)
   -- what was released in it was written in it, and nothing was written in a later one

@@ -12,7 +12,7 @@ use native.Mathlib.Omega.{arith}
 use lib.Dec.{eqb, leb, ltb}
 use lib.ListN.{length, getD, take, take-append-drop}
 use lib.Seq.{getD-drop}
-use borrow.Author.Tests.{leb-false, eqb-true, eqb-false, not-true, not-false, eq-eqb, ne-eqb, le-leb, lt-leb, lt-ltb, le-ltb}
+use borrow.Author.Tests.{leb-false, eqb-true, eqb-false, not-true, eq-eqb, ne-eqb, le-leb, lt-leb, lt-ltb, le-ltb}
 use Rattle.octets.specs.Answers.{Check, _when_, judge, done, unsoundState}
 use Rattle.octets.proofs.Judging.{passed}
 use Rattle.octets.proofs.Each.{and-left, and-right}
@@ -26,23 +26,23 @@ use Rattle.session.specs.Limits.{maxHeld}
 use Rattle.session.specs.Steps.{modulus, ackCount, Call, put, nextData, tick, ack, move, isDuplicate, isFirst, headOf, written}
 use Rattle.session.specs.Steps.{isSessions, checks, soundFor, answer, after, settled, storeAfter, Outcome, step}
 use Rattle.session.specs.History.{Ledger, History, dsnOf, ackPlace, deliveryAfter, ledgerAfter, afterAccepted, afterCall, writtenIn}
-use Rattle.session.specs.History.{writtenDuring, firstWritten}
+use Rattle.session.specs.History.{firstWritten}
 use Rattle.session.specs.Claim.{Session, InRange, entryAt, nextPlace, isDuplicateFor, dueReply, octetsTogether, dueChecks, Named}
 use Rattle.session.specs.Claim.{isFirstIn, ReleasedBy, Acknowledgeable, CallClaim, Account}
 use Rattle.session.specs.declared.state.Active.{Active}
 use Rattle.session.specs.declared.state.Active.the-variants.{Nobody, Server}
 use Rattle.session.specs.declared.state.Delivery.{Delivery}
 use Rattle.session.specs.declared.state.State.{State}
-use Rattle.session.proofs.SoundFacts.{SoundFacts, sound-facts, same-active, active-same}
+use Rattle.session.proofs.SoundFacts.{SoundFacts, sound-facts, active-same}
 use Rattle.session.proofs.Choice.{chosen-below}
 use Rattle.session.proofs.Places.{one-place, reached-test}
 use Rattle.session.proofs.QueueLaws.{duplicate-same, noEntry, heldAt, held-length, held-octets}
-use Rattle.session.proofs.Agrees.{Core, Agrees}
+use Rattle.session.proofs.Agrees.{writtenDuring, Core, Agrees}
 use Rattle.session.proofs.SoundKept.{active-some, after-sized, accepted-sound}
 use Rattle.session.proofs.HeldLaws.{held-read}
 use Rattle.session.proofs.StepLaws.{step-answer}
 use Rattle.session.proofs.Keeps.{begun, begun-released, written-released, settle-keeps, held-dsn, acked, ack-dsn, ack-below}
-use Rattle.session.proofs.Keeps.{ack-named, acknowledger, first-none, first-any, nothing-released, call-keeps, call-delivery}
+use Rattle.session.proofs.Keeps.{ack-named, acknowledger, none-written, some-written, nothing-released, call-keeps, call-delivery}
 
 -- ---- the state is sound
 
@@ -204,9 +204,10 @@ module _ (enc : Encoding) (room : ℕ) (h : History) (s : State) (store : List �
       (a .core .stock .existing (h .ledger .released + (s .delivery .sent + 1)))
 
   -- S is set by the state exactly where its record began the activation and none was released since
-  first-at : isFirst (s .due) (s .delivery .sent)
-      ≡ (eqb (h .ledger .released + (s .delivery .sent + 1)) (h .ledger .releasedBefore + 1) && eqb (h .ledger .released) (h .ledger .releasedBefore))
-  first-at = ap (λ (x : Bool). x && eqb n 0) (a .core .starts) ∙ go (ℕ-discrete r b) (ℕ-discrete n 0)
+  s-at : isFirst (s .due) (s .delivery .sent)
+      ≡ (eqb (h .ledger .released + (s .delivery .sent + 1)) (h .ledger .releasedBefore + 1)
+      && eqb (h .ledger .released) (h .ledger .releasedBefore))
+  s-at = ap (λ (x : Bool). x && eqb n 0) (a .core .starts) ∙ go (ℕ-discrete r b) (ℕ-discrete n 0)
     where
       n : ℕ
       n = s .delivery .sent
@@ -227,7 +228,8 @@ module _ (enc : Encoding) (room : ℕ) (h : History) (s : State) (store : List �
       → isFirstIn h ≡ eqb (nextPlace h) (firstWritten (h .ledger .writings) (h .ledger .activation) (nextPlace h))
   unfolding checks
   first-written e =
-      same (ℕ-discrete (nextPlace h) (l .releasedBefore + 1)) ∙ ap (eqb (nextPlace h)) (sym (began (writtenDuring (l .writings) (l .activation)) refl))
+      same (ℕ-discrete (nextPlace h) (l .releasedBefore + 1))
+      ∙ ap (eqb (nextPlace h)) (sym (began (writtenDuring (l .writings) (l .activation)) refl))
     where
       l : Ledger
       l = h .ledger
@@ -246,10 +248,10 @@ module _ (enc : Encoding) (room : ℕ) (h : History) (s : State) (store : List �
       -- which was written first in it, or will be
       began : (b : Bool) → writtenDuring (l .writings) (l .activation) ≡ b
           → firstWritten (l .writings) (l .activation) (nextPlace h) ≡ l .releasedBefore + 1
-      began true x = first-any (l .writings) (l .activation) (nextPlace h) (l .releasedBefore + 1) x ∙ a .core .first
+      began true x = some-written (l .writings) (l .activation) (nextPlace h) (l .releasedBefore + 1) x ∙ a .core .first
       began false x =
           let none = nothing-released enc l s store wide (a .isSound) (a .sized) (a .core) (active .0) (active .1) x in
-          first-none (l .writings) (l .activation) (nextPlace h) x ∙ omega (arith, next-place, none .0, none .1)
+          none-written (l .writings) (l .activation) (nextPlace h) x ∙ omega (arith, next-place, none .0, none .1)
 
   next-written : s .delivery .sent < s .queue .count → written w nextData s store ≡ dueReply (sessionAt enc s) h nextData
   unfolding written headOf
@@ -259,7 +261,7 @@ module _ (enc : Encoding) (room : ℕ) (h : History) (s : State) (store : List �
       rw (
         a .delivery,
         e,
-        first-at,
+        s-at,
         held-dsn enc (h .ledger) s store wide (a .isSound) (a .sized) c (s .delivery .sent),
         duplicate-at (s .delivery .active) g,
       ) refl
@@ -487,7 +489,7 @@ module _ (enc : Encoding) (room : ℕ) (h : History) (s : State) (store : List �
         writes = step-writes k;
         standsFor = λ e x. stands-for (checked nextData e x);
         accepted = λ e x. next-accepted (checked nextData e x);
-        marks = λ e x. first-written (checked nextData e x);
+        firstMark = λ e x. first-written (checked nextData e x);
         names = λ v d config e x. names-one v d config (subst (InRange w) e i) (checked (ack v d config) e x);
         releases = step-releases k i (o .answer) (sym (call-answer k));
         ackAccepted = λ v q e active x.

@@ -27,9 +27,9 @@ module _ (enc : Encoding) (room : ℕ) (c : Call) (s : State) (store : List ℕ)
   judged : answer enc room c s store ≡ done
   judged = sym (step-answer enc room c s store) ∙ done₀
 
-  pub accepted-sound : soundFor c s store ≡ true
+  pub found-sound : soundFor c s store ≡ true
   unfolding answer
-  accepted-sound = go (soundFor c s store) judged
+  found-sound = go (soundFor c s store) judged
     where
       go : (b : Bool) → cond (not b) unsoundState (judge (checks enc room c s store)) ≡ done → b ≡ true
       go true e = refl
@@ -47,7 +47,7 @@ sent-one : (enc : Encoding) (s : State) (room : ℕ) (store : List ℕ) → let 
     o .answer ≡ done → SentOne s (o .state)
 unfolding after sentOne marked
 sent-one enc s room store e =
-    let h : sound s ≡ true = and-left (sound s) (eqb (length store) (s .capacity)) (accepted-sound enc room nextData s store e) in
+    let h : sound s ≡ true = and-left (sound s) (eqb (length store) (s .capacity)) (found-sound enc room nextData s store e) in
     rw (left-alone enc room nextData s store e h refl refl)
     (record { same = record { servers = refl; active = refl }; sent = refl; reached = refl; timer = refl; due = refl; count = refl })
 
@@ -96,7 +96,7 @@ released enc s room v dsn config store e =
     let c = ack v dsn config in
     let f = counted (ackCount (enc .width) s dsn) (s .delivery) in
     let same = ap (λ (servers : List serverOf.Server). choose (s .settings .priorities) servers (s .settings .servers)) (f .servers) in
-    rw (left-alone enc room c s store e (accepted-sound enc room c s store e) (f .active) same)
+    rw (left-alone enc room c s store e (found-sound enc room c s store e) (f .active) same)
     (record {
       same = record { servers = f .servers; active = f .active };
       count = refl;

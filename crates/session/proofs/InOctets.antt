@@ -183,7 +183,7 @@ module _ (p : Settings) where
           writes = y .writes;
           standsFor = y .standsFor;
           accepted = y .accepted;
-          marks = y .marks;
+          firstMark = y .firstMark;
           names = y .names;
           releases = y .releases;
           ackAccepted = y .ackAccepted;

@@ -22,7 +22,7 @@ use Rattle.session.specs.Sound.{sound}
 use Rattle.session.specs.Steps.{modulus, firstHeld, dsnAt, ackCount, Call, put, nextData, tick, ack, move, checks, withDelivery}
 use Rattle.session.specs.Steps.{after, settled, storeAfter}
 use Rattle.session.specs.History.{Writing, Ledger, withActivation, dsnOf, ackPlace, deliveryAfter, writtenBy, ledgerAfter, anyWriting}
-use Rattle.session.specs.History.{writtenIn, writtenDuring, firstWritten}
+use Rattle.session.specs.History.{writtenIn, firstWritten}
 use Rattle.session.specs.Claim.{InRange}
 use Rattle.session.specs.declared.state.Active.{Active}
 use Rattle.session.specs.declared.state.Active.the-variants.{Nobody, Server}
@@ -35,7 +35,7 @@ use Rattle.session.proofs.QueueLaws.{or-elim, or-right, set-cases, shif
 use Rattle.session.proofs.SoundFacts.{SoundFacts, sound-facts, same-active}
 use Rattle.session.proofs.SoundKept.{Sized, Calm, move-calm, tick-calm, active-some, ack-lower}
 use Rattle.session.proofs.HeldLaws.{held-kept, held-put, held-release}
-use Rattle.session.proofs.Agrees.{Core}
+use Rattle.session.proofs.Agrees.{writtenDuring, Core}
 
 -- the ledger after the choice
 abbrev pub begun : Bool → Ledger → Ledger
@@ -68,20 +68,20 @@ in-during (x ∷ xs) q v k e =
     go false false false r d e f = f e
 
 -- what was written first in an activation, where nothing was, and where something was
-pub first-none : (ws : List Writing) (k q : ℕ) → writtenDuring ws k ≡ false → firstWritten ws k q ≡ q
+pub none-written : (ws : List Writing) (k q : ℕ) → writtenDuring ws k ≡ false → firstWritten ws k q ≡ q
 unfolding anyWriting firstWritten
-first-none [] k q e = refl
-first-none (x ∷ xs) k q e = go (eqb (x .activation) k) (first-none xs k q) e
+none-written [] k q e = refl
+none-written (x ∷ xs) k q e = go (eqb (x .activation) k) (none-written xs k q) e
   where
     go : (b : Bool) → (writtenDuring xs k ≡ false → firstWritten xs k q ≡ q) → b || writtenDuring xs k ≡ false
         → firstWritten xs k (cond b (x .place) q) ≡ q
     go true f h = absurd (false≢true (sym h))
     go false f h = f h
 
-pub first-any : (ws : List Writing) (k q r : ℕ) → writtenDuring ws k ≡ true → firstWritten ws k q ≡ firstWritten ws k r
+pub some-written : (ws : List Writing) (k q r : ℕ) → writtenDuring ws k ≡ true → firstWritten ws k q ≡ firstWritten ws k r
 unfolding anyWriting firstWritten
-first-any [] k q r e = absurd (false≢true e)
-first-any (x ∷ xs) k q r e = go (eqb (x .activation) k) (first-any xs k q r) e
+some-written [] k q r e = absurd (false≢true e)
+some-written (x ∷ xs) k q r e = go (eqb (x .activation) k) (some-written xs k q r) e
   where
     go : (b : Bool) → (writtenDuring xs k ≡ true → firstWritten xs k q ≡ firstWritten xs k r) → b || writtenDuring xs k ≡ true
         → firstWritten xs k (cond b (x .place) q) ≡ firstWritten xs k (cond b (x .place) r)
@@ -119,7 +119,7 @@ settle-keeps {w} {l} {s} {store} c = go (changed (s .settings) (s .delivery))
           starts = sym (eq-eqb (l .released) (l .released) refl);
           opened = λ x. let z : ⊥ = omega arith in absurd z;
           later = λ k h. c .later k (omega arith);
-          first = first-none (l .writings) (l .activation + 1) (l .released + 1) (c .later (l .activation + 1) (omega arith));
+          first = none-written (l .writings) (l .activation + 1) (l .released + 1) (c .later (l .activation + 1) (omega arith));
           since = λ v k e h b. let z : ⊥ = omega arith in absurd z;
           until =
               λ v k e. absurd (false≢true
@@ -273,10 +273,10 @@ module _ (enc : Encoding) (l : Ledger) (s : State) (store : List ℕ) (wide : 64
       first-still : (b : Bool) → writtenDuring (l .writings) (l .activation) ≡ b
           → firstWritten (l .writings) (l .activation) (l .released + (s .delivery .sent + 1)) ≡ l .releasedBefore + 1
       first-still true e =
-          first-any (l .writings) (l .activation) (l .released + (s .delivery .sent + 1)) (l .releasedBefore + 1) e ∙ c .first
+          some-written (l .writings) (l .activation) (l .released + (s .delivery .sent + 1)) (l .releasedBefore + 1) e ∙ c .first
       first-still false e =
           let z = nothing-released v ea e in
-          first-none (l .writings) (l .activation) (l .released + (s .delivery .sent + 1)) e ∙ omega (arith, z .0, z .1)
+          none-written (l .writings) (l .activation) (l .released + (s .delivery .sent + 1)) e ∙ omega (arith, z .0, z .1)
 
       far : (u j : ℕ)
           → (eqb (l .released + (s .delivery .sent + 1)) j && eqb v u && eqb (l .activation) (l .activation))
@@ -380,15 +380,18 @@ module _ (enc : Encoding) (l : Ledger) (s : State) (store : List ℕ) (wide : 64
     where
       -- no record was released in this activation exactly where none was before, and n is 0
       none-more : (n : ℕ) → s .due && eqb n 0 ≡ eqb (l .released + n) (l .releasedBefore)
-      none-more n = ap (λ (x : Bool). x && eqb n 0) (c .starts) ∙ go (ℕ-discrete (l .released) (l .releasedBefore)) (ℕ-discrete n 0)
+      none-more n = ap (λ (x : Bool). x && eqb n 0) (c .starts) ∙ go (ℕ-discrete r before) (ℕ-discrete n 0)
         where
-          go : Dec (l .released ≡ l .releasedBefore) → Dec (n ≡ 0) → eqb (l .released) (l .releasedBefore) && eqb n 0 ≡ eqb (l .released + n) (l .releasedBefore)
-          go (yes x) (yes y) =
-              rw (eq-eqb (l .released) (l .releasedBefore) x, eq-eqb n 0 y, eq-eqb (l .released + n) (l .releasedBefore) (omega arith))
-          go (yes x) (no y) =
-              rw (eq-eqb (l .released) (l .releasedBefore) x, ne-eqb n 0 y, ne-eqb (l .released + n) (l .releasedBefore) (λ z. y (omega arith)))
-          go (no x) y =
-              rw (ne-eqb (l .released) (l .releasedBefore) x, ne-eqb (l .released + n) (l .releasedBefore) (λ z. x (omega (arith, c .origin))))
+          r : ℕ
+          r = l .released
+
+          before : ℕ
+          before = l .releasedBefore
+
+          go : Dec (r ≡ before) → Dec (n ≡ 0) → eqb r before && eqb n 0 ≡ eqb (r + n) before
+          go (yes x) (yes y) = rw (eq-eqb r before x, eq-eqb n 0 y, eq-eqb (r + n) before (omega arith))
+          go (yes x) (no y) = rw (eq-eqb r before x, ne-eqb n 0 y, ne-eqb (r + n) before (λ z. y (omega arith)))
+          go (no x) y = rw (ne-eqb r before x, ne-eqb (r + n) before (λ z. x (omega (arith, c .origin))))
 
       -- what is released was reached, and so was written
       opens : (n : ℕ) → n ≤ s .delivery .reached → Dec (n ≡ 0) → l .releasedBefore < l .released + n

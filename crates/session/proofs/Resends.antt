@@ -1,12 +1,12 @@
--- S on records that are sent again. The rule holds since no call but a DATA ACK changes whether S is due before the choice is made anew, and
--- a DATA ACK leaves the choice; the examples hold by computing their calls.
+-- S on records that are sent again. The rule holds since no call but a DATA ACK changes whether S is due before the choice is made anew,
+-- and a DATA ACK leaves the choice; the examples hold by computing their calls.
 use mathlib.Core.Path.{_≡_, refl, sym, _∙_}
-use mathlib.Core.Bool.{Bool, true, false, not, _||_, cond, true≢false}
+use mathlib.Core.Bool.{Bool, true, false, not, true≢false}
 use mathlib.Core.List.{List, _∷_}
-use Prim.Native.Nat.{ℕ, _≤_, _<_}
+use Prim.Native.Nat.{ℕ, _≤_}
 use native.Mathlib.Decide.{ℕ-discrete}
 use native.Mathlib.Omega.{arith}
-use borrow.Author.Tests.{ltb-false, not-true}
+use borrow.Author.Tests.{ltb-false}
 use Rattle.octets.specs.Answers.{_when_, done, unsoundState}
 use Rattle.octets.specs.Numbers.{numberOf, uintIn, octetsIn}
 use Rattle.octets.specs.Each.{every, firstFrom}
@@ -20,8 +20,8 @@ use Rattle.session.specs.Servers.{sameActive, choose, chosen, changed, s
 use Rattle.session.specs.Servers.{acknowledged}
 use Rattle.session.specs.Queue.{sumOf, ringRead, ringWrite, recordAt, has, hasOther, pushed, dropFront, marked}
 use Rattle.session.specs.Sound.{settingsSound, numbersSound, sound}
-use Rattle.session.specs.Steps.{ackCount, Call, put, nextData, tick, ack, move, soundFor, headOf, written, checks, answer, after, settled}
-use Rattle.session.specs.Steps.{storeAfter, step, fresh, setUp}
+use Rattle.session.specs.Steps.{ackCount, Call, put, nextData, tick, ack, move, soundFor, headOf, written, checks, answer, after}
+use Rattle.session.specs.Steps.{settled, storeAfter, step, fresh, setUp}
 use Rattle.session.specs.History.{dsnOf, placeOf, deliveryAfter, ledgerAfter, afterAccepted, afterCall, freshHistory, anyWriting}
 use Rattle.session.specs.Claim.{advance, begin}
 use Rattle.session.specs.Counters.{Released}
@@ -30,11 +30,11 @@ use Rattle.session.specs.declared.state.State.{State}
 use Rattle.session.proofs.SoundFacts.{sound-facts, active-same}
 use Rattle.session.proofs.SoundKept.{tick-calm}
 use Rattle.session.proofs.StepLaws.{step-done, step-refused, step-answer}
-use Rattle.session.proofs.Counters.{accepted-sound, counter-rule}
+use Rattle.session.proofs.Counters.{found-sound, counter-rule}
 
 -- ---- the rule
 
--- the choice is made anew in a state t with the choice, as many records and S due as in s
+-- the choice is made anew in a state t with the choice of s, no fewer records, and S due as in s
 settled-due : (s t : State) → t .delivery .active ≡ s .delivery .active → s .queue .count ≤ t .queue .count → t .due ≡ s .due
     → DueRules s (settled t)
 unfolding settled settle changed
@@ -90,13 +90,13 @@ unfolding after pushed sentOne marked
 accepted-due enc room (put table id r) s store e = settled-due s (after (enc .width) (put table id r) s) refl (omega arith) refl
 accepted-due enc room nextData s store e = settled-due s (after (enc .width) nextData s) refl (omega arith) refl
 accepted-due enc room tick s store e =
-    let f = sound-facts s (accepted-sound enc room tick s store (step-answer enc room tick s store ∙ e)) in
+    let f = sound-facts s (found-sound enc room tick s store (step-answer enc room tick s store ∙ e)) in
     let calm = tick-calm (s .settings) (s .delivery) (f .numbers .settings .someDuration) in
     settled-due s (after (enc .width) tick s) (calm .active) (omega arith) refl
 accepted-due enc room (ack v dsn config) s store e =
     let c = ack v dsn config in
     let told = step-answer enc room c s store ∙ e in
-    let held = ack-held enc room v dsn config s store e (accepted-sound enc room c s store told) in
+    let held = ack-held enc room v dsn config s store e (found-sound enc room c s store told) in
     acked-due (ackCount (enc .width) s dsn) s (settled (after (enc .width) c s)) held
     (rw (step-done enc room c s store e) at (counter-rule enc s .dataAck room v dsn config store told))
 accepted-due enc room (move v m) s store e = settled-due s (after (enc .width) (move v m) s) refl (omega arith) refl
@@ -116,8 +116,4 @@ unfolding numberOf uintIn octetsIn every firstFrom isType widthOf isMessage body
     settle transition otherAgreed expired ticked sentOne acknowledged sumOf ringRead ringWrite recordAt has hasOther pushed dropFront marked
     settingsSound numbersSound sound ackCount headOf written checks answer after settled storeAfter step fresh setUp dsnOf placeOf
     deliveryAfter ledgerAfter afterAccepted afterCall freshHistory anyWriting advance begin answersFrom marksFrom marksDue
-resend-examples =
-    record {
-      resends = ((refl, (refl, refl)), ((refl, (refl, refl)), ((refl, (refl, refl)), ((refl, (refl, refl)), ((refl, (refl, refl)), ((refl, (refl, refl)), tt))))));
-      beginnings = ((refl, (refl, refl)), ((refl, (refl, refl)), ((refl, (refl, refl)), ((refl, (refl, refl)), ((refl, (refl, refl)), ((refl, (refl, refl)), ((refl, (refl, refl)), ((refl, (refl, refl)), ((refl, (refl, refl)), tt)))))))));
-    }
+resend-examples = record { resends = refl; beginnings = refl }

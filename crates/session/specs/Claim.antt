@@ -235,7 +235,7 @@ pub record CallClaim (z : Session) (capacity room : ℕ) (h : History) (hs : Lis
       → dsnOf (dsnBits z) (z .settings) q ≡ dsnOf (dsnBits z) (z .settings) (nextPlace h) → q ≡ nextPlace h
   pub accepted : c ≡ nextData → o .answer ≡ done → nextPlace h ≤ length (h .ledger .records)
   -- of the writings alone: a DATA has S exactly where its place is the one that was written first in the activation, or none was
-  pub marks : c ≡ nextData → o .answer ≡ done
+  pub firstMark : c ≡ nextData → o .answer ≡ done
       → isFirstIn h ≡ eqb (nextPlace h) (firstWritten (h .ledger .writings) (h .ledger .activation) (nextPlace h))
   -- an accepted DATA ACK names one place
   pub names : (v d config : ℕ) → c ≡ ack v d config → o .answer ≡ done → Named (dsnBits z) (z .settings) (h .ledger) d

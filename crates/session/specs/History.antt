@@ -142,10 +142,6 @@ anyWriting test (x ∷ xs) = test x || anyWriting test xs
 abbrev pub writtenIn : List Writing → ℕ → ℕ → ℕ → Bool
 writtenIn ws q v k = anyWriting (λ x. eqb (x .place) q && eqb (x .server) v && eqb (x .activation) k) ws
 
--- Something was written in activation k.
-abbrev pub writtenDuring : List Writing → ℕ → Bool
-writtenDuring ws k = anyWriting (λ x. eqb (x .activation) k) ws
-
 -- The place that was written first in activation k, or q where none was; the latest writing stands in front.
 unfoldable pub firstWritten : List Writing → ℕ → ℕ → ℕ
 firstWritten [] k q = q

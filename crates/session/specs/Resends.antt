@@ -3,7 +3,7 @@
 use mathlib.Core.Path.{_≡_}
 use mathlib.Core.Logic.{_≢_}
 use mathlib.Core.Bool.{Bool, true, false}
-use mathlib.Core.List.{List, [], _∷_, _++_}
+use mathlib.Core.List.{List, [], _∷_, _++_, map}
 use Prim.Native.Nat.{ℕ, _≤_, _<_}
 use lib.ListN.{length, set, replicate}
 use Rattle.octets.specs.Answers.{done}
@@ -115,17 +115,29 @@ pub record Example : Type 0 where
   pub calls : List Call
   pub marks : List Mark
 
--- Each call of an example is accepted; its marks are those written, and those that the history has.
-abbrev pub ExampleHolds : Example → Type 0
-ExampleHolds x =
-    let fresh = begin aSession (replicate minStoreOctets 0) in
-    (answersFrom fresh (x .calls) ≡ replicate (length (x .calls)) done)
-    × ((marksFrom fresh (x .calls) ≡ x .marks) × (marksDue freshHistory (x .calls) ≡ x .marks))
+-- What calls from a fresh exporter on answer, the marks that they write, and those that the history has.
+pub record Shown : Type 0 where
+  pub answers : List ℕ
+  pub written : List Mark
+  pub due : List Mark
 
--- All of them hold.
+-- What is shown of an example's calls.
+abbrev pub shown : Example → Shown
+shown x =
+    let fresh = begin aSession (replicate minStoreOctets 0) in
+    record {
+      answers = answersFrom fresh (x .calls);
+      written = marksFrom fresh (x .calls);
+      due = marksDue freshHistory (x .calls);
+    }
+
+-- What it says: each call is accepted, and its marks are those written and those due.
+abbrev pub said : Example → Shown
+said x = record { answers = replicate (length (x .calls)) done; written = x .marks; due = x .marks }
+
+-- Examples hold.
 abbrev pub ExamplesHold : List Example → Type 0
-ExamplesHold [] = Unit {0}
-ExamplesHold (x ∷ xs) = ExampleHolds x × ExamplesHold xs
+ExamplesHold xs = map shown xs ≡ map said xs
 
 -- What the first server is sent again, and whether it has S.
 abbrev pub examplesOfResends : List Example

@@ -1,15 +1,14 @@
--- Transitions change only a state's delivery and whether S is due, and look at no template ID and no next DSN. So what they do to a state is
--- what they do to the other parts, applied to that state. The first laws say what a refused and an accepted step is.
+-- Transitions change only a state's delivery and whether S is due, and look at no template ID and no next DSN. So what they do to a state
+-- is what they do to the other parts, applied to that state. The first laws say what a refused and an accepted step is.
 use mathlib.Core.Path.{_≡_, refl, ap, _∙_}
-use mathlib.Core.Bool.{Bool, true, false, cond, not}
+use mathlib.Core.Bool.{Bool, true, false, cond}
 use mathlib.Core.List.{List, []}
 use Prim.Native.Nat.{ℕ}
-use borrow.Author.Tests.{ne-eqb}
 use lib.Dec.{eqb, leb}
 use lib.ListN.{length}
 use lib.Seq.{sets}
 use Rattle.octets.specs.Answers.{judge, done, unsoundState, noSuchServer}
-use Rattle.session.specs.Servers.{chosen, settle, changed, phaseAt, withServers, Transition, transition}
+use Rattle.session.specs.Servers.{phaseAt, withServers, Transition, transition}
 use Rattle.session.specs.Sound.{sound}
 use Rattle.wire.specs.Replies.{silent, Encoding, layout}
 use Rattle.session.specs.Steps.{Outcome, Call, step, answer, checks, after, settled, storeAfter, written, move, replyTo, transitionChecks}
@@ -19,7 +18,7 @@ use Rattle.soundness.specs.Parts.{stateOf}
 use Rattle.servers.specs.declared.change.Change.{Change}
 use Rattle.session.specs.declared.state.State.{State}
 use Rattle.session.specs.declared.state.Wrote.{Wrote}
-use Rattle.session.proofs.StepLaws.{settled-same, step-refused, step-done}
+use Rattle.session.proofs.StepLaws.{step-refused, step-done}
 
 -- ---- transitions
 
@@ -79,7 +78,8 @@ module _ (enc : Encoding) (room v : ℕ) (t : Transition) (s : State) where
       go a true = refl
       go a false = refl
 
-  move-output : (out : List ℕ) → outputAfter out (step enc room (move v t) (moveParts s) []) ≡ outputAfter out (step enc room (move v t) s [])
+  move-output : (out : List ℕ)
+      → outputAfter out (step enc room (move v t) (moveParts s) []) ≡ outputAfter out (step enc room (move v t) s [])
   unfolding step written storeAfter outcome
   move-output out = rw move-same (go (answer enc room (move v t) s []) (eqb (answer enc room (move v t) s []) done))
     where

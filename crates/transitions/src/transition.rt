@@ -148,7 +148,7 @@ fn move_delivery(d: Delivery, v: u8, m: Move) -> Delivery
     next
 }
 
-// What a transition changes, by the parts of a state that soundness looks at.
+// What a transition changes, by the parts of a state that soundness looks at, and whether S is due.
 fn move_change<'a>(
     p: Settings,
     capacity: usize,

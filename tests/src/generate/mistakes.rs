@@ -51,15 +51,15 @@ const MISTAKES: [Mistake; 47] = [
     mistake("DSNs are compared as plain numbers", Program::plain_numbers),
     mistake("D is set on a resend to the same server", Program::d_on_resends),
     mistake("S is set only on the first writing", |program, event| {
-        program.marks(event, |before| is_due(before) && before.reached == 0)
+        program.sets_s(event, |before| is_due(before) && before.reached == 0)
     }),
     mistake("S is set on every resend of the first held record", |program, event| {
-        program.marks(event, |before| before.sent == 0 && (is_due(before) || before.reached > 0))
+        program.sets_s(event, |before| before.sent == 0 && (is_due(before) || before.reached > 0))
     }),
-    mistake("S is set on every record until the first release", |program, event| program.marks(event, is_due)),
-    mistake("S is kept after a release", |program, event| program.marks(event, |before| before.sent == 0)),
+    mistake("S is set on every record until the first release", |program, event| program.sets_s(event, is_due)),
+    mistake("S is kept after a release", |program, event| program.sets_s(event, |before| before.sent == 0)),
     mistake("S is set again once all that was sent is released", |program, event| {
-        program.marks(event, |before| before.sent == 0 && (is_due(before) || before.reached == 0))
+        program.sets_s(event, |before| before.sent == 0 && (is_due(before) || before.reached == 0))
     }),
     mistake("S is cleared by an acknowledgement of nothing", |program, event| {
         program.clears_s(event, |event, before, after| is_ack(event) && before.released == after.released)
@@ -72,7 +72,7 @@ const MISTAKES: [Mistake; 47] = [
     mistake("S is not set in an activation that begins with an empty queue", |program, event| {
         program.clears_s(event, |_, before, after| before.active != after.active && after.queue.is_empty())
     }),
-    mistake("S is not set again for the same server", Program::s_once_for_a_server),
+    mistake("a new activation of the same server leaves S as it was", Program::s_once_for_a_server),
     mistake("what was sent is dropped at failover", Program::drop_at_failover),
     mistake("a late server is active again at once", Program::straight_back),
     mistake("a timer that runs out leaves the active server agreed", Program::never_late),
@@ -135,7 +135,7 @@ fn is_due(exporter: &Exporter) -> bool {
     exporter.began == exporter.released + 1
 }
 
-/// An accepted message that is a DATA ACK.
+/// Of an accepted event: it is a DATA ACK.
 fn is_ack(event: &Event) -> bool {
     event.kind == MESSAGE && event.body[1] == DATA_ACK
 }
@@ -330,7 +330,7 @@ impl Program {
     }
 
     /// Takes an event, and if it is an accepted next data, sets S exactly if the exporter before it was so.
-    fn marks(&mut self, event: &Event, has_s: fn(&Exporter) -> bool) -> Outcome {
+    fn sets_s(&mut self, event: &Event, has_s: fn(&Exporter) -> bool) -> Outcome {
         let s = has_s(&self.replay.exporter);
         let mut outcome = self.right(event);
         if event.kind == NEXT && outcome.answer == DONE {
@@ -350,7 +350,7 @@ impl Program {
         outcome
     }
 
-    /// A changed choice makes S due only if another server was active last, which the marks remember.
+    /// A changed choice makes S due only if another server was active last; `marked` has the one that was.
     fn s_once_for_a_server(&mut self, event: &Event) -> Outcome {
         let before = self.replay.exporter.clone();
         let outcome = self.right(event);

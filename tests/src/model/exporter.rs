@@ -66,7 +66,7 @@ pub struct Exporter {
     /// How many records were ever released. The records put have places from 1 on, so this is the
     /// place before the first held one.
     pub released: usize,
-    /// The place of the record that began the activation; it may be put only after that.
+    /// The place of the record that began the activation, which may not have been put yet.
     pub began: usize,
 }
 

@@ -29,7 +29,9 @@ returns c =
     let a = c .before .before .before .before .before .args in
     let s = stateOf (a .p) (a .capacity) (a .d) (a .due) (a .count) (a .lengths .now) [] (a .receivers .now) (a .start) 0 in
     let t = transitionOf (a .table .now) (a .m) in
-    let e = failed-sound s (c .before .before .parts-sound .result) (c .before .before .parts-sound .ensures ∙ parts-of s) (c .before .if1 .taken) in
+    let e =
+    failed-sound s (c .before .before .parts-sound .result) (c .before .before .parts-sound .ensures ∙ parts-of s)
+    (c .before .if1 .taken) in
     refused-change crane (length (a .out .now)) (move (a .v) t) s (a .out .now) 1 (c .refuse-change .result) (λ z. omega arith)
     (move-unsound crane (length (a .out .now)) (a .v) t s e) (c .refuse-change .ensures)
 
@@ -42,8 +44,8 @@ returns-2 c =
     let s = stateOf (a .p) (a .capacity) (a .d) (a .due) (a .count) (a .lengths .now) [] (a .receivers .now) (a .start) 0 in
     let t = transitionOf (a .table .now) (a .m) in
     let e =
-    passed-sound s (c .before .before .before .before .parts-sound .result) (c .before .before .before .before .parts-sound .ensures ∙ parts-of s)
-    (c .before .before .before .if1 .left) in
+    passed-sound s (c .before .before .before .before .parts-sound .result)
+    (c .before .before .before .before .parts-sound .ensures ∙ parts-of s) (c .before .before .before .if1 .left) in
     refused-change crane (length (a .out .now)) (move (a .v) t) s (a .out .now) 2 (c .refuse-change2 .result) (λ z. omega arith)
     (move-unknown crane (length (a .out .now)) (a .v) t s e (le-leb (a .p .servers) (a .v) (c .before .if2 .taken)))
     (c .refuse-change2 .ensures)

@@ -1,5 +1,5 @@
--- `move_server` meets its contract. What the transition changes was computed of the parts that soundness looks at; by the law `moved-
--- applied` it is what the transition of the whole state changes.
+-- `move_server` meets its contract. What the transition changes was computed of the parts that it looks at; by the law `moved-applied` it
+-- is what the transition of the whole state changes.
 use lib.ListN.{length}
 use Rattle.wire.specs.Replies.{crane}
 use Rattle.transitions.specs.Moves.{transitionOf}
