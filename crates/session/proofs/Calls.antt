@@ -19,9 +19,10 @@ use Rattle.octets.proofs.Each.{and-left, and-right}
 use Rattle.wire.specs.Table.{isMissing, templateOf}
 use Rattle.wire.specs.Record.{recordValid}
 use Rattle.wire.specs.Messages.{maxRecordOctets}
-use Rattle.wire.specs.Replies.{silent, Encoding}
+use Rattle.wire.specs.Replies.{Reply, silent, message, Encoding}
+use Rattle.messages.specs.declared.message.Message.the-variants.{Data}
 use Rattle.session.specs.Servers.{sameActive, changed, settle, start, stop, negotiate, offer, down, agree, malformed}
-use Rattle.session.specs.Queue.{Entry, sumOf, heldOctets, held}
+use Rattle.session.specs.Queue.{Entry, sumOf, heldOctets, recordAt, held}
 use Rattle.session.specs.Limits.{maxHeld}
 use Rattle.session.specs.Steps.{modulus, ackCount, Call, put, nextData, tick, ack, move, isDuplicate, isFirst, headOf, written}
 use Rattle.session.specs.Steps.{isSessions, checks, soundFor, answer, after, settled, storeAfter, Outcome, step}
@@ -253,18 +254,34 @@ module _ (enc : Encoding) (room : ℕ) (h : History) (s : State) (store : List �
           let none = nothing-released enc l s store wide (a .isSound) (a .sized) (a .core) (active .0) (active .1) x in
           none-written (l .writings) (l .activation) (nextPlace h) x ∙ omega (arith, next-place, none .0, none .1)
 
+  -- the next DATA, with S or without
+  nextWith : Bool → Reply
+  nextWith b =
+      let n = s .delivery .sent in
+      let place = h .ledger .released + (n + 1) in
+      message
+      (Data
+      (record {
+        session = s .settings .session;
+        template = getD (s .queue .templates) n 0;
+        config = s .settings .config;
+        first = b;
+        duplicate = isDuplicateFor (s .delivery .active) (h .ledger .writings) place;
+        dsn = dsnOf w (s .settings) place;
+      }))
+      (recordAt s store n)
+
   next-written : s .delivery .sent < s .queue .count → written w nextData s store ≡ dueReply (sessionAt enc s) h nextData
-  unfolding written headOf
+  unfolding written headOf nextWith
   next-written g =
       let e = next-entry g in
       let c = a .core in
       rw (
         a .delivery,
         e,
-        s-at,
         held-dsn enc (h .ledger) s store wide (a .isSound) (a .sized) c (s .delivery .sent),
         duplicate-at (s .delivery .active) g,
-      ) refl
+      ) (ap nextWith s-at)
 
   -- ---- the refusals that are due
 

@@ -116,4 +116,8 @@ unfolding numberOf uintIn octetsIn every firstFrom isType widthOf isMessage body
     settle transition otherAgreed expired ticked sentOne acknowledged sumOf ringRead ringWrite recordAt has hasOther pushed dropFront marked
     settingsSound numbersSound sound ackCount headOf written checks answer after settled storeAfter step fresh setUp dsnOf placeOf
     deliveryAfter ledgerAfter afterAccepted afterCall freshHistory anyWriting advance begin answersFrom marksFrom marksDue
-resend-examples = record { resends = refl; beginnings = refl }
+resend-examples =
+    record {
+      resends = (refl, (refl, (refl, (refl, (refl, (refl, tt))))));
+      beginnings = (refl, (refl, (refl, (refl, (refl, (refl, (refl, (refl, (refl, tt)))))))));
+    }

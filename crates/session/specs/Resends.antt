@@ -3,7 +3,7 @@
 use mathlib.Core.Path.{_≡_}
 use mathlib.Core.Logic.{_≢_}
 use mathlib.Core.Bool.{Bool, true, false}
-use mathlib.Core.List.{List, [], _∷_, _++_, map}
+use mathlib.Core.List.{List, [], _∷_, _++_}
 use Prim.Native.Nat.{ℕ, _≤_, _<_}
 use lib.ListN.{length, set, replicate}
 use Rattle.octets.specs.Answers.{done}
@@ -135,9 +135,10 @@ shown x =
 abbrev pub said : Example → Shown
 said x = record { answers = replicate (length (x .calls)) done; written = x .marks; due = x .marks }
 
--- Examples hold.
+-- Every example holds.
 abbrev pub ExamplesHold : List Example → Type 0
-ExamplesHold xs = map shown xs ≡ map said xs
+ExamplesHold [] = Unit {0}
+ExamplesHold (x ∷ xs) = (shown x ≡ said x) × ExamplesHold xs
 
 -- What the first server is sent again, and whether it has S.
 abbrev pub examplesOfResends : List Example
@@ -167,10 +168,7 @@ examplesOfBeginnings =
     record { calls = agreed 0 ++ (puts ∷ nextData ∷ tick ∷ nextData ∷ []); marks = withS 0 ∷ withS 0 ∷ [] }
     ∷ record { calls = agreed 0 ++ (acksNone ∷ puts ∷ nextData ∷ []); marks = withS 0 ∷ [] }
     -- a queue that is emptied and filled again within an activation begins none
-    ∷ record {
-      calls = sentTwo ++ (acks 1 ∷ puts ∷ nextData ∷ tick ∷ nextData ∷ []);
-      marks = withS 0 ∷ withoutS 1 ∷ withoutS 2 ∷ withoutS 2 ∷ [];
-    }
+    ∷ record { calls = agreed 0 ++ (puts ∷ nextData ∷ acks 0 ∷ puts ∷ nextData ∷ []); marks = withS 0 ∷ withoutS 1 ∷ [] }
     -- the same server is active anew: with the first record held
     ∷ record {
       calls = sentTwo ++ (acks 0 ∷ move 0 down ∷ []) ++ agreed 0 ++ (nextData ∷ tick ∷ nextData ∷ []);
