@@ -7,6 +7,7 @@ use lib.ListN.{length, take, drop}
 use Rattle.octets.specs.Answers.{_when_, judge, unsoundTape}
 use Rattle.octets.specs.Numbers.{uintAt}
 use Rattle.octets.specs.Each.{every, allOf}
+use Rattle.session.specs.Limits.{maxServers}
 
 -- ---- the kinds of events
 
@@ -102,18 +103,27 @@ kindFits i kind =
 abbrev pub serverFits : ℕ → ℕ → Bool
 serverFits kind server = eqb server 0 || (eqb kind messageKind || eqb kind downKind || eqb kind offerKind)
 
--- How many octets the settings have.
-abbrev pub settingsOctets : ℕ
-settingsOctets = 24
+-- Where the priorities begin in the settings; the other numbers stand before them.
+abbrev pub prioritiesAt : ℕ
+prioritiesAt = 16
+
+-- How many priorities the shorter form of settings has; the longer one has one for each server that there can be (02, ask 7).
+abbrev pub shortFormPriorities : ℕ
+shortFormPriorities = 8
+
+-- How many octets settings with so many priorities have.
+abbrev pub settingsOctets : ℕ → ℕ
+settingsOctets priorities = prioritiesAt + priorities
 
 -- How many octets the template ID has in front of a put's record.
 abbrev pub templateIdOctets : ℕ
 templateIdOctets = 2
 
--- Settings have 24 octets, a put at least the two of its template ID; a table and a message have any number, and the other calls none.
+-- Settings have 24 octets or 32, a put at least the two of its template ID; a table and a message have any number, and the other calls
+-- none.
 abbrev pub bodyLengthFits : ℕ → ℕ → Bool
 bodyLengthFits kind n =
-    cond (eqb kind settingsKind) (eqb n settingsOctets)
+    cond (eqb kind settingsKind) (eqb n (settingsOctets shortFormPriorities) || eqb n (settingsOctets maxServers))
     (cond (eqb kind putKind) (leb templateIdOctets n)
     (eqb kind tableKind || eqb kind messageKind || eqb n 0))
 

@@ -6,6 +6,7 @@ ghost use Rattle.octets.specs.Each.{every};
 ghost use Rattle.contents.specs.Tape.{eventCount, contentsAt, kindAt, serverAt, bodyLength, bodyAt, octetsAt, bodyOf, kindFits};
 ghost use Rattle.contents.specs.Tape.{serverFits, bodyLengthFits, eventSound, tapeAnswer};
 use octets::Answer;
+use session::limits::SERVER_ENTRIES;
 
 // The most octets that a tape has.
 pub const MAX_TAPE_OCTETS: usize = 32768;
@@ -31,8 +32,17 @@ pub const TEMPLATE_ID_OCTETS: usize = 2;
 // The least octets of a put: its template ID, of an empty record.
 const MIN_PUT_OCTETS: u16 = TEMPLATE_ID_OCTETS as u16;
 
-// The octets of the settings.
-const SETTINGS_OCTETS: u16 = 24;
+// Where the priorities begin in the settings.
+pub const PRIORITIES_AT: usize = 16;
+
+// How many priorities the shorter form of settings has; the longer one has one for each server that there can be.
+const SHORT_FORM_PRIORITIES: usize = 8;
+
+// The octets of the settings in the shorter form.
+const SHORT_FORM_OCTETS: u16 = (PRIORITIES_AT + SHORT_FORM_PRIORITIES) as u16;
+
+// The octets of the settings in the longer form.
+const LONG_FORM_OCTETS: u16 = (PRIORITIES_AT + SERVER_ENTRIES) as u16;
 
 // The kind of an event; the constants name the numbers.
 pub struct Kind {
@@ -159,7 +169,7 @@ fn body_length_fits(kind: u8, n: u16) -> bool
     ensures { λ r. ⌜ r ≡ bodyLengthFits kind n ⌝ }
 {
     if kind == Kind::SETTINGS {
-        return n == SETTINGS_OCTETS;
+        return (n == SHORT_FORM_OCTETS) | (n == LONG_FORM_OCTETS);
     }
     if kind == Kind::PUT {
         return MIN_PUT_OCTETS <= n;

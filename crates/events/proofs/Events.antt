@@ -1,29 +1,50 @@
--- Laws of the events: the call that an event makes, by its kind, and what the calls without a message write. A kind is tested against each
--- name in turn, so its call is that of the first test that holds. Of the output a call looks at nothing but the length.
+-- Laws of the events: the settings and what event 0 does with them; the call that an event makes, by its kind, and what the calls without
+-- a message write. A kind is tested against each name in turn, so its call is that of the first test that holds. Of the output a call looks
+-- at nothing but the length.
 use mathlib.Core.Path.{_≡_, refl, sym, ap}
 use mathlib.Core.Bool.{Bool, true, false, cond}
 use mathlib.Core.List.{List, []}
-use Prim.Native.Nat.{ℕ, _≤_}
+use Prim.Native.Nat.{ℕ, _-_, _≤_}
 use native.Mathlib.Omega.{arith}
-use lib.ListN.{length, drop}
-use lib.Dec.{eqb}
+use lib.ListN.{length, take, drop, replicate, length-take}
+use lib.Dec.{eqb, ltb}
 use borrow.Author.Tests.{ne-eqb}
-use Rattle.octets.specs.Numbers.{uintAt, Octets}
+use Rattle.octets.specs.Answers.{done}
+use Rattle.octets.specs.Numbers.{putAt, uintAt, Octets}
 use Rattle.octets.proofs.Numbers.{uint-below}
+use Rattle.octets.proofs.Stores.{put-fits}
 use Rattle.exporter.specs.Replies.{Reply, silent, crane, layout}
-use Rattle.session.specs.Limits.{maxStoreOctets}
+use Rattle.session.specs.Limits.{maxServers, maxStoreOctets}
 use Rattle.session.specs.Servers.{down, offer}
 use Rattle.session.specs.Steps.{put, nextData, tick, move, received, step, written, Outcome, steppedOf, wroteOf, outputAfter, putStep}
-use Rattle.session.specs.Steps.{tickStep, lineDownStep}
+use Rattle.session.specs.Steps.{tickStep, lineDownStep, refusedSetUp, setUp}
 use Rattle.session.proofs.Written.{writes-nothing}
 use Rattle.session.specs.InOctets.{Event, Put, NextData, Receive, OfferTemplates, LineDown, Tick}
 use Rattle.session.specs.declared.state.State.{State}
 use Rattle.session.specs.declared.state.Stepped.{Stepped}
 use Rattle.session.specs.declared.state.Wrote.{Wrote}
-use Rattle.contents.specs.Tape.{putKind, messageKind, downKind, tickKind, nextKind, bodyLength, bodyAt, bodyOf}
+use Rattle.contents.specs.Tape.{putKind, messageKind, downKind, tickKind, nextKind, bodyLength, bodyAt, octetsAt, bodyOf, prioritiesAt}
 use Rattle.contents.proofs.Parts.{octets-part}
-use Rattle.events.specs.Events.{eventCall, storeLength}
+use Rattle.events.specs.Events.{prioritiesOf, settingsOf, setUpBy, eventCall, storeLength}
 use Rattle.events.specs.Events.{effect, effectStore, Gives}
+
+-- ---- the settings
+
+-- no more priorities are read than there can be servers, so they fit their array
+pub priorities-fit : (b : List ℕ) → putAt (replicate maxServers 0) 0 (octetsAt b prioritiesAt maxServers) ≡ prioritiesOf b
+unfolding octetsAt
+priorities-fit b =
+    put-fits (replicate maxServers 0) 0 (take maxServers (drop prioritiesAt b)) (omega (arith, length-take maxServers (drop prioritiesAt b)))
+
+-- an event 0 that is answered 0 did what set-up does with its settings
+pub set-up-accepted : (b : List ℕ) (room : ℕ) → setUpBy b room .answer ≡ done → setUpBy b room ≡ setUp (settingsOf b) room
+unfolding setUpBy
+set-up-accepted b room e = go (ltb (length b - prioritiesAt) (settingsOf b .servers)) e
+  where
+    go : (x : Bool) → cond x refusedSetUp (setUp (settingsOf b) room) .answer ≡ done
+        → cond x refusedSetUp (setUp (settingsOf b) room) ≡ setUp (settingsOf b) room
+    go true e = absurd (omega (arith, e))
+    go false e = refl
 
 -- ---- the call by the kind
 

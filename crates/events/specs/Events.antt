@@ -1,23 +1,30 @@
 -- The events of a tape: its settings, its table, and the call that an event makes (01, "Replay tape").
-use Prim.Native.Nat.{ℕ, _+_}
+use Prim.Native.Nat.{ℕ, _+_, _-_}
 use mathlib.Core.Path.{_≡_}
 use mathlib.Core.Bool.{cond, not}
-use mathlib.Core.List.{List, [], _∷_, map}
-use lib.Dec.{eqb}
-use lib.ListN.{drop}
+use mathlib.Core.List.{List, [], _∷_}
+use lib.Dec.{eqb, ltb}
+use lib.ListN.{length, drop, replicate}
+use lib.Seq.{sets}
 use Rattle.octets.specs.Answers.{_when_, judge, unsoundTable}
 use Rattle.octets.specs.Numbers.{uintAt}
-use Rattle.exporter.specs.Steps.{isSessions, Outcome, wroteOf, outputAfter}
+use Rattle.exporter.specs.Steps.{isSessions, refusedSetUp, setUp, Outcome, wroteOf, outputAfter}
 use Rattle.exporter.specs.InOctets.{Event, Put, NextData, Receive, OfferTemplates, LineDown, Tick, eventStep, storeLeft}
+use Rattle.session.specs.Limits.{maxServers}
 use Rattle.session.specs.declared.state.Settings.{Settings}
+use Rattle.session.specs.declared.state.Made.{Made}
 use Rattle.session.specs.declared.state.State.{State}
 use Rattle.session.specs.declared.state.Wrote.{Wrote}
-use Rattle.contents.specs.Tape.{templateIdOctets, putKind, messageKind, downKind, tickKind, nextKind}
+use Rattle.contents.specs.Tape.{octetsAt, prioritiesAt, templateIdOctets, putKind, messageKind, downKind, tickKind, nextKind}
 
 -- ---- the first two events
 
+-- The priorities in the body of event 0, one for each server that there can be; those that it does not have are 0.
+abbrev pub prioritiesOf : List ℕ → List ℕ
+prioritiesOf b = sets (replicate maxServers 0) 0 (octetsAt b prioritiesAt maxServers)
+
 -- The settings in the body of event 0: session, configuration, servers, threshold, duration, the length of the store (`storeLength`), the
--- first DSN, boot time and 8 priorities.
+-- first DSN, boot time and the priorities.
 unfoldable pub settingsOf : List ℕ → Settings
 settingsOf b =
     record {
@@ -28,12 +35,17 @@ settingsOf b =
       duration = uintAt b 4 2;
       initial = uintAt b 8 4;
       boot = uintAt b 12 4;
-      priorities = map (λ k. uintAt b (16 + k) 1) (0 ∷ 1 ∷ 2 ∷ 3 ∷ 4 ∷ 5 ∷ 6 ∷ 7 ∷ []);
+      priorities = prioritiesOf b;
     }
 
 -- The length of the store; the body holds it minus 1.
 abbrev pub storeLength : List ℕ → ℕ
 storeLength b = uintAt b 6 2 + 1
+
+-- Event 0 sets an exporter up, over a store of a length. Where it names more servers than it has priorities it is refused with 20, as are
+-- more than 8 in the form of 24 octets (02, ask 7).
+unfoldable pub setUpBy : List ℕ → ℕ → Made
+setUpBy b room = cond (ltb (length b - prioritiesAt) (settingsOf b .servers)) refusedSetUp (setUp (settingsOf b) room)
 
 -- Event 1 is judged as a put judges the table that it is lent.
 abbrev pub tableAnswer : Settings → List ℕ → ℕ

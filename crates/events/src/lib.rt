@@ -1,31 +1,38 @@
 // The events of a tape: its settings, the answer to its table, and the call that an event makes of an exporter. `tape` takes them in turn.
 // Every function answers any octets.
 ghost use mathlib.Core.Path.{_≡_};
-ghost use lib.ListN.{drop};
+ghost use lib.ListN.{length, drop};
 ghost use Rattle.contents.specs.Tape.{bodyOf, templateIdOctets};
-ghost use Rattle.events.specs.Events.{settingsOf, storeLength, tableAnswer, eventCall, Called};
+ghost use Rattle.events.specs.Events.{prioritiesOf, settingsOf, setUpBy, storeLength, tableAnswer, eventCall, Called};
 use contents::Kind;
+use contents::PRIORITIES_AT;
 use contents::TEMPLATE_ID_OCTETS;
+use exporter::limits::SERVER_ENTRIES;
+use exporter::state::Made;
 use exporter::state::Settings;
 use exporter::state::State;
 use exporter::state::Stepped;
 use exporter::state::Wrote;
 use octets::Answer;
 
+// The priorities in the body of event 0, 0 for those that it does not have.
+fn priorities_of(b: &[u8]) -> [u8; SERVER_ENTRIES]
+    ensures { λ r. ⌜ r ≡ prioritiesOf (now (b .entry)) ⌝ }
+{
+    let mut priorities = [0u8; SERVER_ENTRIES];
+    octets::copy(
+        &mut priorities[..],
+        0,
+        contents::part(b, PRIORITIES_AT, SERVER_ENTRIES),
+    );
+    priorities
+}
+
 // The settings in the body of event 0.
 pub fn settings_of(b: &[u8]) -> Settings
     ensures { λ r. ⌜ r ≡ settingsOf (now (b .entry)) ⌝ }
 {
-    let priorities = [
-        octets::get_u8(b, 16),
-        octets::get_u8(b, 17),
-        octets::get_u8(b, 18),
-        octets::get_u8(b, 19),
-        octets::get_u8(b, 20),
-        octets::get_u8(b, 21),
-        octets::get_u8(b, 22),
-        octets::get_u8(b, 23),
-    ];
+    let priorities = priorities_of(b);
     Settings {
         session: octets::get_u8(b, 0),
         config: octets::get_u8(b, 1),
@@ -36,6 +43,17 @@ pub fn settings_of(b: &[u8]) -> Settings
         threshold: octets::get_u8(b, 3),
         duration: octets::get_u16(b, 4),
     }
+}
+
+// Sets an exporter up by the settings in the body of event 0. Refused with 20 also where they name more servers than they have priorities.
+pub fn set_up(b: &[u8], store: &[u8]) -> Made
+    ensures { λ r. ⌜ r ≡ setUpBy (now (b .entry)) (length (now (store .entry))) ⌝ }
+{
+    let settings = settings_of(b);
+    if octets::saturating_sub(b.len(), PRIORITIES_AT) < settings.servers as usize {
+        return exporter::set_up::refused_set_up();
+    }
+    exporter::set_up::set_up(settings, store)
 }
 
 // The length of the store that a tape's settings name.

@@ -10,6 +10,7 @@ ghost use Rattle.queue.specs.Rings.{recordStart};
 pub mod ring;
 
 use session::limits::MAX_HELD;
+use session::limits::MAX_SERVERS;
 
 // How many of n entries an array of the queue has.
 fn entries_of(n: usize) -> usize
@@ -49,14 +50,11 @@ pub fn record_start(capacity: usize, start: usize, lengths: &[u16; MAX_HELD], i:
     ring::wrapped(behind - rest, capacity)
 }
 
-// How many servers the bits of a set can name.
-const SET_BITS: u8 = 16;
-
-// Whether a server is in a set.
+// Whether a server is in a set, which has a bit for each server that there can be.
 pub fn has_server(set: u16, v: u8) -> bool
     ensures { λ r. ⌜ r ≡ has set v ⌝ }
 {
-    if v < SET_BITS {
+    if v < MAX_SERVERS {
         return (set >> v) % 2 == 1;
     }
     false

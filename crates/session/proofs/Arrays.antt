@@ -15,6 +15,7 @@ use lib.ListN.{length, getD, set, take, drop, replicate, length-drop, length-rep
 use lib.Seq.{take-suc, take-all, drop-at, getD-drop}
 use Rattle.octets.specs.Each.{every}
 use Rattle.octets.proofs.Each.{every-at}
+use Rattle.session.specs.Limits.{maxServers}
 use Rattle.session.specs.Queue.{sumOf, has, hasOther, shifted}
 
 -- ---- sums
@@ -39,16 +40,16 @@ sum-more xs i h = rw (add-one, take-suc xs i 0) (sum-append (take i xs) (getD xs
 
 -- ---- sets of servers
 
--- a set of 16 bits has no server from 16 on
-pub has-none : (m v : ℕ) → m < 65536 → 16 ≤ v → false ≡ has m v
+-- a set of w bits has no server from w on
+pub has-none : (w m v : ℕ) → m < 2 ^ w → w ≤ v → false ≡ has m v
 unfolding has
-has-none m v h l =
+has-none w m v h l =
     let b : m < 2 ^ v = lt-of-lt-of-le h (pow-le-pow-right {n = 2} (zero-lt-suc 1) l) in
     rw (div-eq-of-lt b)
 
--- a bit of 16 that is shifted from the first
-pub one-shifted : (v : ℕ) → v < 16 → 1 * 2 ^ v % 65536 ≡ 2 ^ v
-one-shifted v h = ap (λ (x : ℕ). x % 65536) (one-mul (2 ^ v)) ∙ mod-eq-of-lt {m = 65536} (pow-lt {j = 16} h)
+-- a bit of w that is shifted from the first
+pub one-shifted : (w v : ℕ) → v < w → 1 * 2 ^ v % 2 ^ w ≡ 2 ^ v
+one-shifted w v h = ap (λ (x : ℕ). x % 2 ^ w) (one-mul (2 ^ v)) ∙ mod-eq-of-lt {m = 2 ^ w} (pow-lt {j = w} h)
 
 -- one more server
 pub other-more : (n v m : ℕ) → hasOther (n + 1) v m ≡ (not (eqb n v) && has m n) || hasOther n v m
@@ -120,7 +121,7 @@ has-both a b v =
     ap (λ (n : ℕ). eqb n 1) (ap (λ (n : ℕ). n % 2) (and-shr a b v) ∙ and-mod (a / 2 ^ v) (b / 2 ^ v) 1)
     ∙ both-bits (a / 2 ^ v % 2) (b / 2 ^ v % 2) (mod-lt (a / 2 ^ v) {m = 2} (omega arith)) (mod-lt (b / 2 ^ v) {m = 2} (omega arith))
 
--- all 16 are in the largest set
-pub has-all : (v : ℕ) → v < 16 → has 65535 v ≡ true
+-- all servers that there can be are in the largest set
+pub has-all : (v : ℕ) → v < maxServers → has (2 ^ maxServers - 1) v ≡ true
 unfolding has every
-has-all v l = every-at 16 (λ u. has 65535 u) refl v l
+has-all v l = every-at maxServers (λ u. has (2 ^ maxServers - 1) u) refl v l

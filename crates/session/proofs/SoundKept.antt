@@ -22,7 +22,7 @@ use Rattle.wire.specs.Replies.{Encoding}
 use Rattle.session.specs.Servers.{isNobody, chosen, changed, settle, withServers, withCounts, transition, sentOne, acknowledged}
 use Rattle.session.specs.Servers.{lateServers, anotherAgreed, expired, tickedFor, ticked}
 use Rattle.session.specs.Queue.{sumOf, octetsTo, heldOctets, has, with, markedSet, pushed, dropFront, marked}
-use Rattle.session.specs.Limits.{maxHeld}
+use Rattle.session.specs.Limits.{maxServers, maxHeld}
 use Rattle.session.specs.Sound.{settingsSound, sound}
 use Rattle.session.specs.Steps.{Call, put, nextData, tick, ack, move, ackCount, checks, soundFor, answer, withDelivery, after}
 use Rattle.session.specs.Steps.{settled, step, fresh, refusedState, setUp}
@@ -74,7 +74,7 @@ fresh-sound p capacity e =
     facts-sound (fresh p capacity)
     (unsent-facts (fresh p capacity) (record { sent = refl; reached = refl; timer = refl }) f (omega arith) (omega (arith, f .someRoom))
     (λ i l. let no : ⊥ = omega arith in absurd no) (λ i l. let no : ⊥ = omega arith in absurd no) (omega arith)
-    (sym (all-closed (p .priorities) 8 (p .servers))))
+    (sym (all-closed (p .priorities) maxServers (p .servers))))
 
 -- an accepted set-up gives a sound state
 pub set-up-sound : (p : Settings) (capacity : ℕ) → setUp p capacity .answer ≡ 0 → sound (setUp p capacity .state) ≡ true

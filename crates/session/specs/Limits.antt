@@ -3,7 +3,7 @@ use Prim.Native.Nat.{ℕ}
 
 -- The most servers.
 abbrev pub maxServers : ℕ
-maxServers = 8
+maxServers = 16
 
 -- The greatest threshold.
 abbrev pub maxThreshold : ℕ

@@ -67,12 +67,12 @@ numbersWhere test (suc n) = numbersWhere test n ++ cond (test n) (n ∷ []) []
 
 -- ---- set-up
 
--- 20 outside the limits, and 0 at them: 1 to 8 servers, a threshold of 1 to 64, a duration of 1 to 65,535, a store of 1,024 to 65,536.
+-- 20 outside the limits, and 0 at them: 1 to 16 servers, a threshold of 1 to 64, a duration of 1 to 65,535, a store of 1,024 to 65,536.
 abbrev pub SetUpLimits : Type 0
 SetUpLimits =
     let judged : ℕ → ℕ → ℕ → ℕ → ℕ = λ servers threshold duration store.
     setUp (settingsWith servers (replicate maxServers 255) threshold duration) store .answer in
-    (map (λ n. judged n 1 1 1024) (0 ∷ 1 ∷ 8 ∷ 9 ∷ []) ≡ 20 ∷ 0 ∷ 0 ∷ 20 ∷ [])
+    (map (λ n. judged n 1 1 1024) (0 ∷ 1 ∷ 16 ∷ 17 ∷ []) ≡ 20 ∷ 0 ∷ 0 ∷ 20 ∷ [])
     × ((map (λ n. judged 1 n 1 1024) (0 ∷ 1 ∷ 64 ∷ 65 ∷ []) ≡ 20 ∷ 0 ∷ 0 ∷ 20 ∷ [])
     × ((map (λ n. judged 1 1 n 1024) (0 ∷ 1 ∷ 65535 ∷ []) ≡ 20 ∷ 0 ∷ 0 ∷ [])
     × (map (λ n. judged 1 1 1 n) (1023 ∷ 1024 ∷ 65536 ∷ 65537 ∷ []) ≡ 20 ∷ 0 ∷ 0 ∷ 20 ∷ [])))

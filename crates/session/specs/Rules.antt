@@ -4,7 +4,7 @@ use mathlib.Core.Path.{_≡_}
 use mathlib.Core.Logic.{_≢_}
 use mathlib.Core.Bool.{Bool, true, not, _||_, cond}
 use mathlib.Core.List.{List, [], _∷_, _++_, map}
-use Prim.Native.Nat.{ℕ, _*_}
+use Prim.Native.Nat.{ℕ, _*_, _-_, _^_}
 use lib.Dec.{eqb}
 use lib.ListN.{getD, set, replicate}
 use Rattle.octets.specs.Answers.{done, outOfTurn}
@@ -95,7 +95,7 @@ rules =
 abbrev pub ranOut : List Phase
 ranOut = Agreed ∷ Agreed ∷ Agreed ∷ Late ∷ Agreed ∷ []
 
--- ---- what it is claimed of: two servers v and u among eight, the others closed
+-- ---- what it is claimed of: two servers v and u among as many as there can be, the others closed
 
 -- The servers, v in phase `own` and u in phase `other`.
 abbrev pub both : ℕ → ℕ → Phase → Phase → List serverOf.Server
@@ -112,7 +112,7 @@ pair v u own other timer =
     let sent : ℕ = cond (isAgreed own || isAgreed other) 1 0 in
     exporterOf (settingsOf maxServers (set (replicate maxServers 0) v 1))
     (record { servers = both v u own other; active = activeOf v u own other; sent = sent; reached = sent; timer = sent * timer })
-    1 (replicate maxHeld 2) 255 1
+    1 (replicate maxHeld 2) (2 ^ maxServers - 1) 1
 
 -- An answer, what is left of the delivery, whether S is due, and the octets written.
 pub record Result : Type 0 where
@@ -226,11 +226,15 @@ FreshHolds = (p : Settings) (octets : ℕ) → setUp p octets .answer ≡ done �
 
 -- ---- all of it
 
+-- The last server, where there are as many as there can be.
+abbrev pub lastServer : ℕ
+lastServer = maxServers - 1
+
 -- The whole table holds of the steps, where v is the first server and u the last and where it is the other way round.
 pub record ServerRules : Type 0 where
-  pub first : AllRulesHold 0 7 rules
-  pub last : AllRulesHold 7 0 rules
-  pub firstRanOut : RanOutHolds 0 7
-  pub lastRanOut : RanOutHolds 7 0
+  pub first : AllRulesHold 0 lastServer rules
+  pub last : AllRulesHold lastServer 0 rules
+  pub firstRanOut : RanOutHolds 0 lastServer
+  pub lastRanOut : RanOutHolds lastServer 0
   pub others : OthersHold
   pub fresh : FreshHolds

@@ -17,8 +17,8 @@ use Rattle.session.specs.declared.state.State.{State}
 
 -- ---- settings
 
--- 1 to 8 servers, a threshold of 1 to 64, a duration of 1 or more, a store of 1,024 to 65,536 octets. A duration has 16 bits and a
--- priority 8, so neither needs an upper test.
+-- 1 to 16 servers (02, ask 7), a threshold of 1 to 64, a duration of 1 or more, a store of 1,024 to 65,536 octets. A duration has 16 bits
+-- and a priority 8, so neither needs an upper test.
 unfoldable pub settingsSound : Settings → ℕ → Bool
 settingsSound p room =
     leb 1 (p .servers)

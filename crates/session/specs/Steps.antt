@@ -387,9 +387,13 @@ noSettings =
 abbrev pub refusedState : State
 refusedState = fresh noSettings 0
 
+-- What set-up answers where it refuses.
+abbrev pub refusedSetUp : Made
+refusedSetUp = record { answer = settingsOutsideLimits; state = refusedState }
+
 -- Set-up with a store of a length is judged 20.
 unfoldable pub setUp : Settings → ℕ → Made
 setUp p capacity =
     cond (settingsSound p capacity)
     (record { answer = done; state = fresh p capacity })
-    (record { answer = settingsOutsideLimits; state = refusedState })
+    refusedSetUp

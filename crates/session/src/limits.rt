@@ -2,10 +2,13 @@
 // is proved to test against that.
 
 // The most servers.
-pub const MAX_SERVERS: u8 = 8;
+pub const MAX_SERVERS: u8 = 16;
 
 // How many entries an array has that holds one for each server.
 pub const SERVER_ENTRIES: usize = MAX_SERVERS as usize;
+
+// The set of all servers that there can be; a set has a bit for each of them.
+pub const ALL_SERVERS: u16 = ((1u32 << MAX_SERVERS) - 1) as u16;
 
 // The most records that are held at a time.
 pub const MAX_HELD: usize = 64;

@@ -32,7 +32,7 @@ pub struct Settings {
     pub boot: u32,
     // the DSN of the first record
     pub initial: u32,
-    // how many servers there are, 1 to 8; a server's number is below it
+    // how many servers there are, 1 to 16; a server's number is below it
     pub servers: u8,
     // the priority of each server, the greatest number preferred; entries from `servers` on count in no choice
     pub priorities: [u8; limits::SERVER_ENTRIES],

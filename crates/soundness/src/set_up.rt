@@ -1,7 +1,7 @@
 // Set-up: a fresh exporter.
 ghost use mathlib.Core.Path.{_≡_};
 ghost use lib.ListN.{length};
-ghost use Rattle.session.specs.Steps.{fresh, noSettings, setUp};
+ghost use Rattle.session.specs.Steps.{fresh, noSettings, refusedSetUp, setUp};
 use octets::Answer;
 use session::limits::MAX_HELD;
 use session::limits::SERVER_ENTRIES;
@@ -65,6 +65,17 @@ fn no_settings() -> Settings
     }
 }
 
+// What set-up answers to settings or a store outside the limits: 20, and a state that every call refuses.
+pub fn refused_set_up() -> Made
+    ensures { λ r. ⌜ r ≡ refusedSetUp ⌝ }
+{
+    let state = fresh_state(no_settings(), 0);
+    Made {
+        answer: Answer::SETTINGS_OUTSIDE_LIMITS,
+        state,
+    }
+}
+
 // Makes an exporter over a store, whose length it keeps. Refused with 20 for a store or a setting outside the limits, and then with a state
 // that every call refuses.
 pub fn set_up(p: Settings, store: &[u8]) -> Made
@@ -78,9 +89,5 @@ pub fn set_up(p: Settings, store: &[u8]) -> Made
             state,
         };
     }
-    let state = fresh_state(no_settings(), 0);
-    Made {
-        answer: Answer::SETTINGS_OUTSIDE_LIMITS,
-        state,
-    }
+    refused_set_up()
 }

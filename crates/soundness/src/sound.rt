@@ -9,6 +9,7 @@ ghost use Rattle.session.specs.Limits.{maxServers, maxHeld};
 ghost use Rattle.soundness.specs.Parts.{Below, stateOf};
 ghost use Rattle.session.specs.Queue.{has};
 ghost use Rattle.session.specs.Sound.{settingsSound, numbersSound, entrySound, activationSound, sound};
+use session::limits::ALL_SERVERS;
 use session::limits::MAX_HELD;
 use session::limits::MAX_SERVERS;
 use session::limits::MAX_STORE_OCTETS;
@@ -44,6 +45,13 @@ fn numbers_sound(p: Settings, room: usize, d: Delivery, count: usize, start: usi
         & (d.timer < p.duration)
 }
 
+// A set of servers as a wider number, so that it can be compared with a bound of one bit more than it has.
+fn wide(set: u16) -> u32
+    ensures { λ r. ⌜ r ≡ set ⌝ }
+{
+    set as u32
+}
+
 // Whether each of n records has at most 1,024 octets and was sent to existing servers only.
 fn entries_sound<'a>(
     lengths: &'a [u16; MAX_HELD],
@@ -55,11 +63,11 @@ fn entries_sound<'a>(
     ensures { λ r. ⌜ r ≡ every n (entrySound servers (now (lengths .entry)) (now (receivers .entry))) ⌝ }
 {
     let most = MAX_RECORD_OCTETS as u16;
-    let bound = 1u16 << servers;
+    let bound = 1u32 << servers;
     let mut ok = true;
     let mut i: usize = 0;
     while i < n {
-        ok = ok & ((lengths[i] <= most) & (receivers[i] < bound));
+        ok = ok & ((lengths[i] <= most) & (wide(receivers[i]) < bound));
         i += 1;
     }
     ok
@@ -67,10 +75,10 @@ fn entries_sound<'a>(
 
 // Whether each of the first n records was sent to a server: it is in what their sets have in common.
 fn all_received(receivers: &[u16; MAX_HELD], n: usize, v: u8) -> bool
-    requires { ⌜ (n ≤ maxHeld) × (v < 16) ⌝ }
+    requires { ⌜ (n ≤ maxHeld) × (v < maxServers) ⌝ }
     ensures { λ r. ⌜ r ≡ every n (λ i. has (getD (now (receivers .entry)) i 0) v) ⌝ }
 {
-    let mut common: u16 = 65535;
+    let mut common = ALL_SERVERS;
     let mut i: usize = 0;
     while i < n {
         common = common & receivers[i];

@@ -24,11 +24,11 @@ use Rattle.contents.specs.Tape.{eventCount, kindAt, serverAt, bodyLength, bodyA
 use Rattle.contents.specs.Tape.{maxEvents, tapeSound}
 use Rattle.lines.specs.Lines.{lineOf}
 use Rattle.tape.specs.Replay.{outputBuffer, callsFrom, linesOf, ifDone, tapeSettings, tapeStore, tapeCalls, replay}
-use Rattle.events.specs.Events.{tableAnswer, eventCall, settingsOf}
+use Rattle.events.specs.Events.{setUpBy, tableAnswer, eventCall, settingsOf}
 use Rattle.tape.specs.Turns.{Played, opened, played, turnsFrom, turns, TurnByTurn, CallsClaimed}
 use Rattle.tape.specs.declared.replay.Progress.{Progress}
 use Rattle.contents.proofs.Parts.{octets-part}
-use Rattle.events.proofs.Events.{by-kind}
+use Rattle.events.proofs.Events.{set-up-accepted, by-kind}
 
 -- ---- the bodies of a sound tape lie within it
 
@@ -164,7 +164,7 @@ unfolding opened replay begin
 turn-by-turn t = sound? (tapeSound t) refl
   where
     made : ℕ
-    made = setUp (tapeSettings t) (length (tapeStore t)) .answer
+    made = setUpBy (bodyOf t 0) (length (tapeStore t)) .answer
 
     accepted? : tapeSound t ≡ true → (b : Bool) → eqb made done ≡ b → turns t (tapeStore t) ≡ replay t
     accepted? e false g = rw (none-left t (eventCount t) (opened t (tapeStore t)) (rw (e, g) refl), e, g) refl
@@ -176,7 +176,7 @@ turn-by-turn t = sound? (tapeSound t) refl
         let q =
         table-turns t f m (eventCount t - 1) (omega (arith, f .some)) (omega arith) (opened t (tapeStore t))
         (freshOver (tapeSettings t) (tapeStore t))
-        (rw (e, g, more) refl) refl in
+        (rw (e, g, more, set-up-accepted (bodyOf t 0) (length (tapeStore t)) (eqb-true made done g)) refl) refl in
         rw (rw all at q, e, g) refl
 
     sound? : (b : Bool) → tapeSound t ≡ b → turns t (tapeStore t) ≡ replay t

@@ -11,7 +11,7 @@ use lib.Dec.{eqb}
 use lib.ListN.{length, take, length-take}
 use lib.Seq.{sets, sets-eq, take-append-seam}
 use Rattle.octets.specs.Answers.{done}
-use Rattle.session.specs.Steps.{Outcome, octetsWritten, wroteOf, outputAfter, setUp}
+use Rattle.session.specs.Steps.{Outcome, octetsWritten, wroteOf, outputAfter}
 use Rattle.session.proofs.Written.{octets-fit}
 use Rattle.session.specs.InOctets.{Event, Put, NextData, Receive, OfferTemplates, LineDown, Tick, roomOf}
 use Rattle.session.specs.declared.state.State.{State}
@@ -20,7 +20,7 @@ use Rattle.session.specs.declared.state.Wrote.{Wrote}
 use Rattle.contents.specs.Tape.{eventCount, kindAt, serverAt, bodyLength, bodyAt, octetsAt, bodyOf, tapeSound}
 use Rattle.lines.specs.Lines.{lineOf, tapeRefused, lineOctets}
 use Rattle.tape.specs.Replay.{outputBufferOctets, outputBuffer, tapeSettings}
-use Rattle.events.specs.Events.{tableAnswer, eventCall}
+use Rattle.events.specs.Events.{setUpBy, tableAnswer, eventCall}
 use Rattle.tape.specs.Turns.{opened, indexOf, nextBody, nextEnd, tableTurn, nextCall, callTurn, played, CallReady, turnOf, Lined}
 use Rattle.tape.specs.Turns.{Turned}
 use Rattle.events.specs.Events.{effect, Gives, Called}
@@ -68,7 +68,7 @@ call-wrote o w out outAfter h e f = rw (e, f) (take-sets out (octetsWritten o) h
 -- ---- turns
 
 pub open-turn : (t store : List ℕ) (made : Made) (at left : ℕ) (line text : List ℕ) (len : ℕ) (textAfter : List ℕ)
-    → made ≡ setUp (tapeSettings t) (length store) → at ≡ bodyAt t 1
+    → made ≡ setUpBy (bodyOf t 0) (length store) → at ≡ bodyAt t 1
     → line ≡ cond (tapeSound t) (lineOf 0 (made .answer) []) tapeRefused
     → left ≡ cond (tapeSound t && eqb (made .answer) done) (eventCount t - 1) 0
     → len ≡ length line → textAfter ≡ sets text 0 line

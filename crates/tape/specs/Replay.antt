@@ -5,12 +5,12 @@ use mathlib.Core.List.{List, [], _∷_}
 use lib.Dec.{eqb}
 use lib.ListN.{length, replicate}
 use Rattle.octets.specs.Answers.{done}
-use Rattle.exporter.specs.Steps.{octetsWritten, setUp}
+use Rattle.exporter.specs.Steps.{octetsWritten}
 use Rattle.exporter.specs.Claim.{Exporter}
 use Rattle.exporter.specs.InOctets.{Event, eventStep, afterEvent, freshOver}
 use Rattle.session.specs.declared.state.Settings.{Settings}
 use Rattle.contents.specs.Tape.{eventCount, kindAt, serverAt, bodyOf, tapeSound}
-use Rattle.events.specs.Events.{settingsOf, storeLength, tableAnswer, eventCall}
+use Rattle.events.specs.Events.{settingsOf, setUpBy, storeLength, tableAnswer, eventCall}
 use Rattle.lines.specs.Lines.{lineOf, tapeRefused}
 
 -- ---- the session
@@ -56,7 +56,7 @@ ifDone answer lines = cond (eqb answer done) lines []
 -- The lines of a sound tape: the settings', the table's, then those of the calls, made of a fresh exporter.
 abbrev pub eventLines : List ℕ → List (List ℕ)
 eventLines t =
-    let first = setUp (tapeSettings t) (length (tapeStore t)) .answer in
+    let first = setUpBy (bodyOf t 0) (length (tapeStore t)) .answer in
     let second = tableAnswer (tapeSettings t) (bodyOf t 1) in
     lineOf 0 first [] ∷ ifDone first
     (lineOf 1 second [] ∷ ifDone second

@@ -15,7 +15,7 @@ use Rattle.exporter.specs.InOctets.{Event, ClaimInOctets}
 use Rattle.session.specs.declared.state.State.{State}
 use Rattle.contents.specs.Tape.{eventCount, kindAt, serverAt, bodyLength, bodyAt, bodyOf, octetsAt, tapeSound}
 use Rattle.lines.specs.Lines.{lineOf, tapeRefused, lineOctets}
-use Rattle.events.specs.Events.{tableAnswer, eventCall, effect, effectStore}
+use Rattle.events.specs.Events.{setUpBy, tableAnswer, eventCall, effect, effectStore}
 use Rattle.tape.specs.Replay.{outputBufferOctets, outputBuffer, tapeSettings, tapeStore, tapeCalls, replay}
 use Rattle.tape.specs.declared.replay.Progress.{Progress}
 use Rattle.tape.specs.declared.replay.Turn.{Turn}
@@ -31,7 +31,7 @@ pub record Played : Type 0 where
 -- 20 by the store's own length. After a refusal no event is left, and the state counts for nothing.
 unfoldable pub opened : List ℕ → List ℕ → Played
 opened t store =
-    let made = setUp (tapeSettings t) (length store) in
+    let made = setUpBy (bodyOf t 0) (length store) in
     record {
       line = cond (tapeSound t) (lineOf 0 (made .answer) []) tapeRefused;
       written = [];
@@ -150,7 +150,7 @@ turns t store = opened t store .line ∷ turnsFrom t (eventCount t) (opened t st
 abbrev pub TurnByTurn : Type 0
 TurnByTurn = (t : List ℕ) → turns t (tapeStore t) ≡ replay t
 
--- Of any octets whose settings would be answered 0, the calls are a list of calls from a fresh exporter, and the exporter's claim (demand
+-- Of any octets whose settings set-up accepts, the calls are a list of calls from a fresh exporter, and the exporter's claim (demand
 -- 3) holds of it, whatever the table is.
 abbrev pub CallsClaimed : Type 0
 CallsClaimed =

@@ -34,8 +34,7 @@ pub fn open_tape(tape: &[u8], store: &[u8], text: &mut [u8; LINE_OCTETS]) -> Tur
     ensures { λ r. ⌜ (r ≡ turnOf (opened (now (tape .entry)) (now (store .entry))))
         × (now (text .exit) ≡ sets (now (text .entry)) 0 (opened (now (tape .entry)) (now (store .entry)) .line)) ⌝ }
 {
-    let settings = events::settings_of(contents::body(tape, 0));
-    let made = exporter::set_up::set_up(settings, store);
+    let made = events::set_up(contents::body(tape, 0), store);
     let state = made.state;
     let at = contents::body_at(tape, 1);
     let part = &mut text[..];

@@ -5,35 +5,14 @@ use borrow.Author.Needs.{needs}
 use Rattle.events.proofs.settings_of.Statement.{statement}
 use Rattle.events.proofs.settings_of.Tie as tie
 
+priorities-of-requires : tie.Need-priorities-of-requires
+priorities-of-requires c κs = search needs
+
 get-u8-requires : tie.Need-get-u8-requires
 get-u8-requires c κs = search needs
 
 get-u8-requires-2 : tie.Need-get-u8-requires-2
 get-u8-requires-2 c κs = search needs
-
-get-u8-requires-3 : tie.Need-get-u8-requires-3
-get-u8-requires-3 c κs = search needs
-
-get-u8-requires-4 : tie.Need-get-u8-requires-4
-get-u8-requires-4 c κs = search needs
-
-get-u8-requires-5 : tie.Need-get-u8-requires-5
-get-u8-requires-5 c κs = search needs
-
-get-u8-requires-6 : tie.Need-get-u8-requires-6
-get-u8-requires-6 c κs = search needs
-
-get-u8-requires-7 : tie.Need-get-u8-requires-7
-get-u8-requires-7 c κs = search needs
-
-get-u8-requires-8 : tie.Need-get-u8-requires-8
-get-u8-requires-8 c κs = search needs
-
-get-u8-requires-9 : tie.Need-get-u8-requires-9
-get-u8-requires-9 c κs = search needs
-
-get-u8-requires-10 : tie.Need-get-u8-requires-10
-get-u8-requires-10 c κs = search needs
 
 get-u32-requires : tie.Need-get-u32-requires
 get-u32-requires c κs = search needs
@@ -41,11 +20,11 @@ get-u32-requires c κs = search needs
 get-u32-requires-2 : tie.Need-get-u32-requires-2
 get-u32-requires-2 c κs = search needs
 
-get-u8-requires-11 : tie.Need-get-u8-requires-11
-get-u8-requires-11 c κs = search needs
+get-u8-requires-3 : tie.Need-get-u8-requires-3
+get-u8-requires-3 c κs = search needs
 
-get-u8-requires-12 : tie.Need-get-u8-requires-12
-get-u8-requires-12 c κs = search needs
+get-u8-requires-4 : tie.Need-get-u8-requires-4
+get-u8-requires-4 c κs = search needs
 
 get-u16-requires : tie.Need-get-u16-requires
 get-u16-requires c κs = search needs
@@ -54,20 +33,13 @@ returns : tie.Need-returns
 unfolding settingsOf
 returns c =
     rw (
-      c .before .before .before .before .before .before .before .before .before .before .before .before .before .before .get-u8 .ensures,
-      c .before .before .before .before .before .before .before .before .before .before .before .before .before .get-u82 .ensures,
-      c .before .before .before .before .before .before .before .before .before .before .before .before .get-u83 .ensures,
-      c .before .before .before .before .before .before .before .before .before .before .before .get-u84 .ensures,
-      c .before .before .before .before .before .before .before .before .before .before .get-u85 .ensures,
-      c .before .before .before .before .before .before .before .before .before .get-u86 .ensures,
-      c .before .before .before .before .before .before .before .before .get-u87 .ensures,
-      c .before .before .before .before .before .before .before .get-u88 .ensures,
-      c .before .before .before .before .before .before .get-u89 .ensures,
-      c .before .before .before .before .before .get-u810 .ensures,
+      c .before .before .before .before .before .before .before .priorities-of .ensures,
+      c .before .before .before .before .before .before .get-u8 .ensures,
+      c .before .before .before .before .before .get-u82 .ensures,
       c .before .before .before .before .get-u32 .ensures,
       c .before .before .before .get-u322 .ensures,
-      c .before .before .get-u811 .ensures,
-      c .before .get-u812 .ensures,
+      c .before .before .get-u83 .ensures,
+      c .before .get-u84 .ensures,
       c .get-u16 .ensures,
     )
     refl
@@ -76,19 +48,12 @@ pub settings-of-spec : {M : Type 1} → statement M
 settings-of-spec =
     tie.close
     (tie.spec
+    priorities-of-requires
     get-u8-requires
     get-u8-requires-2
-    get-u8-requires-3
-    get-u8-requires-4
-    get-u8-requires-5
-    get-u8-requires-6
-    get-u8-requires-7
-    get-u8-requires-8
-    get-u8-requires-9
-    get-u8-requires-10
     get-u32-requires
     get-u32-requires-2
-    get-u8-requires-11
-    get-u8-requires-12
+    get-u8-requires-3
+    get-u8-requires-4
     get-u16-requires
     returns)

@@ -5,6 +5,7 @@ use mathlib.Core.List.{_++_, map}
 use Prim.Native.Nat.{_≤_, _-_}
 use native.Mathlib.Omega.{arith}
 use lib.ListN.{take, drop, length}
+use Rattle.session.specs.Limits.{maxServers}
 use Rattle.session.specs.Servers.{restart, server}
 use Rattle.session.specs.declared.state.Phase.the-variants.{Closed}
 use Rattle.session.proofs.Arrays.{map-suc, map-all}
@@ -39,7 +40,7 @@ loop-less c = search needs
 loop-again : tie.Need-loop-again Inv-loop μ-loop
 loop-again c =
     let xs = c .before .before .before .before .args .t1 in
-    let l : length xs ≡ 8 = search needs in (
+    let l : length xs ≡ maxServers = search needs in (
       omega arith,
       rw (c .before .before .before .loop .inv .1, c .restart-server .ensures)
           (map-suc restart (server Closed) xs (c .before .before .before .loop .i) (omega arith)),
@@ -48,7 +49,7 @@ loop-again c =
 returns : tie.Need-returns Inv-loop μ-loop
 returns c =
     let xs = c .before .before .args .t1 in
-    let l : length xs ≡ 8 = search needs in
+    let l : length xs ≡ maxServers = search needs in
     c .before .loop .inv .1 ∙ map-all restart xs (c .before .loop .i) (omega arith)
 
 pub restart-servers-spec : {M : Type 1} → statement M

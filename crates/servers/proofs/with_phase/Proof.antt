@@ -1,4 +1,4 @@
--- `with_phase` meets its contract. A number below 8 stores its entry; past the end the definition's `set` changes nothing, and neither does
+-- `with_phase` meets its contract. A number below the most servers stores its entry; past the end the definition's `set` changes nothing, and neither does
 -- the code.
 use mathlib.Core.Path.{sym}
 use native.Mathlib.Omega.{arith}

@@ -1,5 +1,5 @@
--- `marked_set` meets its contract. While nobody is active the set stays; else the active server's bit is set, and its number is below 8, as
--- the call requires.
+-- `marked_set` meets its contract. While nobody is active the set stays; else the active server's bit is set, and its number is below the
+-- most servers, as the call requires.
 use mathlib.Core.Path.{subst}
 use Rattle.session.specs.Limits.{maxServers}
 use Rattle.soundness.specs.Parts.{Below}

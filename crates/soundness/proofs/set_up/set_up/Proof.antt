@@ -1,5 +1,5 @@
--- `set_up` meets its contract. The settings are judged once. Where they are in their limits the fresh state is handed back, else the one
--- that every call refuses.
+-- `set_up` meets its contract. The settings are judged once. Where they are in their limits the fresh state is handed back, else what a
+-- refused set-up answers.
 use mathlib.Core.Path.{sym, _∙_}
 use Rattle.session.specs.Steps.{setUp}
 use borrow.Author.Needs.{needs}
@@ -16,20 +16,12 @@ returns : tie.Need-returns
 unfolding setUp
 returns c = rw (sym (c .before .before .settings-sound .ensures) ∙ c .before .if1 .taken, c .fresh-state .ensures)
 
-no-settings-requires : tie.Need-no-settings-requires
-no-settings-requires c κs = search needs
-
-fresh-state-requires-2 : tie.Need-fresh-state-requires-2
-fresh-state-requires-2 c κs = search needs
+refused-set-up-requires : tie.Need-refused-set-up-requires
+refused-set-up-requires c κs = search needs
 
 returns-2 : tie.Need-returns-2
 unfolding setUp
-returns-2 c =
-    rw (
-      sym (c .before .before .before .settings-sound .ensures) ∙ c .before .before .if1 .left,
-      c .fresh-state2 .ensures,
-      c .before .no-settings .ensures,
-    )
+returns-2 c = rw (sym (c .before .before .settings-sound .ensures) ∙ c .before .if1 .left, c .refused-set-up .ensures)
 
 pub set-up-spec : {M : Type 1} → statement M
 set-up-spec =
@@ -38,6 +30,5 @@ set-up-spec =
     settings-sound-requires
     fresh-state-requires
     returns
-    no-settings-requires
-    fresh-state-requires-2
+    refused-set-up-requires
     returns-2)

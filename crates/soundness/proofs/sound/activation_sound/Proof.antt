@@ -1,5 +1,5 @@
 -- `activation_sound` meets its contract, by whether somebody is active. With nobody active the three counters are tested; else each record
--- reached was sent to the active server, whose number is below 8.
+-- reached was sent to the active server, whose number is below the most servers.
 use mathlib.Core.Path.{subst}
 use native.Mathlib.Omega.{arith}
 use Rattle.session.specs.Limits.{maxServers}

@@ -1,5 +1,5 @@
 -- `all_received` meets its contract. The loop's invariant: the server is in what the sets passed have in common where it is in each of
--- them. It is in the set that the loop starts with, which has all 16.
+-- them. It is in the set that the loop starts with, which has all.
 use mathlib.Core.Path.{_≡_, ap, _∙_}
 use mathlib.Core.Bool.{Bool, _&&_}
 use native.Mathlib.Omega.{arith}

@@ -2,7 +2,7 @@
 -- entry's test, and the bound is the power of 2 that the definition compares with.
 use mathlib.Core.Path.{_≡_, refl}
 use native.Mathlib.Omega.{arith}
-use Prim.Native.Nat.{_-_, _≤_}
+use Prim.Native.Nat.{ℕ, _-_, _≤_}
 use Rattle.octets.specs.Each.{every}
 use Rattle.session.specs.Sound.{entrySound}
 use Rattle.octets.proofs.Each.{every-more}
@@ -10,6 +10,10 @@ use Rattle.session.proofs.Arrays.{one-shifted}
 use borrow.Author.Needs.{needs}
 use Rattle.soundness.proofs.sound.entries_sound.Statement.{statement}
 use Rattle.soundness.proofs.sound.entries_sound.Tie as tie
+
+-- how many bits the bound has
+abbrev boundBits : ℕ
+boundBits = 32
 
 abbrev Inv-loop : tie.InvT-loop
 Inv-loop lengths receivers n servers most bound ok₀ i₀ ok i = (i ≤ n) × (ok ≡ every i (entrySound servers lengths receivers))
@@ -33,11 +37,14 @@ mul-ok c = search needs
 element-copy-out-ok : tie.Need-element-copy-out-ok Inv-loop μ-loop
 element-copy-out-ok c = search needs
 
-mul-ok-2 : tie.Need-mul-ok-2 Inv-loop μ-loop
-mul-ok-2 c = search needs
+mul-wide : tie.Need-mul-wide Inv-loop μ-loop
+mul-wide c = search needs
 
-element-copy-out-ok-2 : tie.Need-element-copy-out-ok-2 Inv-loop μ-loop
-element-copy-out-ok-2 c = search needs
+element-copy-out-wide : tie.Need-element-copy-out-wide Inv-loop μ-loop
+element-copy-out-wide c = search needs
+
+wide-requires : tie.Need-wide-requires Inv-loop μ-loop
+wide-requires c κs = search needs
 
 add-i : tie.Need-add-i Inv-loop μ-loop
 add-i c = search needs
@@ -47,7 +54,8 @@ loop-less c = search needs
 
 loop-again : tie.Need-loop-again Inv-loop μ-loop
 loop-again c =
-    (search needs, rw (every-more, one-shifted (c .before .before .before .before .args .servers) (omega arith)) (cc))
+    let servers = c .before .before .before .before .before .args .servers in
+    (search needs, rw (every-more, c .wide .ensures, one-shifted boundBits servers (omega arith)) (cc))
 
 returns : tie.Need-returns Inv-loop μ-loop
 returns c = let e : c .before .loop .i ≡ c .before .before .args .n = omega arith in cc
@@ -63,8 +71,9 @@ entries-sound-spec =
     loop-holds
     mul-ok
     element-copy-out-ok
-    mul-ok-2
-    element-copy-out-ok-2
+    mul-wide
+    element-copy-out-wide
+    wide-requires
     add-i
     loop-less
     loop-again

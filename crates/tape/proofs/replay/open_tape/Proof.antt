@@ -16,9 +16,6 @@ use Rattle.tape.proofs.replay.open_tape.Tie as tie
 body-requires : tie.Need-body-requires
 body-requires c κs = search needs
 
-settings-of-requires : tie.Need-settings-of-requires
-settings-of-requires c κs = search needs
-
 set-up-requires : tie.Need-set-up-requires
 set-up-requires c κs = search needs
 
@@ -33,15 +30,12 @@ write-refused-requires c κs = search needs
 
 returns : tie.Need-returns
 returns c =
-    let a = c .before .before .before .before .before .before .before .before .before .before .before .args in
+    let a = c .before .before .before .before .before .before .before .before .before .before .args in
     let u = refused-unsound (a .tape .now) _ (c .before .before .tape-answer .ensures) (c .before .if1 .taken) in
     let l = printed-whole (a .text .now) tapeRefused (length tapeRefused) _ _ (omega arith) (c .write-refused .ensures) in
     open-turn (a .tape .now) (a .store .now) _ _ _ tapeRefused _ _ _
     (c .before .before .before .before .before .before .set-up .ensures
-    ∙ rw (
-      c .before .before .before .before .before .before .before .settings-of .ensures,
-      c .before .before .before .before .before .before .before .before .body .ensures,
-    ) refl)
+    ∙ rw (c .before .before .before .before .before .before .before .body .ensures) refl)
     (c .before .before .before .before .body-at .ensures) (rw u refl) (rw u refl) (l .0) (l .1)
 
 slice-aggregate-write-line : tie.Need-slice-aggregate-write-line
@@ -63,21 +57,21 @@ returns-2 : tie.Need-returns-2
 returns-2 c =
     let j = c .before .before .before .before .before .before in
     let s = j .before .before .before .before .before in
-    let a = s .before .before .before .before .before .args in
+    let a = s .before .before .before .before .args in
     let m = s .set-up .result in
     let u = done-sound (a .tape .now) _ (j .before .tape-answer .ensures) (j .if1 .left) in
     let l =
     printed-whole (a .text .now) (lineOf 0 (m .answer) []) (lineOctets 0) _ _ (omega arith)
     (c .before .before .before .before .write-line .ensures) in
     open-turn (a .tape .now) (a .store .now) m _ _ (lineOf 0 (m .answer) []) _ _ _
-    (s .set-up .ensures ∙ rw (s .before .settings-of .ensures, s .before .before .body .ensures) refl)
+    (s .set-up .ensures ∙ rw (s .before .body .ensures) refl)
     (j .before .before .before .body-at .ensures) (rw u refl)
     (rw (u, eq-eqb _ _ (c .before .before .if2 .taken)) (c .saturating-sub .ensures ∙ rw (c .before .event-count .ensures) refl)) (l .0)
     (l .1)
 
 returns-3 : tie.Need-returns-3
 returns-3 c =
-    let a = c .before .before .before .before .before .before .before .before .before .before .before .before .before .before .args in
+    let a = c .before .before .before .before .before .before .before .before .before .before .before .before .before .args in
     let m = c .before .before .before .before .before .before .before .before .before .set-up .result in
     let u =
     done-sound (a .tape .now) _ (c .before .before .before .before .before .tape-answer .ensures)
@@ -86,10 +80,7 @@ returns-3 c =
     printed-whole (a .text .now) (lineOf 0 (m .answer) []) (lineOctets 0) _ _ (omega arith) (c .before .before .write-line .ensures) in
     open-turn (a .tape .now) (a .store .now) m _ _ (lineOf 0 (m .answer) []) _ _ _
     (c .before .before .before .before .before .before .before .before .before .set-up .ensures
-    ∙ rw (
-      c .before .before .before .before .before .before .before .before .before .before .settings-of .ensures,
-      c .before .before .before .before .before .before .before .before .before .before .before .body .ensures,
-    ) refl)
+    ∙ rw (c .before .before .before .before .before .before .before .before .before .before .body .ensures) refl)
     (c .before .before .before .before .before .before .before .body-at .ensures) (rw u refl) (rw (u, ne-eqb _ _ (c .if2 .left)) refl)
     (l .0) (l .1)
 
@@ -98,7 +89,6 @@ open-tape-spec =
     tie.close
     (tie.spec
     body-requires
-    settings-of-requires
     set-up-requires
     body-at-requires
     tape-answer-requires
