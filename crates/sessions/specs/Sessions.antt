@@ -8,6 +8,7 @@ use lib.ListN.{length, getD, take, drop, replicate}
 use Rattle.exporter.specs.Steps.{setUp, octetsWritten, outputAfter}
 use Rattle.exporter.specs.Claim.{Exporter}
 use Rattle.exporter.specs.InOctets.{Event, Put, NextData, Receive, OfferTemplates, Tick, eventStep, storeLeft}
+use Rattle.session.specs.Limits.{maxServers}
 use Rattle.session.specs.declared.state.Settings.{Settings}
 use Rattle.session.specs.declared.state.State.{State}
 
@@ -20,7 +21,7 @@ settingsOf servers threshold duration initial =
       boot = 3600;
       initial = initial;
       servers = servers;
-      priorities = replicate 8 0;
+      priorities = replicate maxServers 0;
       threshold = threshold;
       duration = duration;
     }
