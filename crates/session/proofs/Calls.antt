@@ -70,7 +70,7 @@ abbrev refused : ℕ → State → List ℕ → Outcome
 refused a s store = record { answer = a; state = s; store = store; written = silent }
 
 -- the settings stay
-after-settings : (w : ℕ) (k : Call) (s : State) → after w k s .settings ≡ s .settings
+pub after-settings : (w : ℕ) (k : Call) (s : State) → after w k s .settings ≡ s .settings
 unfolding after
 after-settings w (put table id r) s = refl
 after-settings w nextData s = refl

@@ -136,7 +136,7 @@ module _ (p : Settings) where
   event-means x e k = own-meaning x e ∙ ap (λ (q : Settings). outcome (craneSession q) x (invocationOf q e)) k
 
   -- the settings stay
-  settings-stay : (x : Exporter) (e : Event) → x .state .settings ≡ p → afterEvent x e .state .settings ≡ p
+  pub settings-stay : (x : Exporter) (e : Event) → x .state .settings ≡ p → afterEvent x e .state .settings ≡ p
   unfolding afterEvent
   settings-stay x e k =
       ap (λ (o : Outcome). o .state .settings) (event-means x e k)
