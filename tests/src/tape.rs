@@ -3,10 +3,12 @@
 //! A tape is a count of events (16 bits), then for each event its kind, its server and the length of its body (16
 //! bits), then the bodies.
 
-/// An event, the kinds of events and the limits are the model's.
+use crate::model::exporter::MAX_SERVERS;
+
+/// An event, the kinds of events, the forms of settings and the limits are the model's.
 pub use crate::model::replay::{
-    Event, DOWN, MAX_EVENTS, MAX_TAPE_OCTETS, MESSAGE, MIN_EVENTS, NEXT_DATA as NEXT, OFFER, PUT, SETTINGS,
-    SETTINGS_OCTETS, TABLE, TICK,
+    Event, Form, DOWN, MAX_EVENTS, MAX_TAPE_OCTETS, MESSAGE, MIN_EVENTS, NEXT_DATA as NEXT, OCTETS_BEFORE_PRIORITIES,
+    OFFER, PUT, SETTINGS, TABLE, TICK,
 };
 
 /// Octets of the event count, and of one entry of the contents.
@@ -67,7 +69,9 @@ pub struct Settings {
     pub store: u32,
     pub first_dsn: u32,
     pub boot: u32,
-    pub priorities: [u8; 8],
+    /// Which priorities stand in the body; the short form leaves out those behind its own.
+    pub form: Form,
+    pub priorities: [u8; MAX_SERVERS],
 }
 
 impl Settings {
@@ -77,17 +81,17 @@ impl Settings {
         octets.extend_from_slice(&(self.store.wrapping_sub(1) as u16).to_be_bytes());
         octets.extend_from_slice(&self.first_dsn.to_be_bytes());
         octets.extend_from_slice(&self.boot.to_be_bytes());
-        octets.extend_from_slice(&self.priorities);
+        octets.extend_from_slice(&self.priorities[..self.form.priorities()]);
         octets
     }
 
-    /// The settings that a body of 24 octets says.
+    /// The settings that a body of either form says.
     pub fn from_octets(body: &[u8]) -> Option<Settings> {
-        let body: &[u8; SETTINGS_OCTETS] = body.try_into().ok()?;
+        let form = Form::of_length(body.len())?;
         let number16 = |at: usize| u16::from_be_bytes([body[at], body[at + 1]]);
         let number32 = |at: usize| u32::from_be_bytes([body[at], body[at + 1], body[at + 2], body[at + 3]]);
-        let mut priorities = [0; 8];
-        priorities.copy_from_slice(&body[16..]);
+        let mut priorities = [0; MAX_SERVERS];
+        priorities[..form.priorities()].copy_from_slice(&body[OCTETS_BEFORE_PRIORITIES..]);
         Some(Settings {
             session: body[0],
             configuration: body[1],
@@ -97,6 +101,7 @@ impl Settings {
             store: u32::from(number16(6)) + 1,
             first_dsn: number32(8),
             boot: number32(12),
+            form,
             priorities,
         })
     }
@@ -171,8 +176,9 @@ fn judge(place: usize, event: &Event) -> Result<(), String> {
         TABLE if place != 1 => return Err("a table stands only second".to_string()),
         2.. if place == 0 => return Err("settings must stand first".to_string()),
         2.. if place == 1 => return Err("a table must stand second".to_string()),
-        SETTINGS if length != SETTINGS_OCTETS => {
-            return Err(format!("settings of {length} octets, not {SETTINGS_OCTETS}"))
+        SETTINGS if Form::of_length(length).is_none() => {
+            let [short, long] = Form::ALL.map(Form::octets);
+            return Err(format!("settings of {length} octets, not {short} or {long}"));
         }
         PUT if length < 2 => return Err(format!("a put of {length} octets has no template ID")),
         DOWN..=OFFER if length != 0 => return Err(format!("a body of {length} octets where none belongs")),

@@ -17,6 +17,9 @@
 //! tick 5
 //! ```
 //!
+//! Up to eight priorities give the short form of settings, 24 octets, and nine to sixteen the long one, 32 octets; those
+//! left out are 0.
+//!
 //! `table configuration=1 order=little` begins a little-endian table. A record is given in hex, or field by field: by the
 //! name of its type and its value, in the order that the table states.
 //!
@@ -135,6 +138,40 @@ mod tests {
         assert_eq!(octets[22..46], [7, 1, 1, 4, 0, 10, 3, 255, 0, 0, 0, 0, 0, 0, 14, 16, 1, 0, 0, 0, 0, 0, 0, 0]);
         assert_eq!(octets[74..], [0, 3, 0, 5, 1, 1, 7, 0, 0, 0, 0, 8]);
         assert_eq!(decode(&octets).map(|text| text.contains("message server=0 start  # 4")), Ok(true));
+    }
+
+    /// The settings' body of a tape with such priorities.
+    fn settings_of(priorities: &str) -> Result<Vec<u8>, String> {
+        let settings = SETTINGS.replace("priorities=1", &format!("priorities={priorities}"));
+        let octets = encode(&format!("{settings}\n{TABLE}\n"))?;
+        assert_eq!(decode(&octets).and_then(|text| encode(&text)).as_ref(), Ok(&octets));
+        Ok(tape::split(&octets)?[0].body.clone())
+    }
+
+    #[test]
+    fn the_number_of_priorities_is_the_form_of_the_settings() {
+        let before = settings_of("0").expect("settings")[..16].to_vec();
+        let numbers = |count: u8| (1..=count).map(|number| number.to_string()).collect::<Vec<_>>().join(",");
+        for (count, length) in [(1, 8), (7, 8), (8, 8), (9, 16), (15, 16), (16, 16)] {
+            let mut priorities: Vec<u8> = (1..=count).collect();
+            priorities.resize(length, 0);
+            assert_eq!(settings_of(&numbers(count)), Ok([before.clone(), priorities].concat()), "{count}");
+        }
+        assert_eq!(settings_of(&numbers(17)), Err("line 1: more than 16 priorities".to_string()));
+        assert_eq!(settings_of("1,256"), Err("line 1: '256' is not a number from 0 to 255".to_string()));
+    }
+
+    #[test]
+    fn all_priorities_of_a_form_are_decoded() {
+        let words = |priorities: &str| {
+            let settings = SETTINGS.replace("priorities=1", &format!("priorities={priorities}"));
+            let text = encode(&format!("{settings}\n{TABLE}\n")).and_then(|octets| decode(&octets));
+            text.map(|text| text.lines().next().and_then(|line| line.split(' ').nth(9)).map(str::to_string))
+        };
+        assert_eq!(words("4"), Ok(Some("priorities=4,0,0,0,0,0,0,0".to_string())));
+        assert_eq!(words("4,0,0,0,0,0,0,0"), words("4"));
+        let long = "priorities=4,0,0,0,0,0,0,0,0,0,0,0,0,0,0,0";
+        assert_eq!(words("4,0,0,0,0,0,0,0,0"), Ok(Some(long.to_string())));
     }
 
     #[test]

@@ -7,7 +7,8 @@ use super::message::{self, Message};
 use super::record;
 use super::table;
 
-pub const MOST_SERVERS: usize = 8;
+/// The most servers of a session.
+pub const MAX_SERVERS: usize = 16;
 pub const MOST_RECORDS: usize = 64;
 pub const SMALLEST_STORE: usize = 1_024;
 pub const LARGEST_STORE: usize = 65_536;
@@ -20,15 +21,16 @@ pub struct Settings {
     pub boot_time: u32,
     pub first_dsn: u32,
     pub servers: u8,
-    pub priorities: [u8; MOST_SERVERS],
+    pub priorities: [u8; MAX_SERVERS],
     pub threshold: u8,
     pub duration: u16,
 }
 
 impl Settings {
-    /// 1 to 8 servers, threshold 1 to 64, duration 1 to 65,535; all other settings are free.
+    /// From 1 server to the most, threshold 1 to 64, duration 1 to 65,535; all other settings are free.
     pub fn in_limits(&self) -> bool {
-        (1..=8).contains(&self.servers) && (1..=64).contains(&self.threshold) && self.duration >= 1
+        let servers = usize::from(self.servers);
+        (1..=MAX_SERVERS).contains(&servers) && (1..=64).contains(&self.threshold) && self.duration >= 1
     }
 }
 
@@ -55,7 +57,7 @@ pub struct Held {
 pub struct Exporter {
     pub settings: Settings,
     pub store_length: usize,
-    pub states: [ServerState; MOST_SERVERS],
+    pub states: [ServerState; MAX_SERVERS],
     pub queue: VecDeque<Held>,
     pub next_dsn: u32,
     pub ring_start: usize,
@@ -114,7 +116,7 @@ impl Exporter {
             next_dsn: settings.first_dsn,
             settings,
             store_length: store.len(),
-            states: [ServerState::Closed; MOST_SERVERS],
+            states: [ServerState::Closed; MAX_SERVERS],
             queue: VecDeque::new(),
             ring_start: 0,
             sent: 0,

@@ -25,6 +25,8 @@ mod tests_order;
 #[cfg(test)]
 mod tests_replay;
 #[cfg(test)]
+mod tests_servers;
+#[cfg(test)]
 mod tests_support;
 #[cfg(test)]
 mod tests_wire;

@@ -1,7 +1,7 @@
 //! The replay of a tape: its soundness, its events and the program's whole output.
 
 use super::answer;
-use super::exporter::{Exporter, Reply, Settings};
+use super::exporter::{Exporter, Reply, Settings, MAX_SERVERS};
 use super::octets::Reader;
 
 /// The most octets of a tape.
@@ -9,8 +9,10 @@ pub const MAX_TAPE_OCTETS: usize = 32_768;
 /// The fewest and the most events of a tape.
 pub const MIN_EVENTS: usize = 2;
 pub const MAX_EVENTS: usize = 512;
-/// The octets of the settings' body.
-pub const SETTINGS_OCTETS: usize = 24;
+/// The octets of the settings' body before the priorities.
+pub const OCTETS_BEFORE_PRIORITIES: usize = 16;
+/// The priorities of the settings' short form; the long form has one for each server that a session can have.
+pub const SHORT_FORM_PRIORITIES: usize = 8;
 /// The octets of the program's output buffer.
 pub const OUTPUT_OCTETS: usize = 16_392;
 pub const TAPE_REFUSED: &str = "tape refused\n";
@@ -23,6 +25,35 @@ pub const DOWN: u8 = 4;
 pub const TICK: u8 = 5;
 pub const NEXT_DATA: u8 = 6;
 pub const OFFER: u8 = 7;
+
+/// The form of the settings' body, told by its length alone: 24 octets with 8 priorities, or 32 with 16.
+#[derive(Clone, Copy, Debug, PartialEq, Eq)]
+pub enum Form {
+    Short,
+    Long,
+}
+
+impl Form {
+    pub const ALL: [Form; 2] = [Form::Short, Form::Long];
+
+    /// How many priorities the form has, and so the most servers that it can say.
+    pub const fn priorities(self) -> usize {
+        match self {
+            Form::Short => SHORT_FORM_PRIORITIES,
+            Form::Long => MAX_SERVERS,
+        }
+    }
+
+    /// The octets of a body of this form.
+    pub const fn octets(self) -> usize {
+        OCTETS_BEFORE_PRIORITIES + self.priorities()
+    }
+
+    /// The form of a body of that many octets; `None` for a length that is of neither.
+    pub fn of_length(octets: usize) -> Option<Form> {
+        Form::ALL.into_iter().find(|form| form.octets() == octets)
+    }
+}
 
 /// One event of a tape.
 #[derive(Clone, Debug, PartialEq, Eq)]
@@ -81,7 +112,7 @@ fn is_sound_event(place: usize, event: &Event) -> bool {
     };
     let names_server = [MESSAGE, DOWN, OFFER].contains(&event.kind);
     let body_fits = match event.kind {
-        SETTINGS => event.body.len() == SETTINGS_OCTETS,
+        SETTINGS => Form::of_length(event.body.len()).is_some(),
         PUT => event.body.len() >= 2,
         DOWN..=OFFER => event.body.is_empty(),
         _ => true,
@@ -90,8 +121,10 @@ fn is_sound_event(place: usize, event: &Event) -> bool {
 }
 
 /// The settings and the store's length that event 0's body states: session, configuration,
-/// servers, threshold, duration, store length minus 1, first DSN, boot time, 8 priorities.
+/// servers, threshold, duration, store length minus 1, first DSN, boot time, 8 or 16 priorities. The
+/// priorities that the short form does not have are 0.
 pub fn read_settings(body: &[u8]) -> Option<(Settings, usize)> {
+    let form = Form::of_length(body.len())?;
     let mut reader = Reader::new(body);
     let session = reader.u8()?;
     let configuration_id = reader.u8()?;
@@ -101,7 +134,8 @@ pub fn read_settings(body: &[u8]) -> Option<(Settings, usize)> {
     let store_length = usize::from(reader.u16()?) + 1;
     let first_dsn = reader.u32()?;
     let boot_time = reader.u32()?;
-    let priorities = reader.take(8)?.try_into().ok()?;
+    let mut priorities = [0; MAX_SERVERS];
+    priorities[..form.priorities()].copy_from_slice(reader.take(form.priorities())?);
     let settings =
         Settings { session, configuration_id, boot_time, first_dsn, servers, priorities, threshold, duration };
     reader.rest.is_empty().then_some((settings, store_length))
@@ -118,9 +152,14 @@ pub struct Replay {
 }
 
 impl Replay {
-    /// Event 0: set-up over a store of the length that the settings name, or its refusal.
+    /// Event 0: set-up over a store of the length that the settings name, or its refusal, which is 20
+    /// too for more servers than the form has priorities.
     pub fn set_up(body: &[u8]) -> Result<Replay, u8> {
+        let form = Form::of_length(body.len()).ok_or(answer::UNSOUND_TAPE)?;
         let (settings, store_length) = read_settings(body).ok_or(answer::UNSOUND_TAPE)?;
+        if usize::from(settings.servers) > form.priorities() {
+            return Err(answer::SETTINGS_OUTSIDE_LIMITS);
+        }
         let store = vec![0; store_length];
         let exporter = Exporter::set_up(settings, &store)?;
         Ok(Replay { exporter, store, table: Vec::new(), output: vec![0; OUTPUT_OCTETS] })

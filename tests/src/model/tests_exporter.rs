@@ -2,7 +2,7 @@
 
 use std::collections::BTreeSet;
 
-use super::exporter::{Exporter, Held, Reply, ServerState, Settings};
+use super::exporter::{Exporter, Held, Reply, ServerState, Settings, MAX_SERVERS};
 use super::tests_support::{blob, blob_table, hex, sample_table, settings, Bench};
 
 /// One server, agreed, with that many records of 5 octets held and written to it.
@@ -68,7 +68,7 @@ fn set_up_limits() {
     for (length, expected) in [(0, 20), (1_023, 20), (1_024, 0), (65_536, 0), (65_537, 20)] {
         assert_eq!(answer(fair.clone(), length), expected);
     }
-    for (servers, expected) in [(0, 20), (1, 0), (8, 0), (9, 20), (255, 20)] {
+    for (servers, expected) in [(0, 20), (1, 0), (8, 0), (9, 0), (15, 0), (16, 0), (17, 20), (32, 20), (255, 20)] {
         assert_eq!(answer(Settings { servers, ..fair.clone() }, 1_024), expected);
     }
     for (threshold, expected) in [(0, 20), (1, 0), (64, 0), (65, 20), (255, 20)] {
@@ -87,7 +87,7 @@ fn fresh_exporter() {
     assert_eq!((fresh.next_dsn, fresh.first_held_dsn(), fresh.active), (9, 9, None));
     assert_eq!((fresh.sent, fresh.reached, fresh.timer, fresh.ring_start), (0, 0, 0, 0));
     assert_eq!((fresh.released, fresh.began), (0, 1));
-    assert_eq!(fresh.states, [ServerState::Closed; 8]);
+    assert_eq!(fresh.states, [ServerState::Closed; MAX_SERVERS]);
     assert!(bench.store.iter().all(|octet| *octet == 0xaa));
     assert_eq!(bench.next(), refused(13));
 }
@@ -111,7 +111,7 @@ fn assert_unsound(bench: &mut Bench, rule: &str) {
 /// Each breaks one rule of a state with an active server and three records, two of them sent.
 const BREAKS: [Break; 20] = [
     ("no servers", |e| e.settings.servers = 0),
-    ("nine servers", |e| e.settings.servers = 9),
+    ("17 servers", |e| e.settings.servers = 17),
     ("threshold 0", |e| e.settings.threshold = 0),
     ("threshold 65", |e| e.settings.threshold = 65),
     ("duration 0", |e| e.settings.duration = 0),

@@ -1,8 +1,9 @@
 //! The exporter against its history: an account of places from 1 on, fed only the accepted calls
 //! and their arguments, with no queue, ring or DSN arithmetic of its own.
 
-use super::exporter::{Reply, ServerState, Settings};
+use super::exporter::{Reply, ServerState, Settings, MAX_SERVERS};
 use super::message::{read, Message};
+use super::replay::SHORT_FORM_PRIORITIES;
 use super::tests_support::{blob, settings, Bench};
 
 /// A call with its arguments.
@@ -169,7 +170,7 @@ impl Random {
 /// A call at random, its server mostly one that exists and its acks mostly near what is held. The
 /// first `puts` of 12 chances are puts.
 fn random_call(bench: &Bench, random: &mut Random, puts: u64) -> Call {
-    let server = random.below(4) as u8;
+    let server = random.below(u64::from(bench.exporter.settings.servers) + 1) as u8;
     let active = bench.exporter.active.unwrap_or(server);
     let before_held = bench.exporter.first_held_dsn().wrapping_sub(1);
     match random.below(40) {
@@ -223,26 +224,33 @@ fn assert_agree(bench: &Bench, history: &History) {
     assert_eq!(held, history.records[history.released..]);
 }
 
-/// A run of random calls; how often each answer was given, and how often the first held record was sent again without
-/// S and with S.
-fn random_run(seed: u64, calls: usize) -> ([usize; 23], [usize; 2]) {
+/// What random calls met: how often each answer was given, how often the first held record was sent again without S and
+/// with S, and how many records were written to each server.
+#[derive(Default)]
+struct Met {
+    answers: [usize; 23],
+    resends: [usize; 2],
+    written: [usize; MAX_SERVERS],
+}
+
+/// A run of random calls with servers of these priorities; what it meets is counted.
+fn random_run(met: &mut Met, seed: u64, priorities: &[u8], calls: usize) {
     let mut random = Random(seed);
     let limits = Settings {
         first_dsn: u32::MAX - random.below(200) as u32,
         threshold: 1 + random.below(9) as u8,
         duration: 1 + random.below(9) as u16,
-        ..settings(&[1, 5, 5])
+        ..settings(priorities)
     };
     let mut bench = Bench::new(limits.clone(), 1_024 + random.below(2_000) as usize);
     bench.out.truncate(1_100);
     let mut history = History::new(limits);
     let puts = 1 + random.below(11);
-    let (mut answers, mut resends) = ([0; 23], [0; 2]);
     for _ in 0..calls {
         let before = (bench.exporter.clone(), bench.store.clone(), bench.out.clone());
         let call = random_call(&bench, &mut random, puts);
         let reply = make_call(&mut bench, &call);
-        answers[usize::from(reply.answer)] += 1;
+        met.answers[usize::from(reply.answer)] += 1;
         if reply.answer != 0 {
             assert!(before == (bench.exporter.clone(), bench.store.clone(), bench.out.clone()));
             continue;
@@ -253,23 +261,41 @@ fn random_run(seed: u64, calls: usize) -> ([usize; 23], [usize; 2]) {
             let (message, record) = history.last_data();
             assert_eq!(read(&bench.out[..reply.written]), Ok((message, record.as_slice())));
             if before.0.sent == 0 && before.0.reached > 0 {
-                resends[usize::from(bench.out[11] & 1)] += 1;
+                met.resends[usize::from(bench.out[11] & 1)] += 1;
             }
         }
     }
-    (answers, resends)
+    for writing in &history.writings {
+        met.written[usize::from(writing.server)] += 1;
+    }
 }
 
 #[test]
 fn exporter_agrees_with_its_history() {
-    let (mut answers, mut resends) = ([0; 23], [0; 2]);
+    let mut met = Met::default();
     for seed in 0..24 {
-        let counts = random_run(seed, 800);
-        answers.iter_mut().zip(counts.0).for_each(|(total, count)| *total += count);
-        resends.iter_mut().zip(counts.1).for_each(|(total, count)| *total += count);
+        random_run(&mut met, seed, &[1, 5, 5], 800);
     }
+    assert_answers(&met);
+    assert!(met.resends.iter().all(|count| *count >= 10), "{:?}", met.resends);
+}
+
+#[test]
+fn exporter_agrees_with_its_history_with_many_servers() {
+    let mut met = Met::default();
+    for seed in 0..48 {
+        let servers = MAX_SERVERS - seed as usize % (MAX_SERVERS - SHORT_FORM_PRIORITIES);
+        let mut random = Random(seed);
+        let priorities: Vec<u8> = (0..servers).map(|_| random.below(4) as u8).collect();
+        random_run(&mut met, seed, &priorities, 1_600);
+    }
+    assert_answers(&met);
+    assert!(met.written.iter().all(|count| *count >= 20), "{:?}", met.written);
+}
+
+/// Every answer that a random call can get was given.
+fn assert_answers(met: &Met) {
     for answer in [0, 2, 9, 11, 13, 14, 18, 19] {
-        assert!(answers[answer] > 0, "answer {answer} was not given");
+        assert!(met.answers[answer] > 0, "answer {answer} was not given");
     }
-    assert!(resends.iter().all(|count| *count >= 10), "{resends:?}");
 }

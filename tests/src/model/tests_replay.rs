@@ -1,11 +1,15 @@
 //! Tests of the replay of a tape.
 
+use super::exporter::Settings;
 use super::replay::{read_settings, read_tape, replay, Event, Replay};
 use super::tests_support::{blob, blob_table, block_of, hex, sample_table};
 
 /// Session 7, configuration 1, one server, threshold 1, duration 2, a store of 1,024, first DSN 0,
 /// boot time 3,600.
 const SETTINGS: &str = "07 01 01 01 0002 03ff 00000000 00000e10 0000000000000000";
+
+/// The same with 16 priorities.
+const LONG_SETTINGS: &str = "07 01 01 01 0002 03ff 00000000 00000e10 0000000000000000 0000000000000000";
 
 /// A tape of these events: contents first, then the bodies.
 fn tape(events: &[(u8, u8, Vec<u8>)]) -> Vec<u8> {
@@ -88,9 +92,55 @@ fn settings_body() {
     assert_eq!((settings.servers, settings.threshold), (3, 4));
     assert_eq!((settings.duration, store_length), (0x0506, 65_536));
     assert_eq!((settings.first_dsn, settings.boot_time), (0x0708_090a, 0x0b0c_0d0e));
-    assert_eq!(settings.priorities, [1, 2, 3, 4, 5, 6, 7, 8]);
-    assert_eq!(read_settings(&[0; 23]), None);
-    assert_eq!(read_settings(&[0; 25]), None);
+    assert_eq!(settings.priorities, [1, 2, 3, 4, 5, 6, 7, 8, 0, 0, 0, 0, 0, 0, 0, 0]);
+    for length in (0..80).filter(|length| ![24, 32].contains(length)) {
+        assert_eq!(read_settings(&vec![0; length]), None, "{length}");
+    }
+}
+
+#[test]
+fn long_settings_body() {
+    let short = hex("01 02 03 04 0506 ffff 0708090a 0b0c0d0e 0102030405060708");
+    let long = [short.clone(), hex("f9fafbfcfdfeff10")].concat();
+    let (settings, store_length) = read_settings(&long).expect("32 octets");
+    let (short, short_store_length) = read_settings(&short).expect("24 octets");
+    let priorities = [1, 2, 3, 4, 5, 6, 7, 8, 0xf9, 0xfa, 0xfb, 0xfc, 0xfd, 0xfe, 0xff, 0x10];
+    assert_eq!((settings, store_length), (Settings { priorities, ..short }, short_store_length));
+}
+
+#[test]
+fn servers_in_each_form() {
+    let answer = |text: &str, servers: u8| {
+        let mut body = hex(text);
+        body[2] = servers;
+        let set_up = Replay::set_up(&body).err().unwrap_or(0);
+        let lines = if set_up == 0 { "0 0\n1 0\n".to_string() } else { format!("0 {set_up}\n") };
+        assert_eq!(output(&tape(&[(0, 0, body), (1, 0, sample_table())])), lines);
+        set_up
+    };
+    for servers in 0..=255 {
+        let expected = |most: u8| if (1..=most).contains(&servers) { 0 } else { 20 };
+        assert_eq!(answer(SETTINGS, servers), expected(8), "{servers}");
+        assert_eq!(answer(LONG_SETTINGS, servers), expected(16), "{servers}");
+    }
+}
+
+#[test]
+fn unused_priorities_are_ignored() {
+    let session = [
+        (3, 0, hex("0101070000000008")),
+        (7, 0, vec![]),
+        (3, 0, hex("01130700 0000000c 01000000")),
+        (2, 0, hex("0003 0005")),
+        (6, 0, vec![]),
+    ];
+    let expected = output(&tape_with(&session));
+    for text in [SETTINGS, LONG_SETTINGS] {
+        let mut body = hex(text);
+        body[17..].fill(255);
+        let events = [vec![(0, 0, body), (1, 0, sample_table())], session.to_vec()].concat();
+        assert_eq!(output(&tape(&events)), expected);
+    }
 }
 
 #[test]
@@ -140,7 +190,7 @@ fn kinds_have_their_places() {
 
 #[test]
 fn body_lengths_of_events() {
-    for length in [0, 23, 25] {
+    for length in [0, 8, 16, 23, 25, 31, 33, 40, 64] {
         assert_refused(&tape(&[(0, 0, vec![1; length]), (1, 0, sample_table())]));
     }
     assert_refused(&tape_with(&[(2, 0, vec![])]));

@@ -1,7 +1,7 @@
 //! What the model's tests share: hex, sample tables, and an exporter with its store and output.
 
 use super::answer;
-use super::exporter::{Exporter, Reply, ServerState, Settings};
+use super::exporter::{Exporter, Reply, ServerState, Settings, MAX_SERVERS};
 use super::message::{write, Message};
 
 /// The octets of a text of hex digits; spaces are skipped.
@@ -61,15 +61,15 @@ pub fn blob(length: usize, filling: u8) -> Vec<u8> {
 /// Session 7, configuration 1, boot 3,600; as many servers as priorities are named; threshold 1,
 /// duration 2.
 pub fn settings(priorities: &[u8]) -> Settings {
-    let mut eight = [0; 8];
-    eight[..priorities.len()].copy_from_slice(priorities);
+    let mut all = [0; MAX_SERVERS];
+    all[..priorities.len()].copy_from_slice(priorities);
     Settings {
         session: 7,
         configuration_id: 1,
         boot_time: 3_600,
         first_dsn: 0,
         servers: priorities.len() as u8,
-        priorities: eight,
+        priorities: all,
         threshold: 1,
         duration: 2,
     }

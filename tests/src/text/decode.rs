@@ -46,7 +46,7 @@ fn event_lines(event: &Event, session: u8) -> String {
 }
 
 fn settings_line(body: &[u8]) -> String {
-    let settings = Settings::from_octets(body).expect("a sound tape has settings of 24 octets");
+    let settings = Settings::from_octets(body).expect("a sound tape has settings of either form");
     let numbers = [
         ("session", u32::from(settings.session)),
         ("configuration", settings.configuration.into()),
@@ -58,7 +58,8 @@ fn settings_line(body: &[u8]) -> String {
         ("boot", settings.boot),
     ];
     let numbers: Vec<String> = numbers.iter().map(|(name, number)| format!("{name}={number}")).collect();
-    let priorities: Vec<String> = settings.priorities.iter().map(u8::to_string).collect();
+    let priorities = &settings.priorities[..settings.form.priorities()];
+    let priorities: Vec<String> = priorities.iter().map(u8::to_string).collect();
     format!("settings {} priorities={}", numbers.join(" "), priorities.join(","))
 }
 

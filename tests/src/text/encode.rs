@@ -3,9 +3,10 @@
 use super::message_of_words;
 use super::words::{number, octets_of_hex, Words};
 use crate::model::append::append;
+use crate::model::exporter::MAX_SERVERS;
 use crate::model::walk::Value;
 use crate::tables::{Key, Order, Table, Template, BLOB, FIELD_TYPES, IPV4, IPV6, STRING, ZERO_STRING};
-use crate::tape::{self, Event, Settings};
+use crate::tape::{self, Event, Form, Settings};
 
 /// The most octets that a field has beside those of a string, a blob or an address: a number of 64 bits.
 const MOST_OCTETS_BESIDE: usize = 8;
@@ -69,7 +70,7 @@ impl Encoder {
     }
 
     fn settings(&mut self, words: &mut Words) -> Result<Event, String> {
-        let settings = Settings {
+        let mut settings = Settings {
             session: words.number("session", 255)? as u8,
             configuration: words.number("configuration", 255)? as u8,
             servers: words.number("servers", 255)? as u8,
@@ -81,8 +82,11 @@ impl Encoder {
             },
             first_dsn: words.number("first-dsn", u64::from(u32::MAX))? as u32,
             boot: words.number("boot", u64::from(u32::MAX))? as u32,
-            priorities: priorities(&words.take_named("priorities").ok_or("'priorities=' is missing")?)?,
+            form: Form::Short,
+            priorities: [0; MAX_SERVERS],
         };
+        let text = words.take_named("priorities").ok_or("'priorities=' is missing")?;
+        (settings.form, settings.priorities) = priorities(&text)?;
         self.session = settings.session;
         Ok(Event::settings(&settings))
     }
@@ -205,12 +209,15 @@ fn key_of_words(words: &mut Words) -> Result<Key, String> {
     Ok(Key { id, kind, disabled: words.take_plain("disabled") })
 }
 
-/// One to eight numbers with commas between; those not named are 0.
-fn priorities(text: &[u8]) -> Result<[u8; 8], String> {
-    let mut priorities = [0; 8];
+/// Numbers with commas between, and the shortest form of settings that has a place for each; those not named are 0.
+fn priorities(text: &[u8]) -> Result<(Form, [u8; MAX_SERVERS]), String> {
+    let mut priorities = [0; MAX_SERVERS];
     let text = String::from_utf8_lossy(text);
-    for (place, part) in text.split(',').enumerate() {
-        *priorities.get_mut(place).ok_or("more than 8 priorities")? = number(part, 255)? as u8;
+    let parts: Vec<&str> = text.split(',').collect();
+    let form = Form::ALL.into_iter().find(|form| parts.len() <= form.priorities());
+    let form = form.ok_or_else(|| format!("more than {MAX_SERVERS} priorities"))?;
+    for (priority, part) in priorities.iter_mut().zip(parts) {
+        *priority = number(part, 255)? as u8;
     }
-    Ok(priorities)
+    Ok((form, priorities))
 }
