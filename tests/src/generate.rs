@@ -19,10 +19,13 @@ mod session;
 mod sessions;
 #[cfg(test)]
 pub mod situations;
+mod sixteen;
 pub mod tables;
 
+use crate::model::exporter::MAX_SERVERS;
+use crate::model::replay::SHORT_FORM_PRIORITIES;
 use crate::random::Random;
-use crate::tape::Settings;
+use crate::tape::{Form, Settings};
 use session::Session;
 
 /// A kind of tapes.
@@ -38,8 +41,8 @@ const fn profile(name: &'static str, weight: u64, what: &'static str, make: fn(u
     Profile { name, weight, what, make }
 }
 
-pub const PROFILES: [Profile; 18] = [
-    profile("sessions", 2, "typical sessions with one to eight servers", sessions::sessions),
+pub const PROFILES: [Profile; 19] = [
+    profile("sessions", 2, "typical sessions with one to sixteen servers", sessions::sessions),
     profile(
         "takeovers",
         2,
@@ -58,19 +61,20 @@ pub const PROFILES: [Profile; 18] = [
     profile("full", 2, "64 records held, the store full, and both", sessions::full),
     profile("refusals", 1, "one fault at a time, of every kind", sessions::refusals),
     profile("orders", 2, "two faults at a time", sessions::orders),
-    profile("settings", 2, "settings at and past their limits", limits::tapes),
+    profile("settings", 3, "settings of both forms at and past their limits", limits::tapes),
     profile("tables", 2, "sound tables of all field types and sizes, with records", layouts::table_tapes),
     profile("damaged-tables", 6, "tables with one damage", layouts::damaged_tables),
     profile("types", 2, "every field type, and numbers near those that are no type", layouts::types),
     profile("records", 1, "records, valid and damaged, under many templates", layouts::record_tapes),
-    profile("damaged-tapes", 3, "tapes refused for one reason, and near misses", broken::tape),
+    profile("damaged-tapes", 4, "tapes refused for one reason, and near misses", broken::tape),
     profile("hostile", 1, "damaged and random messages", sessions::hostile_tapes),
     profile("largest", 1, "512 events and 32,768 octets", sessions::largest),
     profile("little", 4, "little-endian tables of every field type, records in the wrong order", little::little),
+    profile("sixteen", 4, "nine to sixteen servers, and settings with more than their form has", sixteen::sixteen),
 ];
 
 /// How many tapes a run has if it is not told.
-pub const DEFAULT_TAPES: u64 = 2_300;
+pub const DEFAULT_TAPES: u64 = 2_700;
 
 /// Seeds that are run together: a run of seed S, which is 1 if it is not told, has the seeds from S times this on.
 pub const SEEDS_APART: u64 = 1_000_000;
@@ -104,24 +108,38 @@ fn random_of(profile: usize, seed: u64) -> Random {
     Random::from_parts(&[name, seed])
 }
 
-/// Settings in their limits: few servers as often as many, ties among priorities, short durations.
+/// Settings in their limits: few servers as often as many, ties among priorities, short durations. The form, and the
+/// priorities that only the long form has, are drawn beside the source.
 fn settings(random: &mut Random) -> Settings {
-    let mut priorities = [0; 8];
+    let mut beside = random.beside(0xf02a);
+    let mut priorities = [0; MAX_SERVERS];
     let span = *random.pick(&[1, 2, 3, 256]);
-    for priority in &mut priorities {
-        *priority = random.below(span) as u8;
-    }
+    let (short, more) = priorities.split_at_mut(SHORT_FORM_PRIORITIES);
+    short.iter_mut().for_each(|priority| *priority = random.below(span) as u8);
+    more.iter_mut().for_each(|priority| *priority = beside.below(span) as u8);
     let first_dsn = random.number() as u32;
-    Settings {
+    let servers = *random.pick(&[1, 1, 2, 2, 3, 4, 5, SHORT_FORM_PRIORITIES, MAX_SERVERS]);
+    let mut settings = Settings {
         session: random.octet(),
         configuration: random.octet(),
-        servers: *random.pick(&[1, 1, 2, 2, 3, 4, 5, 8]),
+        servers: 0,
         threshold: *random.pick(&[1, 1, 2, 3, 4, 8]),
         duration: *random.pick(&[1, 2, 3, 4, 5, 7]),
         store: random.between(1_024, 8_192) as u32,
         first_dsn: *random.pick(&[0, 1, 100, u32::MAX, first_dsn]),
         boot: random.number() as u32,
+        form: *beside.pick(&Form::ALL),
         priorities,
+    };
+    set_servers(&mut settings, servers);
+    settings
+}
+
+/// Changes the server count, and the form to the long one where the short one is too short for it.
+fn set_servers(settings: &mut Settings, servers: usize) {
+    settings.servers = servers as u8;
+    if servers > settings.form.priorities() {
+        settings.form = Form::Long;
     }
 }
 
@@ -150,7 +168,7 @@ mod tests {
     #[test]
     fn a_mixed_run_takes_each_tape_of_each_profile_once() {
         let mut counts = [0; PROFILES.len()];
-        for index in 0..4_000 {
+        for index in 0..5_000 {
             let (number, round) = in_turn(index);
             assert_eq!(counts[number], round);
             counts[number] += 1;

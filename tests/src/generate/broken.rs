@@ -3,7 +3,9 @@
 use super::session::Session;
 use super::{everyday_session, random_of};
 use crate::random::Random;
-use crate::tape::{self, Event, COUNT_OCTETS, ENTRY_OCTETS, MAX_EVENTS, MAX_TAPE_OCTETS};
+use crate::tape::{
+    self, Event, Form, COUNT_OCTETS, ENTRY_OCTETS, MAX_EVENTS, MAX_TAPE_OCTETS, OCTETS_BEFORE_PRIORITIES,
+};
 
 /// One way to make a tape that is refused, or nearly.
 struct Breakage {
@@ -20,7 +22,7 @@ const fn near(name: &'static str, make: fn(&mut Random, Vec<Event>) -> Vec<u8>) 
     Breakage { name, refused: false, make }
 }
 
-const BREAKAGES: [Breakage; 49] = [
+const BREAKAGES: [Breakage; 60] = [
     refused("no octets", |_, _| Vec::new()),
     refused("one octet", |random, _| random.octets(1)),
     refused("a count alone", |_, events| tape::build(&events)[..COUNT_OCTETS].to_vec()),
@@ -70,9 +72,22 @@ const BREAKAGES: [Breakage; 49] = [
     refused("kind 8 or more", |random, events| {
         later(random, events, |random, event| event.kind = *random.pick(&[8, 9, 16, 128, 255]))
     }),
-    refused("settings of 23 octets", |_, events| changed(events, 0, |event| event.body.truncate(23))),
-    refused("settings of 25 octets", |_, events| changed(events, 0, |event| event.body.push(0))),
-    refused("settings of no octets", |_, events| changed(events, 0, |event| event.body.clear())),
+    refused("settings of 23 octets", |_, events| with_settings(events, Form::Short.octets() - 1)),
+    near("settings of 24 octets", |_, events| with_settings(events, Form::Short.octets())),
+    refused("settings of 25 octets", |_, events| with_settings(events, Form::Short.octets() + 1)),
+    refused("settings of 31 octets", |_, events| with_settings(events, Form::Long.octets() - 1)),
+    near("settings of 32 octets", |_, events| with_settings(events, Form::Long.octets())),
+    refused("settings of 33 octets", |_, events| with_settings(events, Form::Long.octets() + 1)),
+    refused("settings between the two forms", |random, events| {
+        with_settings(events, random.between(Form::Short.octets() + 1, Form::Long.octets() - 1))
+    }),
+    refused("settings of no octets", |_, events| with_settings(events, 0)),
+    refused("settings of 8 octets", |_, events| with_settings(events, 8)),
+    refused("settings without priorities", |_, events| with_settings(events, OCTETS_BEFORE_PRIORITIES)),
+    refused("settings of 40 octets", |_, events| with_settings(events, 40)),
+    refused("settings of 64 octets", |_, events| with_settings(events, 64)),
+    refused("short settings counted as long", |_, events| counted_as(events, Form::Short, Form::Long)),
+    refused("long settings counted as short", |_, events| counted_as(events, Form::Long, Form::Short)),
     refused("a put of no octets", |random, events| {
         with_event(random, events, Event { kind: tape::PUT, server: 0, body: Vec::new() })
     }),
@@ -173,6 +188,19 @@ fn cut_anywhere(random: &mut Random, events: &[Event]) -> Vec<u8> {
 fn changed(mut events: Vec<Event>, place: usize, change: impl FnOnce(&mut Event)) -> Vec<u8> {
     change(&mut events[place]);
     tape::build(&events)
+}
+
+/// The tape with settings of that many octets; further ones are 1.
+fn with_settings(events: Vec<Event>, octets: usize) -> Vec<u8> {
+    changed(events, 0, |event| event.body.resize(octets, 1))
+}
+
+/// Settings of one form whose body length, in the contents alone, is that of another.
+fn counted_as(events: Vec<Event>, form: Form, counted: Form) -> Vec<u8> {
+    let mut tape = with_settings(events, form.octets());
+    let at = COUNT_OCTETS + 2;
+    tape[at..at + 2].copy_from_slice(&(counted.octets() as u16).to_be_bytes());
+    tape
 }
 
 /// The tape with one event after the table changed.

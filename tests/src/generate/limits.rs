@@ -3,27 +3,47 @@
 use super::actions::{self, TYPICAL};
 use super::session::Session;
 use super::{random_of, settings, tables};
+use crate::model::exporter::MAX_SERVERS;
 use crate::model::replay::Replay;
-use crate::tape::{self, Event, Settings};
+use crate::tape::{self, Event, Form, Settings};
 
 /// One setting at or past a limit.
 enum Odd {
-    Servers(u8),
+    /// So many servers in settings of that form.
+    Servers(Form, u8),
     Threshold(u8),
     Duration(u16),
     Store(u32),
-    Priorities([u8; 8]),
+    /// As many servers as the form has priorities, each of which is so by its place.
+    Priorities(Form, fn(usize) -> u8),
+    /// The priorities of the form that no server has are higher than all others.
+    Unused(Form),
     Numbers(u8, u8),
 }
 
-const ODD_SETTINGS: [Odd; 36] = [
-    Odd::Servers(0),
-    Odd::Servers(1),
-    Odd::Servers(8),
-    Odd::Servers(9),
-    Odd::Servers(16),
-    Odd::Servers(128),
-    Odd::Servers(255),
+/// The most servers of the short form, and of the long one.
+const SHORT: u8 = Form::Short.priorities() as u8;
+const MOST: u8 = Form::Long.priorities() as u8;
+
+const ODD_SETTINGS: [Odd; 58] = [
+    Odd::Servers(Form::Short, 0),
+    Odd::Servers(Form::Short, 1),
+    Odd::Servers(Form::Short, SHORT),
+    Odd::Servers(Form::Short, SHORT + 1),
+    Odd::Servers(Form::Short, MOST - 1),
+    Odd::Servers(Form::Short, MOST),
+    Odd::Servers(Form::Short, MOST + 1),
+    Odd::Servers(Form::Short, 128),
+    Odd::Servers(Form::Short, 255),
+    Odd::Servers(Form::Long, 0),
+    Odd::Servers(Form::Long, 1),
+    Odd::Servers(Form::Long, SHORT),
+    Odd::Servers(Form::Long, SHORT + 1),
+    Odd::Servers(Form::Long, MOST - 1),
+    Odd::Servers(Form::Long, MOST),
+    Odd::Servers(Form::Long, MOST + 1),
+    Odd::Servers(Form::Long, 128),
+    Odd::Servers(Form::Long, 255),
     Odd::Threshold(0),
     Odd::Threshold(1),
     Odd::Threshold(63),
@@ -44,11 +64,22 @@ const ODD_SETTINGS: [Odd; 36] = [
     Odd::Store(32_768),
     Odd::Store(65_535),
     Odd::Store(65_536),
-    Odd::Priorities([255; 8]),
-    Odd::Priorities([0; 8]),
-    Odd::Priorities([0, 255, 255, 1, 0, 0, 0, 255]),
-    Odd::Priorities([1, 2, 4, 8, 16, 32, 64, 128]),
-    Odd::Priorities([128, 127, 128, 127, 128, 127, 128, 127]),
+    Odd::Priorities(Form::Short, |_| 255),
+    Odd::Priorities(Form::Short, |_| 0),
+    Odd::Priorities(Form::Short, |place| if place % 3 == 1 { 255 } else { 0 }),
+    Odd::Priorities(Form::Short, |place| 1 << (place % 8)),
+    Odd::Priorities(Form::Short, |place| 128 - (place % 2) as u8),
+    Odd::Priorities(Form::Short, |place| place as u8),
+    Odd::Priorities(Form::Short, |place| 255 - place as u8),
+    Odd::Priorities(Form::Long, |_| 255),
+    Odd::Priorities(Form::Long, |_| 0),
+    Odd::Priorities(Form::Long, |place| if place % 3 == 1 { 255 } else { 0 }),
+    Odd::Priorities(Form::Long, |place| 1 << (place % 8)),
+    Odd::Priorities(Form::Long, |place| 128 - (place % 2) as u8),
+    Odd::Priorities(Form::Long, |place| place as u8),
+    Odd::Priorities(Form::Long, |place| 255 - place as u8),
+    Odd::Unused(Form::Short),
+    Odd::Unused(Form::Long),
     Odd::Numbers(0, 0),
     Odd::Numbers(255, 0),
     Odd::Numbers(0, 255),
@@ -57,11 +88,20 @@ const ODD_SETTINGS: [Odd; 36] = [
 
 fn apply(odd: &Odd, settings: &mut Settings) {
     match odd {
-        Odd::Servers(servers) => settings.servers = *servers,
+        Odd::Servers(form, servers) => (settings.form, settings.servers) = (*form, *servers),
         Odd::Threshold(threshold) => settings.threshold = *threshold,
         Odd::Duration(duration) => settings.duration = *duration,
         Odd::Store(store) => settings.store = *store,
-        Odd::Priorities(priorities) => settings.priorities = *priorities,
+        Odd::Priorities(form, priority) => {
+            (settings.form, settings.servers) = (*form, form.priorities() as u8);
+            settings.priorities = std::array::from_fn(priority);
+        }
+        Odd::Unused(form) => {
+            settings.form = *form;
+            let (used, unused) = settings.priorities.split_at_mut(usize::from(settings.servers).min(MAX_SERVERS));
+            used.iter_mut().for_each(|priority| *priority /= 2);
+            unused.fill(255);
+        }
         Odd::Numbers(session, configuration) => (settings.session, settings.configuration) = (*session, *configuration),
     }
 }

@@ -2,7 +2,7 @@
 //! would be meaningful next.
 
 use crate::messages::{self, MessageParts};
-use crate::model::exporter::{Exporter, ServerState};
+use crate::model::exporter::{Exporter, ServerState, MAX_SERVERS};
 use crate::model::replay::Replay;
 use crate::random::Random;
 use crate::tables::{Table, Template};
@@ -100,7 +100,8 @@ impl Session {
     /// A server number that is not below the count.
     pub fn no_server(&mut self) -> u8 {
         let count = self.settings.servers;
-        *self.random.pick(&[count, count, 8, 9, 128, 255])
+        let most = MAX_SERVERS as u8;
+        *self.random.pick(&[count, count, count + 1, most, most + 1, 128, 255])
     }
 
     pub fn any_template(&mut self) -> Template {

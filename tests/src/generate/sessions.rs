@@ -2,7 +2,9 @@
 
 use super::actions::{self, Mix, TYPICAL};
 use super::session::Session;
-use super::{everyday_session, faults, hostile, random_of, records, settings, tables};
+use super::{everyday_session, faults, hostile, random_of, records, set_servers, settings, tables};
+use crate::model::exporter::MAX_SERVERS;
+use crate::model::replay::SHORT_FORM_PRIORITIES;
 use crate::tables::{Key, Order, Table, Template, BLOB, MAX_KEYS, MAX_TEMPLATES};
 use crate::tape::{Event, MAX_EVENTS};
 
@@ -24,7 +26,8 @@ pub fn sessions(profile: usize, seed: u64) -> Vec<u8> {
 pub fn takeovers(profile: usize, seed: u64) -> Vec<u8> {
     let mut random = random_of(profile, seed);
     let mut settings = settings(&mut random);
-    settings.servers = random.between(2, 8) as u8;
+    let most = *random.pick(&[SHORT_FORM_PRIORITIES, SHORT_FORM_PRIORITIES, MAX_SERVERS]);
+    set_servers(&mut settings, random.between(2, most));
     settings.threshold = *random.pick(&[1, 1, 2, 3]);
     settings.duration = *random.pick(&[1, 2, 3]);
     let table = tables::everyday(&mut random, settings.configuration);
