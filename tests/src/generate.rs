@@ -70,11 +70,11 @@ pub const PROFILES: [Profile; 19] = [
     profile("hostile", 1, "damaged and random messages", sessions::hostile_tapes),
     profile("largest", 1, "512 events and 32,768 octets", sessions::largest),
     profile("little", 4, "little-endian tables of every field type, records in the wrong order", little::little),
-    profile("sixteen", 4, "nine to sixteen servers, and settings with more than their form has", sixteen::sixteen),
+    profile("sixteen", 5, "nine to sixteen servers, and settings refused for their servers", sixteen::sixteen),
 ];
 
 /// How many tapes a run has if it is not told.
-pub const DEFAULT_TAPES: u64 = 2_700;
+pub const DEFAULT_TAPES: u64 = 2_800;
 
 /// Seeds that are run together: a run of seed S, which is 1 if it is not told, has the seeds from S times this on.
 pub const SEEDS_APART: u64 = 1_000_000;

@@ -1,5 +1,7 @@
 //! Tests that the tapes of a default run tell programs with one mistake from the right one.
 
+mod servers;
+
 use super::records;
 use super::situations::{fields, sessions, set_up};
 use super::tables::all_turned;
@@ -474,20 +476,30 @@ fn tells(mistake: &Mistake, events: &[Event], replay: &Replay, right: &[Outcome]
     events.iter().zip(right).any(|(event, outcome)| (mistake.event)(&mut program, event) != *outcome)
 }
 
-#[test]
-fn every_mistake_is_told() {
-    let mut counts = [0; MISTAKES.len()];
+/// Each mistake is told by enough tapes.
+fn assert_told(mistakes: &[Mistake]) {
+    let mut counts = vec![0; mistakes.len()];
     for (events, replay) in sessions() {
         let mut right = Program { replay: replay.clone(), marked: BTreeSet::new() };
         let outcomes: Vec<Outcome> = events.iter().map(|event| right.right(event)).collect();
-        for (count, mistake) in counts.iter_mut().zip(&MISTAKES).filter(|(count, _)| **count < LEAST) {
+        for (count, mistake) in counts.iter_mut().zip(mistakes).filter(|(count, _)| **count < LEAST) {
             *count += usize::from(tells(mistake, &events, &replay, &outcomes));
         }
     }
-    for (count, mistake) in counts.iter().zip(&MISTAKES) {
-        println!("{}: {count}", mistake.name);
-        assert!(*count >= LEAST, "'{}' was told by {count} tapes", mistake.name);
+    assert_often_enough(mistakes.iter().map(|mistake| mistake.name).zip(counts));
+}
+
+/// Each of these mistakes was told by so many tapes, which are enough.
+fn assert_often_enough(counts: impl Iterator<Item = (&'static str, usize)>) {
+    for (name, count) in counts {
+        println!("{name}: {count}");
+        assert!(count >= LEAST, "'{name}' was told by {count} tapes");
     }
+}
+
+#[test]
+fn every_mistake_is_told() {
+    assert_told(&MISTAKES);
 }
 
 /// A mistake about tables: its name, and whether a program with it finds these octets sound.
@@ -530,8 +542,5 @@ fn every_mistake_about_tables_is_told() {
             *count += usize::from(finds_sound(table) != is_sound(table));
         }
     }
-    for (count, (name, _)) in counts.iter().zip(&TABLE_MISTAKES) {
-        println!("{name}: {count}");
-        assert!(*count >= LEAST, "'{name}' was told by {count} tapes");
-    }
+    assert_often_enough(TABLE_MISTAKES.iter().map(|(name, _)| *name).zip(counts));
 }

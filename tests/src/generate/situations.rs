@@ -1,5 +1,7 @@
 //! Tests that the tapes of a default run meet every situation in which the rules differ.
 
+mod servers;
+
 use super::{in_turn, tape, DEFAULT_TAPES, PROFILES, SEEDS_APART};
 use crate::messages::{DATA_ACK, FINAL_TMPL_DATA_ACK, START, START_NEGOTIATE, STOP};
 use crate::model::answer::{DONE, OUT_OF_TURN, RECORD_INVALID, RECORD_TOO_LONG, STORE_FULL, UNSOUND_TABLE};
@@ -23,12 +25,21 @@ pub fn set_up() -> impl Iterator<Item = (Vec<Event>, Replay)> {
 
 /// The same, of some profiles only, by name.
 fn set_up_of(is_asked: fn(&str) -> bool) -> impl Iterator<Item = (Vec<Event>, Replay)> {
-    let tapes = (0..DEFAULT_TAPES).map(in_turn).filter(move |(profile, _)| is_asked(PROFILES[*profile].name));
-    tapes.filter_map(|(profile, seed)| {
-        let mut events = split(&tape(profile, SEEDS_APART + seed)).ok()?;
+    sound_tapes_of(is_asked).filter_map(|mut events| {
         let replay = Replay::set_up(&events[0].body).ok()?;
         Some((events.split_off(1), replay))
     })
+}
+
+/// The events of all sound tapes of a default run.
+pub fn sound_tapes() -> impl Iterator<Item = Vec<Event>> {
+    sound_tapes_of(|_| true)
+}
+
+/// The same, of some profiles only, by name.
+fn sound_tapes_of(is_asked: fn(&str) -> bool) -> impl Iterator<Item = Vec<Event>> {
+    let tapes = (0..DEFAULT_TAPES).map(in_turn).filter(move |(profile, _)| is_asked(PROFILES[*profile].name));
+    tapes.filter_map(|(profile, seed)| split(&tape(profile, SEEDS_APART + seed)).ok())
 }
 
 /// Those whose table is taken too: the events after it.

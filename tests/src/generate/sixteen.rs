@@ -17,29 +17,25 @@ const BETWEEN: Mix =
 const ACTS: [fn(&mut Session); 7] =
     [to_all, by_priority, late_one_after_another, negotiation, closing, alone, no_such_servers];
 
-/// Once in four, settings with more servers than their form has priorities; once in eight, a session of few servers; else
-/// one of many, half of these with as many as there can be.
+/// Settings that are refused for their servers, sessions of few servers, and for the half sessions of many, among them
+/// as many as there can be.
 pub fn sixteen(profile: usize, seed: u64) -> Vec<u8> {
     let mut random = random_of(profile, seed);
+    let few = random.between(1, SHORT_FORM_PRIORITIES);
     let many = random.between(SHORT_FORM_PRIORITIES + 1, MAX_SERVERS);
-    match seed % 8 {
+    let too_many = *random.pick(&[MAX_SERVERS + 1, MAX_SERVERS + 1, MAX_SERVERS + 1, 2 * MAX_SERVERS, 255]);
+    let (kind, act) = (seed / 2 % 8, seed / 16);
+    match kind {
         0 => refused(random, Form::Short, many),
-        1 => {
-            let too_many = *random.pick(&[MAX_SERVERS + 1, MAX_SERVERS + 1, 2 * MAX_SERVERS, 255]);
-            refused(random, Form::Long, too_many)
-        }
-        2 => {
-            let few = random.between(1, SHORT_FORM_PRIORITIES);
-            played(random, few, seed / 8)
-        }
-        _ => {
-            let servers = *random.pick(&[many, MAX_SERVERS]);
-            played(random, servers, seed / 8)
-        }
+        1 => refused(random, Form::Long, too_many),
+        2 => refused(random, Form::ALL[(seed % 2) as usize], 0),
+        3 => played(random, few, act),
+        4 | 5 => played(random, many, act),
+        _ => played(random, MAX_SERVERS, act),
     }
 }
 
-/// More servers than the form has priorities. The session that follows is never run.
+/// Servers that settings of that form cannot have. The session that follows is never run.
 fn refused(mut random: Random, form: Form, servers: usize) -> Vec<u8> {
     let usual = settings(&mut random);
     let table = tables::everyday(&mut random, usual.configuration);
@@ -54,7 +50,7 @@ fn refused(mut random: Random, form: Form, servers: usize) -> Vec<u8> {
 }
 
 /// A session of that many servers: acts, and steps at random between them.
-fn played(mut random: Random, servers: usize, first_act: u64) -> Vec<u8> {
+fn played(mut random: Random, servers: usize, act: u64) -> Vec<u8> {
     let mut settings = settings(&mut random);
     set_servers(&mut settings, servers);
     settings.priorities = priorities(&mut random, servers);
@@ -63,7 +59,7 @@ fn played(mut random: Random, servers: usize, first_act: u64) -> Vec<u8> {
     let table = tables::everyday(&mut random, settings.configuration);
     let most = random.between(200, 500);
     let mut session = Session::new(random, settings, table).limit(most);
-    ACTS[(first_act % ACTS.len() as u64) as usize](&mut session);
+    ACTS[(act % ACTS.len() as u64) as usize](&mut session);
     while session.goes_on() && session.body_octets_left() > 0 {
         if session.random.once_in(12) {
             let act = *session.random.pick(&ACTS);
@@ -89,7 +85,10 @@ fn priorities(random: &mut Random, servers: usize) -> [u8; MAX_SERVERS] {
         }
         2 => priorities = std::array::from_fn(|place| place as u8),
         3 => priorities = std::array::from_fn(|place| (MAX_SERVERS - place) as u8),
-        4 => priorities[MAX_SERVERS - 1] = 254,
+        4 => {
+            priorities.iter_mut().for_each(|priority| *priority /= 2);
+            (priorities[MAX_SERVERS - 1], priorities[0]) = (254, 253);
+        }
         _ => {}
     }
     if !random.once_in(4) {
