@@ -4,6 +4,7 @@ use crate::answer::*;
 use crate::message::{self, DataHead, Message};
 use crate::table;
 
+pub const MAX_SERVERS: usize = 16;
 pub const MAX_HELD: usize = 64;
 pub const MAX_RECORD_OCTETS: usize = 1024;
 
@@ -23,7 +24,7 @@ pub struct Settings {
     pub boot: u32,
     pub initial: u32,
     pub servers: u8,
-    pub priorities: [u8; 8],
+    pub priorities: [u8; MAX_SERVERS],
     pub threshold: u8,
     pub duration: u16,
 }
@@ -31,7 +32,7 @@ pub struct Settings {
 pub struct State {
     settings: Settings,
     capacity: usize,
-    phases: [Phase; 8],
+    phases: [Phase; MAX_SERVERS],
     active: Option<u8>,
     sent: usize,
     reached: usize,
@@ -41,7 +42,8 @@ pub struct State {
     count: usize,
     lengths: [u16; MAX_HELD],
     templates: [u16; MAX_HELD],
-    receivers: [u8; MAX_HELD],
+    /// The servers that each held record was written to, a bit each.
+    receivers: [u16; MAX_HELD],
     start: usize,
     next: u32,
 }
@@ -53,7 +55,7 @@ type Answer = Result<(), u8>;
 type Wrote = Result<usize, u8>;
 
 fn settings_sound(p: &Settings, capacity: usize) -> bool {
-    (1..=8).contains(&p.servers)
+    (1..=MAX_SERVERS).contains(&(p.servers as usize))
         && (1..=64).contains(&p.threshold)
         && p.duration >= 1
         && (1024..=65536).contains(&capacity)
@@ -67,7 +69,7 @@ impl State {
         Ok(State {
             settings,
             capacity: store.len(),
-            phases: [Phase::Closed; 8],
+            phases: [Phase::Closed; MAX_SERVERS],
             active: None,
             sent: 0,
             reached: 0,
@@ -83,9 +85,9 @@ impl State {
     }
 
     /// The agreed server of highest priority, the lowest number on ties.
-    fn chosen(&self, phases: &[Phase; 8]) -> Option<u8> {
+    fn chosen(&self, phases: &[Phase; MAX_SERVERS]) -> Option<u8> {
         let mut best: Option<(u8, u8)> = None;
-        for v in 0..self.settings.servers.min(8) {
+        for v in 0..self.settings.servers.min(MAX_SERVERS as u8) {
             let priority = self.settings.priorities[v as usize];
             if phases[v as usize] == Phase::Agreed && best.is_none_or(|(_, p)| p < priority) {
                 best = Some((v, priority));
@@ -110,7 +112,7 @@ impl State {
             return self.reached == 0 && self.timer == 0;
         };
         let reached = &self.receivers[..self.reached];
-        let all = reached.iter().fold(u8::MAX, |all, &set| all & set);
+        let all = reached.iter().fold(u16::MAX, |all, &set| all & set);
         all >> v & 1 == 1
     }
 
@@ -121,7 +123,7 @@ impl State {
         }
         let lengths = &self.lengths[..self.count];
         let receivers = &self.receivers[..self.count];
-        let others = !(((1u16 << self.settings.servers) - 1) as u8);
+        let others = !(((1u32 << self.settings.servers) - 1) as u16);
         let held: u32 = lengths.iter().map(|&n| n as u32).sum();
         let long = lengths
             .iter()

@@ -1,13 +1,24 @@
 //! A whole replay: the Rust side's program, and a tape that both programs are run on.
 
-use crate::answer::UNSOUND_TABLE;
-use crate::exporter::{Settings, State};
+use crate::answer::{SETTINGS_OUTSIDE_LIMITS, UNSOUND_TABLE};
+use crate::exporter::{Settings, State, MAX_SERVERS};
 use crate::inputs::{self, OUTPUT_OCTETS};
 use crate::session::{CONFIG, SESSION};
 use crate::table::{self, u16_at, u32_at};
 use std::io::{Read, Write};
 
 const MAX_TAPE_OCTETS: usize = 32768;
+
+/// The octets of the settings before the priorities.
+const OCTETS_BEFORE_PRIORITIES: usize = 16;
+
+/// The priorities of the settings' short form; the long form has one for each server that there can be.
+const SHORT_FORM_PRIORITIES: usize = 8;
+
+/// Whether settings have the octets of one of the two forms.
+fn is_a_form(octets: usize) -> bool {
+    [SHORT_FORM_PRIORITIES, MAX_SERVERS].contains(&octets.wrapping_sub(OCTETS_BEFORE_PRIORITIES))
+}
 
 /// An event of a tape: its kind, the server that it names and its body.
 type Event<'a> = (u8, u8, &'a [u8]);
@@ -19,7 +30,7 @@ fn fits(i: usize, (kind, server, body): Event) -> bool {
         _ => (2..=7).contains(&kind),
     };
     let length_fits = match kind {
-        0 => body.len() == 24,
+        0 => is_a_form(body.len()),
         2 => body.len() >= 2,
         1 | 3 => true,
         _ => body.is_empty(),
@@ -50,17 +61,24 @@ fn events(tape: &[u8]) -> Option<Vec<Event<'_>>> {
     bodies.is_empty().then_some(all)
 }
 
-fn settings(b: &[u8]) -> Settings {
-    Settings {
+/// The settings of either form; 20 for more servers than the form has priorities.
+fn settings(b: &[u8]) -> Result<Settings, u8> {
+    let named = &b[OCTETS_BEFORE_PRIORITIES..];
+    if b[2] as usize > named.len() {
+        return Err(SETTINGS_OUTSIDE_LIMITS);
+    }
+    let mut priorities = [0; MAX_SERVERS];
+    priorities[..named.len()].copy_from_slice(named);
+    Ok(Settings {
         session: b[0],
         config: b[1],
         boot: u32_at(b, 12),
         initial: u32_at(b, 8),
         servers: b[2],
-        priorities: b[16..24].try_into().expect("8 priorities"),
+        priorities,
         threshold: b[3],
         duration: u16_at(b, 4),
-    }
+    })
 }
 
 fn line(text: &mut Vec<u8>, place: usize, answered: Result<usize, u8>, out: &[u8]) {
@@ -113,7 +131,7 @@ pub fn program() -> std::io::Result<()> {
     let mut store = vec![0; u16_at(all[0].2, 6) as usize + 1];
     let mut out = vec![0; OUTPUT_OCTETS];
     let mut text = Vec::new();
-    let made = State::set_up(settings(all[0].2), &store);
+    let made = settings(all[0].2).and_then(|settings| State::set_up(settings, &store));
     line(&mut text, 0, made.as_ref().map(|_| 0).map_err(|a| *a), &out);
     let Ok(mut state) = made else {
         return output.write_all(&text);
@@ -148,7 +166,7 @@ pub fn tape() -> Vec<u8> {
     let mut body = vec![SESSION, CONFIG, 1, 64, 0, 10, 255, 255];
     body.extend(0u32.to_be_bytes());
     body.extend(3600u32.to_be_bytes());
-    body.extend([0; 8]);
+    body.extend([0; SHORT_FORM_PRIORITIES]);
     let put: Vec<u8> = [0, 1].into_iter().chain(inputs::small_record(16)).collect();
     let mut all = vec![
         (0, body),

@@ -1,7 +1,7 @@
 //! A session: an exporter is set up and makes one call after the other, as lent events ask for.
 
 use crate::answer::UNSOUND_STATE;
-use crate::exporter::{Settings, State};
+use crate::exporter::{Settings, State, MAX_SERVERS};
 
 /// The octets of an event: its call, its server, the length of its message, and 16 octets with which the message begins.
 pub const EVENT_OCTETS: usize = 19;
@@ -34,7 +34,7 @@ fn settings(g: Given) -> Settings {
         boot: 3600,
         initial: g.initial,
         servers: g.servers,
-        priorities: [0; 8],
+        priorities: [0; MAX_SERVERS],
         threshold: g.threshold,
         duration: g.duration,
     }

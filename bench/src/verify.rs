@@ -1,5 +1,6 @@
 //! Both sides give the same numbers and octets, on what is measured and on damaged copies of it.
 
+use crate::exporter::MAX_SERVERS;
 use crate::inputs::{self, Events, Valid, OUTPUT_OCTETS};
 use crate::session::{session, Given, EVENT_OCTETS};
 use crate::{edition, ipdr, library, message, table, walk};
@@ -118,7 +119,7 @@ fn compare_beginnings(g: Given, lent: Lent, v: &Valid, list: &Events) -> usize {
 }
 
 /// A list of events drawn at random, most of which are accepted.
-fn drawn(random: &mut Random, n: usize) -> Events {
+fn drawn(random: &mut Random, servers: u8, n: usize) -> Events {
     let mut list = Events::opening();
     for _ in 0..n {
         list = match random.below(24) {
@@ -130,7 +131,7 @@ fn drawn(random: &mut Random, n: usize) -> Events {
             }
             19 => list.ticks(1 + random.below(3)),
             20 | 21 => {
-                let server = random.below(3) as u8;
+                let server = random.below(servers as usize + 1) as u8;
                 list.receive(server, &inputs::bare(message::START));
                 list.offer(server);
                 list.receive(server, &inputs::final_tmpl_data_ack());
@@ -139,7 +140,7 @@ fn drawn(random: &mut Random, n: usize) -> Events {
             22 => {
                 let kind =
                     [message::STOP, message::START_NEGOTIATE, message::START][random.below(3)];
-                list.receive(random.below(2) as u8, &inputs::bare(kind));
+                list.receive(random.below(servers as usize) as u8, &inputs::bare(kind));
                 list
             }
             _ => {
@@ -301,7 +302,7 @@ fn drawn_sessions(random: &mut Random) -> usize {
 /// A list of drawn events with drawn settings, a small store and in places a short output.
 fn drawn_session(random: &mut Random) -> usize {
     let g = Given {
-        servers: 1 + random.below(2) as u8,
+        servers: [1, 2, MAX_SERVERS as u8][random.below(3)],
         threshold: 1 + random.below(3) as u8,
         duration: 1 + random.below(4) as u16,
         initial: inputs::GIVEN.initial,
@@ -313,7 +314,7 @@ fn drawn_session(random: &mut Random) -> usize {
         big.little()
     };
     let out = if random.below(4) == 0 { 40 } else { 2000 };
-    let list = drawn(random, 150);
+    let list = drawn(random, g.servers, 150);
     let store = 1024 + random.below(100);
     compare_beginnings(g, Lent { store, out }, &v, &list)
 }
