@@ -18,7 +18,7 @@
 //! ```
 //!
 //! Up to eight priorities give the short form of settings, 24 octets, and nine to sixteen the long one, 32 octets; those
-//! left out are 0.
+//! left out are 0. They may stand on an indented line of their own.
 //!
 //! `table configuration=1 order=little` begins a little-endian table. A record is given in hex, or field by field: by the
 //! name of its type and its value, in the order that the table states.
@@ -158,6 +158,13 @@ mod tests {
             assert_eq!(settings_of(&numbers(count)), Ok([before.clone(), priorities].concat()), "{count}");
         }
         assert_eq!(settings_of(&numbers(17)), Err("line 1: more than 16 priorities".to_string()));
+        for count in [8, 9] {
+            let text = SETTINGS.replace("priorities=1", &format!("\n  priorities={}  # so many", numbers(count)));
+            let body = encode(&format!("{text}\n{TABLE}\n")).and_then(|octets| tape::split(&octets));
+            assert_eq!(body.map(|events| events[0].body.clone()), settings_of(&numbers(count)));
+        }
+        let missing = encode(&format!("{}\n{TABLE}\n", SETTINGS.replace("priorities=1", "")));
+        assert_eq!(missing, Err("event 0: settings of 16 octets, not 24 or 32".to_string()));
         assert_eq!(settings_of("1,256"), Err("line 1: '256' is not a number from 0 to 255".to_string()));
     }
 

@@ -69,8 +69,9 @@ impl Encoder {
         Ok(())
     }
 
+    /// The settings; where the line has no priorities, those of an indented line follow.
     fn settings(&mut self, words: &mut Words) -> Result<Event, String> {
-        let mut settings = Settings {
+        let settings = Settings {
             session: words.number("session", 255)? as u8,
             configuration: words.number("configuration", 255)? as u8,
             servers: words.number("servers", 255)? as u8,
@@ -85,10 +86,11 @@ impl Encoder {
             form: Form::Short,
             priorities: [0; MAX_SERVERS],
         };
-        let text = words.take_named("priorities").ok_or("'priorities=' is missing")?;
-        (settings.form, settings.priorities) = priorities(&text)?;
         self.session = settings.session;
-        Ok(Event::settings(&settings))
+        let mut event = Event::settings(&settings);
+        event.body.truncate(tape::OCTETS_BEFORE_PRIORITIES);
+        event.body.extend(priorities_of_words(words)?);
+        Ok(event)
     }
 
     /// A table in hex, or the first line of one that is given part by part.
@@ -120,6 +122,7 @@ impl Encoder {
                 template.keys.push(key_of_words(&mut words)?);
             }
             (_, Some(_)) => return Err("a table goes on with 'template' or 'key'".to_string()),
+            (None, None) if last.kind == tape::SETTINGS => last.body.extend(priorities_of_words(&mut words)?),
             (_, None) if last.kind == tape::PUT => last.body.extend(record_of_words(order, &mut words)?),
             (_, None) => last.body.extend(words.take_hex()?),
         }
@@ -209,15 +212,16 @@ fn key_of_words(words: &mut Words) -> Result<Key, String> {
     Ok(Key { id, kind, disabled: words.take_plain("disabled") })
 }
 
-/// Numbers with commas between, and the shortest form of settings that has a place for each; those not named are 0.
-fn priorities(text: &[u8]) -> Result<(Form, [u8; MAX_SERVERS]), String> {
-    let mut priorities = [0; MAX_SERVERS];
-    let text = String::from_utf8_lossy(text);
-    let parts: Vec<&str> = text.split(',').collect();
-    let form = Form::ALL.into_iter().find(|form| parts.len() <= form.priorities());
-    let form = form.ok_or_else(|| format!("more than {MAX_SERVERS} priorities"))?;
-    for (priority, part) in priorities.iter_mut().zip(parts) {
-        *priority = number(part, 255)? as u8;
-    }
-    Ok((form, priorities))
+/// `priorities=5,3`, which may be missing: all priorities of the shortest form of settings that has a place for each number;
+/// those left out are 0.
+fn priorities_of_words(words: &mut Words) -> Result<Vec<u8>, String> {
+    let Some(text) = words.take_named("priorities") else {
+        return Ok(Vec::new());
+    };
+    let text = String::from_utf8_lossy(&text);
+    let numbers: Result<Vec<u8>, String> = text.split(',').map(|part| Ok(number(part, 255)? as u8)).collect();
+    let mut priorities = numbers?;
+    let form = Form::ALL.into_iter().find(|form| priorities.len() <= form.priorities());
+    priorities.resize(form.ok_or_else(|| format!("more than {MAX_SERVERS} priorities"))?.priorities(), 0);
+    Ok(priorities)
 }
