@@ -16,7 +16,7 @@ use std::time::{Duration, Instant};
 
 const USAGE: &str = "usage: compare --program PATH [options]
   --program PATH        the replay program: a tape on standard input, lines on standard output
-  --tapes N             how many tapes (2300)
+  --tapes N             how many tapes (2800)
   --inputs N            how many inputs for the static library's functions, and how many messages of editions (120000)
   --many N              N times as many of all
   --seed S              the first seed (1); each seed gives other tapes and inputs

@@ -213,7 +213,8 @@ fn later(random: &mut Random, events: Vec<Event>, change: fn(&mut Random, &mut E
 fn with_server(random: &mut Random, events: Vec<Event>, kind: u8) -> Vec<u8> {
     let places: Vec<usize> = (0..events.len()).filter(|place| events[*place].kind == kind).collect();
     let place = *random.pick(&places);
-    let server = *random.pick(&[1, 2, 7, 8, 128, 255]);
+    let [short, long] = Form::ALL.map(|form| form.priorities() as u8);
+    let server = *random.pick(&[1, 2, short - 1, short, long - 1, long, 128, 255]);
     changed(events, place, |event| event.server = server)
 }
 

@@ -17,6 +17,9 @@ const BETWEEN: Mix =
 const ACTS: [fn(&mut Session); 7] =
     [to_all, by_priority, late_one_after_another, negotiation, closing, alone, no_such_servers];
 
+/// The kinds of tapes, which come round in turn.
+const KINDS: u64 = 8;
+
 /// Settings that are refused for their servers, sessions of few servers, and for the half sessions of many, among them
 /// as many as there can be.
 pub fn sixteen(profile: usize, seed: u64) -> Vec<u8> {
@@ -24,11 +27,12 @@ pub fn sixteen(profile: usize, seed: u64) -> Vec<u8> {
     let few = random.between(1, SHORT_FORM_PRIORITIES);
     let many = random.between(SHORT_FORM_PRIORITIES + 1, MAX_SERVERS);
     let too_many = *random.pick(&[MAX_SERVERS + 1, MAX_SERVERS + 1, MAX_SERVERS + 1, 2 * MAX_SERVERS, 255]);
-    let (kind, act) = (seed / 2 % 8, seed / 16);
+    let form = *random.pick(&Form::ALL);
+    let (kind, act) = (seed % KINDS, seed / KINDS);
     match kind {
         0 => refused(random, Form::Short, many),
         1 => refused(random, Form::Long, too_many),
-        2 => refused(random, Form::ALL[(seed % 2) as usize], 0),
+        2 => refused(random, form, 0),
         3 => played(random, few, act),
         4 | 5 => played(random, many, act),
         _ => played(random, MAX_SERVERS, act),

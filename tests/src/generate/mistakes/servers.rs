@@ -10,8 +10,10 @@ use crate::tape::{Form, DOWN};
 /// The last server that there can be.
 const LAST: u8 = MAX_SERVERS as u8 - 1;
 
-/// The place of the server count in the settings.
+/// The places of the server count, of the store's length and of the first DSN in the settings.
 const SERVERS_AT: usize = 2;
+const STORE_AT: usize = 6;
+const FIRST_DSN_AT: usize = 8;
 
 /// A server for which only the long form has a priority.
 fn is_above(server: u8) -> bool {
@@ -35,9 +37,10 @@ const SERVER_MISTAKES: [Mistake; 16] = [
     }),
     mistake("a resend to a server above 7 has D", |program, event| {
         let resends = program.replay.exporter.sent < program.replay.exporter.reached;
-        match resends {
-            true => program.sets_d(event, |others, active| !others.is_empty() || is_above(active)),
-            false => program.right(event),
+        if resends {
+            program.sets_d(event, |others, active| !others.is_empty() || is_above(active))
+        } else {
+            program.right(event)
         }
     }),
     Mistake { name: "the highest number is chosen on ties", begin: reversed_priorities, event: Program::reversed },
@@ -82,19 +85,20 @@ const SERVER_MISTAKES: [Mistake; 16] = [
         })
     }),
     mistake("server numbers have three bits", |program, event| {
-        program.renumbered(event, |server, servers| match server < servers {
-            true => server % SHORT_FORM_PRIORITIES as u8,
-            false => server,
-        })
+        program.renumbered(
+            event,
+            |server, servers| if server < servers { server % SHORT_FORM_PRIORITIES as u8 } else { server },
+        )
     }),
     mistake("server numbers have four bits", |program, event| {
         program.renumbered(event, |server, _| server % MAX_SERVERS as u8)
     }),
     mistake("all sixteen servers are there", |program, event| {
         let outcome = program.right(event);
-        match event.kind == DOWN && event.server <= LAST {
-            true => Outcome { answer: DONE, ..outcome },
-            false => outcome,
+        if event.kind == DOWN && event.server <= LAST {
+            Outcome { answer: DONE, ..outcome }
+        } else {
+            outcome
         }
     }),
 ];
@@ -227,19 +231,23 @@ const SETTINGS_MISTAKES: [SettingsMistake; 17] = [
     }),
     ("first DSN and boot time of 32 octets are read behind the priorities", |form, body| match form {
         Form::Short => Replay::set_up(body),
-        Form::Long => set_up_with(body, |body| body[8..].rotate_right(8)),
+        Form::Long => set_up_with(body, |body| {
+            let octets = OCTETS_BEFORE_PRIORITIES - FIRST_DSN_AT;
+            body[FIRST_DSN_AT..].rotate_right(octets);
+        }),
     }),
     ("the store's length of 32 octets is read from the first DSN", |form, body| match form {
         Form::Short => Replay::set_up(body),
-        Form::Long => set_up_with(body, |body| body.copy_within(8..10, 6)),
+        Form::Long => set_up_with(body, |body| body.copy_within(FIRST_DSN_AT..FIRST_DSN_AT + 2, STORE_AT)),
     }),
 ];
 
 /// Set-up, which refuses the settings where that is so.
 fn refused_if(is_so: bool, body: &[u8]) -> Result<Replay, u8> {
-    match is_so {
-        true => Err(SETTINGS_OUTSIDE_LIMITS),
-        false => Replay::set_up(body),
+    if is_so {
+        Err(SETTINGS_OUTSIDE_LIMITS)
+    } else {
+        Replay::set_up(body)
     }
 }
 
