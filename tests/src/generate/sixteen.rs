@@ -20,8 +20,8 @@ const ACTS: [fn(&mut Session); 7] =
 /// The kinds of tapes, which come round in turn.
 const KINDS: u64 = 8;
 
-/// Settings that are refused for their servers, sessions of few servers, and for the half sessions of many, among them
-/// as many as there can be.
+/// Settings that are refused for their servers, sessions of few servers, and in half of the tapes sessions of many, among
+/// them those of as many as there can be.
 pub fn sixteen(profile: usize, seed: u64) -> Vec<u8> {
     let mut random = random_of(profile, seed);
     let few = random.between(1, SHORT_FORM_PRIORITIES);

@@ -83,6 +83,7 @@ impl Encoder {
             },
             first_dsn: words.number("first-dsn", u64::from(u32::MAX))? as u32,
             boot: words.number("boot", u64::from(u32::MAX))? as u32,
+            // The priorities that the words say take the place of these.
             form: Form::Short,
             priorities: [0; MAX_SERVERS],
         };
