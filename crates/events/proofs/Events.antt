@@ -1,17 +1,18 @@
 -- Laws of the events: the settings and what event 0 does with them; the call that an event makes, by its kind, and what the calls without
 -- a message write. A kind is tested against each name in turn, so its call is that of the first test that holds. Of the output a call looks
 -- at nothing but the length.
-use mathlib.Core.Path.{_≡_, refl, sym, ap}
+use mathlib.Core.Path.{_≡_, refl, sym, ap, _∙_}
 use mathlib.Core.Bool.{Bool, true, false, cond}
 use mathlib.Core.List.{List, []}
-use Prim.Native.Nat.{ℕ, _-_, _≤_}
+use Prim.Native.Nat.{ℕ, _+_, _-_, _≤_, _<_}
 use native.Mathlib.Omega.{arith}
-use lib.ListN.{length, take, drop, replicate, length-take}
+use lib.ListN.{length, getD, take, drop, replicate, length-take, length-drop, List·getD-append, List·getD-eq-default}
+use lib.Seq.{sets-eq, length-sets, getD-take, getD-drop}
 use lib.Dec.{eqb, ltb}
-use borrow.Author.Tests.{ne-eqb}
+use borrow.Author.Tests.{ne-eqb, le-ltb, ltb-true, ltb-false}
 use Rattle.octets.specs.Answers.{done}
 use Rattle.octets.specs.Numbers.{putAt, uintAt, Octets}
-use Rattle.octets.proofs.Numbers.{uint-below}
+use Rattle.octets.proofs.Numbers.{uint-in-same, uint-below}
 use Rattle.octets.proofs.Stores.{put-fits}
 use Rattle.exporter.specs.Replies.{Reply, silent, crane, layout}
 use Rattle.session.specs.Limits.{maxServers, maxStoreOctets}
@@ -19,6 +20,7 @@ use Rattle.session.specs.Servers.{down, offer}
 use Rattle.session.specs.Steps.{put, nextData, tick, move, received, step, written, Outcome, steppedOf, wroteOf, outputAfter, putStep}
 use Rattle.session.specs.Steps.{tickStep, lineDownStep, refusedSetUp, setUp}
 use Rattle.session.proofs.Written.{writes-nothing}
+use Rattle.session.specs.Priorities.{withPriorities, SameUsed}
 use Rattle.session.specs.InOctets.{Event, Put, NextData, Receive, OfferTemplates, LineDown, Tick}
 use Rattle.session.specs.declared.state.State.{State}
 use Rattle.session.specs.declared.state.Stepped.{Stepped}
@@ -35,6 +37,65 @@ pub priorities-fit : (b : List ℕ) → putAt (replicate maxServers 0) 0 (octets
 unfolding octetsAt
 priorities-fit b =
     put-fits (replicate maxServers 0) 0 (take maxServers (drop prioritiesAt b)) (omega (arith, length-take maxServers (drop prioritiesAt b)))
+
+-- one of them is the octet at its place; from the most servers on there is none
+priority-at : (b : List ℕ) (v : ℕ) → v < maxServers → prioritiesAt + v < length b → getD (prioritiesOf b) v 0 ≡ getD b (prioritiesAt + v) 0
+unfolding octetsAt
+priority-at b v l h =
+    let part = take maxServers (drop prioritiesAt b) in
+    let n = length-take maxServers (drop prioritiesAt b) in
+    let k = length-drop prioritiesAt b in
+    rw (sets-eq part (replicate maxServers 0) 0 (omega (arith, n)))
+    (List·getD-append part (drop (0 + length part) (replicate maxServers 0)) 0 v (omega (arith, n, k))
+    ∙ getD-take maxServers (drop prioritiesAt b) v 0 l ∙ getD-drop prioritiesAt b v 0)
+
+no-priority : (b : List ℕ) (v : ℕ) → maxServers ≤ v → getD (prioritiesOf b) v 0 ≡ 0
+no-priority b v h =
+    let n = length-sets (replicate {A = ℕ} maxServers 0) 0 (octetsAt b prioritiesAt maxServers) in
+    List·getD-eq-default (prioritiesOf b) 0 (omega (arith, n))
+
+-- bodies that are the same up to the priorities of n servers have the same priorities for these
+pub used-same : (b c : List ℕ) (n : ℕ) → prioritiesAt + n ≤ length b → prioritiesAt + n ≤ length c
+    → ((i : ℕ) → i < prioritiesAt + n → getD b i 0 ≡ getD c i 0) → SameUsed n (settingsOf b .priorities) (prioritiesOf c)
+unfolding settingsOf
+used-same b c n h k e v l = go (ltb v maxServers) refl
+  where
+    go : (x : Bool) → ltb v maxServers ≡ x → getD (prioritiesOf b) v 0 ≡ getD (prioritiesOf c) v 0
+    go true g =
+        let m = ltb-true v maxServers g in
+        priority-at b v m (omega arith) ∙ e (prioritiesAt + v) (omega arith) ∙ sym (priority-at c v m (omega arith))
+    go false g =
+        let m = ltb-false v maxServers g in
+        no-priority b v m ∙ sym (no-priority c v m)
+
+-- and those that are the same up to the priorities have the same other settings and name the same store
+number-same-at : (b c : List ℕ) → ((i : ℕ) → i < prioritiesAt → getD b i 0 ≡ getD c i 0) → (at w : ℕ) → at + w ≤ prioritiesAt
+    → uintAt b at w ≡ uintAt c at w
+number-same-at b c h at w l = uint-in-same _ b c at at w (λ i k. h (at + i) (omega arith))
+
+pub settings-same : (b c : List ℕ) → ((i : ℕ) → i < prioritiesAt → getD b i 0 ≡ getD c i 0)
+    → settingsOf c ≡ withPriorities (prioritiesOf c) (settingsOf b)
+unfolding settingsOf
+settings-same b c h =
+    let same = number-same-at b c h in
+    rw (
+      same 0 1 (omega arith),
+      same 1 1 (omega arith),
+      same 2 1 (omega arith),
+      same 3 1 (omega arith),
+      same 4 2 (omega arith),
+      same 8 4 (omega arith),
+      same 12 4 (omega arith),
+    )
+    refl
+
+pub store-same : (b c : List ℕ) → ((i : ℕ) → i < prioritiesAt → getD b i 0 ≡ getD c i 0) → storeLength b ≡ storeLength c
+store-same b c h = ap (λ (n : ℕ). n + 1) (number-same-at b c h 6 2 (omega arith))
+
+-- an event 0 with a priority for every server does what set-up does with its settings
+pub set-up-enough : (b : List ℕ) (room : ℕ) → prioritiesAt + settingsOf b .servers ≤ length b → setUpBy b room ≡ setUp (settingsOf b) room
+unfolding setUpBy
+set-up-enough b room h = rw (le-ltb (length b - prioritiesAt) (settingsOf b .servers) (omega arith)) refl
 
 -- an event 0 that is answered 0 did what set-up does with its settings
 pub set-up-accepted : (b : List ℕ) (room : ℕ) → setUpBy b room .answer ≡ done → setUpBy b room ≡ setUp (settingsOf b) room

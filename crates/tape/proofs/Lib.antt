@@ -1,2 +1,3 @@
 pub mod Turns
 pub mod Replays
+pub mod Unused
