@@ -70,7 +70,7 @@ unfoldable pub bodyAt : List ℕ → ℕ → ℕ
 bodyAt t zero = contentsAt (eventCount t)
 bodyAt t (suc i) = bodyAt t i + bodyLength t i
 
--- The n octets from a place on; fewer where the tape ends before.
+-- The n octets from a place on, of a tape or of a body; fewer where it ends before.
 unfoldable pub octetsAt : List ℕ → ℕ → ℕ → List ℕ
 octetsAt t at n = take n (drop at t)
 

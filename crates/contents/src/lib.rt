@@ -123,7 +123,7 @@ pub fn body_at(tape: &[u8], i: u16) -> usize
     at
 }
 
-// The n octets from a place on, or as many as there are.
+// The n octets from a place on, of a tape or of a body, or as many as there are.
 pub fn part(tape: &[u8], at: usize, n: usize) -> &[u8]
     ensures { λ r. ⌜ now r ≡ octetsAt (now (tape .entry)) at n ⌝ }
 {

@@ -36,7 +36,8 @@ use Rattle.events.specs.Events.{effect, effectStore, Gives}
 pub priorities-fit : (b : List ℕ) → putAt (replicate maxServers 0) 0 (octetsAt b prioritiesAt maxServers) ≡ prioritiesOf b
 unfolding octetsAt
 priorities-fit b =
-    put-fits (replicate maxServers 0) 0 (take maxServers (drop prioritiesAt b)) (omega (arith, length-take maxServers (drop prioritiesAt b)))
+    let part = drop prioritiesAt b in
+    put-fits (replicate maxServers 0) 0 (take maxServers part) (omega (arith, length-take maxServers part))
 
 -- one of them is the octet at its place; from the most servers on there is none
 priority-at : (b : List ℕ) (v : ℕ) → v < maxServers → prioritiesAt + v < length b → getD (prioritiesOf b) v 0 ≡ getD b (prioritiesAt + v) 0

@@ -42,10 +42,10 @@ settingsOf b =
 abbrev pub storeLength : List ℕ → ℕ
 storeLength b = uintAt b 6 2 + 1
 
--- Event 0 sets an exporter up, over a store of a length. Where it names more servers than it has priorities it is refused with 20, as are
--- more than 8 in the form of 24 octets (02, ask 7).
+-- Event 0 sets an exporter up, over a store of a length. It is refused with 20 where it names more servers than it has priorities, more
+-- than 8 with 24 octets and more than 16 with 32 (02, ask 7); else it is judged as set-up judges its settings.
 unfoldable pub setUpBy : List ℕ → ℕ → Made
-setUpBy b room = cond (ltb (length b - prioritiesAt) (settingsOf b .servers)) refusedSetUp (setUp (settingsOf b) room)
+setUpBy b capacity = cond (ltb (length b - prioritiesAt) (settingsOf b .servers)) refusedSetUp (setUp (settingsOf b) capacity)
 
 -- Event 1 is judged as a put judges the table that it is lent.
 abbrev pub tableAnswer : Settings → List ℕ → ℕ

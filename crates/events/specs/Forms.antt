@@ -14,12 +14,12 @@ bodyWith servers priorities =
     0x07 ∷ 0x01 ∷ servers ∷ 0x01 ∷ 0x00 ∷ 0x0A ∷ 0x03 ∷ 0xFF ∷ 0x00 ∷ 0x00 ∷ 0x00 ∷ 0x00 ∷ 0x00 ∷ 0x00 ∷ 0x0E ∷ 0x10 ∷ priorities
 
 -- The priorities of the shorter form.
-abbrev pub few : List ℕ
-few = 0x11 ∷ 0x12 ∷ 0x13 ∷ 0x14 ∷ 0x15 ∷ 0x16 ∷ 0x17 ∷ 0x18 ∷ []
+abbrev pub eightPriorities : List ℕ
+eightPriorities = 0x11 ∷ 0x12 ∷ 0x13 ∷ 0x14 ∷ 0x15 ∷ 0x16 ∷ 0x17 ∷ 0x18 ∷ []
 
 -- The priorities of the longer form.
-abbrev pub many : List ℕ
-many = few ++ (0x19 ∷ 0x1A ∷ 0x1B ∷ 0x1C ∷ 0x1D ∷ 0x1E ∷ 0x1F ∷ 0x20 ∷ [])
+abbrev pub sixteenPriorities : List ℕ
+sixteenPriorities = eightPriorities ++ (0x19 ∷ 0x1A ∷ 0x1B ∷ 0x1C ∷ 0x1D ∷ 0x1E ∷ 0x1F ∷ 0x20 ∷ [])
 
 -- What event 0 answers with these priorities, by how many servers it names.
 abbrev pub answersWith : List ℕ → List ℕ → List ℕ
@@ -48,11 +48,11 @@ eachOctetBody priorities =
 pub record SettingsForms : Type 0 where
   -- of all lengths up to 127 a body of event 0 can have 24 and 32
   pub lengths : numbersWhere (bodyLengthFits settingsKind) 128 ≡ 24 ∷ 32 ∷ []
-  -- with 24 octets 1 to 8 servers are accepted, and all others are 20
-  pub shorter : answersWith few (0 ∷ 1 ∷ 8 ∷ 9 ∷ 16 ∷ 17 ∷ 255 ∷ []) ≡ 20 ∷ 0 ∷ 0 ∷ 20 ∷ 20 ∷ 20 ∷ 20 ∷ []
-  -- with 32 octets 1 to 16
-  pub longer : answersWith many (0 ∷ 1 ∷ 8 ∷ 9 ∷ 16 ∷ 17 ∷ 255 ∷ []) ≡ 20 ∷ 0 ∷ 0 ∷ 0 ∷ 0 ∷ 20 ∷ 20 ∷ []
+  -- with 24 octets 1 and 8 servers are accepted, and none, 9, 16, 17 and 255 are 20
+  pub shorter : answersWith eightPriorities (0 ∷ 1 ∷ 8 ∷ 9 ∷ 16 ∷ 17 ∷ 255 ∷ []) ≡ 20 ∷ 0 ∷ 0 ∷ 20 ∷ 20 ∷ 20 ∷ 20 ∷ []
+  -- with 32 octets 1, 8, 9 and 16 are accepted, and none, 17 and 255 are 20
+  pub longer : answersWith sixteenPriorities (0 ∷ 1 ∷ 8 ∷ 9 ∷ 16 ∷ 17 ∷ 255 ∷ []) ≡ 20 ∷ 0 ∷ 0 ∷ 0 ∷ 0 ∷ 20 ∷ 20 ∷ []
   -- each number is read from its octets, in both forms alike
-  pub shorterRead : settingsOf (eachOctetBody few) ≡ eachOctet (few ++ replicate 8 0)
-  pub longerRead : settingsOf (eachOctetBody many) ≡ eachOctet many
-  pub storeRead : map storeLength (eachOctetBody few ∷ eachOctetBody many ∷ []) ≡ 0x0709 ∷ 0x0709 ∷ []
+  pub shorterRead : settingsOf (eachOctetBody eightPriorities) ≡ eachOctet (eightPriorities ++ replicate 8 0)
+  pub longerRead : settingsOf (eachOctetBody sixteenPriorities) ≡ eachOctet sixteenPriorities
+  pub storeRead : map storeLength (map eachOctetBody (eightPriorities ∷ sixteenPriorities ∷ [])) ≡ 0x0709 ∷ 0x0709 ∷ []

@@ -15,7 +15,7 @@ use lib.ListN.{length, getD, set, take, drop, replicate, length-drop, length-rep
 use lib.Seq.{take-suc, take-all, drop-at, getD-drop}
 use Rattle.octets.specs.Each.{every}
 use Rattle.octets.proofs.Each.{every-at}
-use Rattle.session.specs.Limits.{maxServers}
+use Rattle.session.specs.Limits.{maxServers, allServers}
 use Rattle.session.specs.Queue.{sumOf, has, hasOther, shifted}
 
 -- ---- sums
@@ -122,6 +122,6 @@ has-both a b v =
     ∙ both-bits (a / 2 ^ v % 2) (b / 2 ^ v % 2) (mod-lt (a / 2 ^ v) {m = 2} (omega arith)) (mod-lt (b / 2 ^ v) {m = 2} (omega arith))
 
 -- all servers that there can be are in the largest set
-pub has-all : (v : ℕ) → v < maxServers → has (2 ^ maxServers - 1) v ≡ true
+pub has-all : (v : ℕ) → v < maxServers → has allServers v ≡ true
 unfolding has every
-has-all v l = every-at maxServers (λ u. has (2 ^ maxServers - 1) u) refl v l
+has-all v l = every-at maxServers (λ u. has allServers u) refl v l

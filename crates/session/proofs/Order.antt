@@ -20,6 +20,7 @@ unfolding numberOf uintIn octetsIn every firstFrom isType widthOf isMessage body
 refusal-order =
     record {
       setUps = (refl, (refl, (refl, refl)));
+      sets = (refl, refl);
       put = refl;
       nextData = refl;
       offer = refl;

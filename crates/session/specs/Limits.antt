@@ -1,9 +1,13 @@
--- The limits of an exporter (01, "Exporter"), each under one name. The most octets of a record is wire's.
-use Prim.Native.Nat.{ℕ}
+-- The limits of an exporter (01, "Exporter"; the servers by 02, ask 7), each under one name. The most octets of a record is wire's.
+use Prim.Native.Nat.{ℕ, _-_, _^_}
 
 -- The most servers.
 abbrev pub maxServers : ℕ
 maxServers = 16
+
+-- The set of all servers that there can be; a set has a bit for each of them.
+abbrev pub allServers : ℕ
+allServers = 2 ^ maxServers - 1
 
 -- The greatest threshold.
 abbrev pub maxThreshold : ℕ

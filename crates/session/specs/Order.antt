@@ -9,10 +9,10 @@ use lib.ListN.{set, drop, replicate}
 use Rattle.wire.specs.Messages.{readAnswer, writeAnswer, headWriteAnswer}
 use Rattle.messages.specs.declared.message.Message.the-variants.{TmplData, Data}
 use Rattle.session.specs.Limits.{maxServers, maxHeld, minStoreOctets}
-use Rattle.session.specs.Servers.{withCounts}
+use Rattle.session.specs.Servers.{withCounts, freshDelivery}
 use Rattle.session.specs.Steps.{withDelivery, setUp}
 use Rattle.session.specs.InOctets.{Event, Put, NextData, Receive, OfferTemplates, LineDown, Tick, eventStep}
-use Rattle.session.specs.Examples.{aTable, settingsWith, alone}
+use Rattle.session.specs.Examples.{aTable, settingsWith, settingsOf, exporterOf, alone}
 use Rattle.session.specs.Rules.{pair}
 use Rattle.session.specs.declared.state.Phase.{Phase}
 use Rattle.session.specs.declared.state.Phase.the-variants.{Closed, Started, Offered, Agreed}
@@ -76,6 +76,16 @@ SetUpLimits =
     × ((map (λ n. judged 1 n 1 1024) (0 ∷ 1 ∷ 64 ∷ 65 ∷ []) ≡ 20 ∷ 0 ∷ 0 ∷ 20 ∷ [])
     × ((map (λ n. judged 1 1 n 1024) (0 ∷ 1 ∷ 65535 ∷ []) ≡ 20 ∷ 0 ∷ 0 ∷ [])
     × (map (λ n. judged 1 1 1 n) (1023 ∷ 1024 ∷ 65536 ∷ 65537 ∷ []) ≡ 20 ∷ 0 ∷ 0 ∷ 20 ∷ [])))
+
+-- ---- sets of servers
+
+-- With n servers the set of the first n is sound, and one that has server n is 1.
+abbrev pub SetLimits : Type 0
+SetLimits =
+    let judged : ℕ → ℕ → ℕ = λ servers set.
+    answerOf (over (exporterOf (settingsOf servers (replicate maxServers 0)) freshDelivery 1 (replicate maxHeld 2) set 1) Tick) in
+    (judged 1 1 ∷ judged 8 255 ∷ judged 15 32767 ∷ judged 16 65535 ∷ [] ≡ 0 ∷ 0 ∷ 0 ∷ 0 ∷ [])
+    × (judged 1 2 ∷ judged 8 256 ∷ judged 15 32768 ∷ judged 16 65536 ∷ [] ≡ 1 ∷ 1 ∷ 1 ∷ 1 ∷ [])
 
 -- ---- the calls of an exporter
 
@@ -250,6 +260,7 @@ DataOrder =
 -- All of them.
 pub record RefusalOrder : Type 0 where
   pub setUps : SetUpLimits
+  pub sets : SetLimits
   pub put : PutOrder
   pub nextData : NextDataOrder
   pub offer : OfferOrder

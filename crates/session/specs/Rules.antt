@@ -4,11 +4,11 @@ use mathlib.Core.Path.{_≡_}
 use mathlib.Core.Logic.{_≢_}
 use mathlib.Core.Bool.{Bool, true, not, _||_, cond}
 use mathlib.Core.List.{List, [], _∷_, _++_, map}
-use Prim.Native.Nat.{ℕ, _*_, _-_, _^_}
+use Prim.Native.Nat.{ℕ, _*_, _-_}
 use lib.Dec.{eqb}
 use lib.ListN.{getD, set, replicate}
 use Rattle.octets.specs.Answers.{done, outOfTurn}
-use Rattle.session.specs.Limits.{maxServers, maxHeld, minStoreOctets}
+use Rattle.session.specs.Limits.{maxServers, allServers, maxHeld, minStoreOctets}
 use Rattle.session.specs.Servers.{server, phaseAt, isAgreed, sameActive, withCounts}
 use Rattle.session.specs.Servers.{Transition, start, stop, negotiate, offer, down, agree, malformed, transition}
 use Rattle.session.specs.Steps.{octetsWritten, setUp}
@@ -112,7 +112,7 @@ pair v u own other timer =
     let sent : ℕ = cond (isAgreed own || isAgreed other) 1 0 in
     exporterOf (settingsOf maxServers (set (replicate maxServers 0) v 1))
     (record { servers = both v u own other; active = activeOf v u own other; sent = sent; reached = sent; timer = sent * timer })
-    1 (replicate maxHeld 2) (2 ^ maxServers - 1) 1
+    1 (replicate maxHeld 2) allServers 1
 
 -- An answer, what is left of the delivery, whether S is due, and the octets written.
 pub record Result : Type 0 where

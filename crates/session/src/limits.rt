@@ -1,4 +1,4 @@
-// The limits of an exporter (01, "Exporter"). specs/Limits.antt names the same numbers, and what a function tests against one of these it
+// The limits of an exporter (01, "Exporter"; the servers by 02, ask 7). specs/Limits.antt names the same numbers, and what a function tests against one of these it
 // is proved to test against that.
 
 // The most servers.

@@ -65,7 +65,8 @@ fn no_settings() -> Settings
     }
 }
 
-// What set-up answers to settings or a store outside the limits: 20, and a state that every call refuses.
+// What set-up answers to settings or a store outside the limits: 20, and a state that every call refuses. For a caller whose settings have
+// a further limit, as those of a tape have.
 pub fn refused_set_up() -> Made
     ensures { λ r. ⌜ r ≡ refusedSetUp ⌝ }
 {

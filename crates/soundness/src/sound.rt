@@ -45,8 +45,8 @@ fn numbers_sound(p: Settings, room: usize, d: Delivery, count: usize, start: usi
         & (d.timer < p.duration)
 }
 
-// A set of servers as a wider number, so that it can be compared with a bound of one bit more than it has.
-fn wide(set: u16) -> u32
+// A set of servers as a wider number, so that it can be compared with a bound that has one bit more.
+fn widened(set: u16) -> u32
     ensures { λ r. ⌜ r ≡ set ⌝ }
 {
     set as u32
@@ -67,7 +67,7 @@ fn entries_sound<'a>(
     let mut ok = true;
     let mut i: usize = 0;
     while i < n {
-        ok = ok & ((lengths[i] <= most) & (wide(receivers[i]) < bound));
+        ok = ok & ((lengths[i] <= most) & (widened(receivers[i]) < bound));
         i += 1;
     }
     ok

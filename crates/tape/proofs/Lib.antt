@@ -1,3 +1,4 @@
 pub mod Turns
 pub mod Replays
 pub mod Unused
+pub mod Openings

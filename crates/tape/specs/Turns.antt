@@ -28,7 +28,7 @@ pub record Played : Type 0 where
   pub store : List ℕ
 
 -- Opening a tape over a store, which is to have the length that the settings name (`storeLength`): the tape is judged 22, then its settings
--- 20 by the store's own length. After a refusal no event is left, and the state counts for nothing.
+-- 20 (`setUpBy`), by the store's own length. After a refusal no event is left, and the state counts for nothing.
 unfoldable pub opened : List ℕ → List ℕ → Played
 opened t store =
     let made = setUpBy (bodyOf t 0) (length store) in

@@ -16,7 +16,8 @@ copy-requires c κs = search needs
 
 returns : tie.Need-returns
 returns c =
-    c .before .copy .ensures ∙ rw (c .before .before .part .ensures) (priorities-fit (c .before .before .before .before .before .args .b .now))
+    let b = c .before .before .before .before .before .args .b .now in
+    c .before .copy .ensures ∙ rw (c .before .before .part .ensures) (priorities-fit b)
 
 pub priorities-of-spec : {M : Type 1} → statement M
 priorities-of-spec = tie.close (tie.spec slice-aggregate-copy part-requires copy-requires returns)

@@ -1,4 +1,5 @@
--- `phase_at` meets its contract. A number below the most servers reads its entry; past the end the definition reads a closed server, as the code returns.
+-- `phase_at` meets its contract. A number below the most servers reads its entry; past the end the definition reads a closed server, as
+-- the code returns.
 use native.Mathlib.Omega.{arith}
 use lib.ListN.{List·getD-eq-default}
 use Rattle.session.specs.declared.state.Phase.the-variants.{Closed}

@@ -1,4 +1,5 @@
--- `priority_at` meets its contract. A number below the most servers reads its entry; past the end the definition reads 0, as the code returns.
+-- `priority_at` meets its contract. A number below the most servers reads its entry; past the end the definition reads 0, as the code
+-- returns.
 use mathlib.Core.Path.{sym}
 use native.Mathlib.Omega.{arith}
 use lib.ListN.{List·getD-eq-default}

@@ -1,5 +1,5 @@
--- `with_phase` meets its contract. A number below the most servers stores its entry; past the end the definition's `set` changes nothing, and neither does
--- the code.
+-- `with_phase` meets its contract. A number below the most servers stores its entry; past the end the definition's `set` changes nothing,
+-- and neither does the code.
 use mathlib.Core.Path.{sym}
 use native.Mathlib.Omega.{arith}
 use lib.Seq.{set-out}

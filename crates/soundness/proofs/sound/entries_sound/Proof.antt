@@ -37,14 +37,14 @@ mul-ok c = search needs
 element-copy-out-ok : tie.Need-element-copy-out-ok Inv-loop μ-loop
 element-copy-out-ok c = search needs
 
-mul-wide : tie.Need-mul-wide Inv-loop μ-loop
-mul-wide c = search needs
+mul-widened : tie.Need-mul-widened Inv-loop μ-loop
+mul-widened c = search needs
 
-element-copy-out-wide : tie.Need-element-copy-out-wide Inv-loop μ-loop
-element-copy-out-wide c = search needs
+element-copy-out-widened : tie.Need-element-copy-out-widened Inv-loop μ-loop
+element-copy-out-widened c = search needs
 
-wide-requires : tie.Need-wide-requires Inv-loop μ-loop
-wide-requires c κs = search needs
+widened-requires : tie.Need-widened-requires Inv-loop μ-loop
+widened-requires c κs = search needs
 
 add-i : tie.Need-add-i Inv-loop μ-loop
 add-i c = search needs
@@ -55,7 +55,7 @@ loop-less c = search needs
 loop-again : tie.Need-loop-again Inv-loop μ-loop
 loop-again c =
     let servers = c .before .before .before .before .before .args .servers in
-    (search needs, rw (every-more, c .wide .ensures, one-shifted boundBits servers (omega arith)) (cc))
+    (search needs, rw (every-more, c .widened .ensures, one-shifted boundBits servers (omega arith)) (cc))
 
 returns : tie.Need-returns Inv-loop μ-loop
 returns c = let e : c .before .loop .i ≡ c .before .before .args .n = omega arith in cc
@@ -71,9 +71,9 @@ entries-sound-spec =
     loop-holds
     mul-ok
     element-copy-out-ok
-    mul-wide
-    element-copy-out-wide
-    wide-requires
+    mul-widened
+    element-copy-out-widened
+    widened-requires
     add-i
     loop-less
     loop-again
