@@ -22,4 +22,4 @@ pub mod Refusals
 pub mod Counters
 pub mod Resends
 pub mod InOctets
-pub mod Priorities
+pub mod Unused

@@ -16,4 +16,4 @@ pub mod Timer
 pub mod Counters
 pub mod Resends
 pub mod Refusals
-pub mod Priorities
+pub mod Unused
