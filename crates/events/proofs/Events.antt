@@ -20,7 +20,7 @@ use Rattle.session.specs.Servers.{down, offer}
 use Rattle.session.specs.Steps.{put, nextData, tick, move, received, step, written, Outcome, steppedOf, wroteOf, outputAfter, putStep}
 use Rattle.session.specs.Steps.{tickStep, lineDownStep, refusedSetUp, setUp}
 use Rattle.session.proofs.Written.{writes-nothing}
-use Rattle.session.specs.Priorities.{withPriorities, SameUsed}
+use Rattle.session.specs.Unused.{withPriorities, SameUsed}
 use Rattle.session.specs.InOctets.{Event, Put, NextData, Receive, OfferTemplates, LineDown, Tick}
 use Rattle.session.specs.declared.state.State.{State}
 use Rattle.session.specs.declared.state.Stepped.{Stepped}

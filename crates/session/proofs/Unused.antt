@@ -1,29 +1,29 @@
--- Entries without a server are ignored: of the priorities and of the servers a step looks only at entries of servers that there are, for
--- a call to any other server is refused before its phase matters. So a step does to a state with other entries there, or with fewer, what
--- it does to the state, and leaves what the step leaves with the same entries. Two fresh exporters have the same such state in common.
+-- Entries without a server are ignored: a step looks at the priorities and the phases of the servers that there are, and refuses a call to
+-- any other whatever its phase is. So on a state with other unused priorities, and with the first n phases alone, a step answers and writes
+-- the same, and leaves what it leaves otherwise, changed alike.
 use mathlib.Core.Path.{_≡_, refl, sym, ap, _∙_}
 use mathlib.Core.Bool.{Bool, true, false, not, _&&_, _||_, cond}
 use mathlib.Core.List.{List, [], _∷_, map}
 use Prim.Native.Nat.{ℕ, zero, suc, _+_, _≤_, _<_}
 use native.Mathlib.Omega.{arith}
 use lib.Dec.{eqb, leb, ltb}
-use lib.ListN.{length, getD, set, take}
+use lib.ListN.{length, set, take}
 use lib.Seq.{getD-take}
 use borrow.Author.Tests.{leb-false}
-use Rattle.octets.specs.Answers.{_when_, judge, done, unsoundState, noSuchServer}
+use Rattle.octets.specs.Answers.{judge, done, noSuchServer}
 use Rattle.wire.specs.Replies.{silent, Encoding, crane}
-use Rattle.session.specs.Servers.{phaseAt, isAgreed, beats, choose, changed, settle, activated, chosen, withServers, withCounts, restart}
-use Rattle.session.specs.Servers.{server, transition, sentOne, acknowledged, lateServers, otherAgreed, expired, tickedFor, ticked}
-use Rattle.session.specs.Servers.{sameActive, Transition, start, stop, negotiate, offer, down, agree, malformed}
+use Rattle.session.specs.Servers.{server, phaseAt, isAgreed, restart, beats, choose, sameActive, chosen, changed, activated, settle}
+use Rattle.session.specs.Servers.{withServers, withCounts, Transition, start, stop, negotiate, offer, down, agree, malformed}
+use Rattle.session.specs.Servers.{transition, sentOne, acknowledged, lateServers, otherAgreed, expired, tickedFor, ticked}
 use Rattle.session.specs.Queue.{recordAt}
 use Rattle.session.specs.Sound.{settingsSound, activationSound, numbersSound, sound}
-use Rattle.session.specs.Steps.{Call, put, nextData, tick, ack, move, ackCount, formAnswer, received, isDuplicate, headOf, replyTo, written}
-use Rattle.session.specs.Steps.{transitionChecks, checks, soundFor, answer, after, settled, storeAfter, step, Outcome, fresh}
-use Rattle.session.specs.Steps.{refusedSetUp, setUp, octetsWritten, withDue}
+use Rattle.session.specs.Steps.{ackCount, Call, put, nextData, tick, ack, move, formAnswer, received, isDuplicate, headOf, replyTo}
+use Rattle.session.specs.Steps.{written, transitionChecks, checks, soundFor, answer, withDue, after, settled, storeAfter, Outcome}
+use Rattle.session.specs.Steps.{step, fresh, refusedSetUp, setUp}
 use Rattle.session.specs.Claim.{Exporter, begin}
-use Rattle.session.specs.InOctets.{Event, Put, NextData, Receive, OfferTemplates, LineDown, Tick, eventStep, storeLeft, afterEvent}
-use Rattle.session.specs.InOctets.{freshOver}
-use Rattle.session.specs.Unused.{withPriorities, SameUsed, withEntries, cutTo, Response, responses, UnusedIgnored, UnusedEntries}
+use Rattle.session.specs.InOctets.{Event, Put, NextData, Receive, OfferTemplates, LineDown, Tick, eventStep, storeLeft}
+use Rattle.session.specs.InOctets.{afterEvent, freshOver}
+use Rattle.session.specs.Unused.{withPriorities, SameUsed, withEntries, cutTo, responses, UnusedEntries}
 use Rattle.session.specs.declared.state.Phase.{Phase}
 use Rattle.session.specs.declared.state.Phase.the-variants.{Closed, Started, Offered, Agreed, Late}
 use Rattle.session.specs.declared.state.Server as serverOf
@@ -37,6 +37,7 @@ use Rattle.session.proofs.Choice.{chosen-below}
 use Rattle.session.proofs.Calls.{after-settings}
 use Rattle.session.proofs.InOctets.{settings-stay}
 
+-- what is made of each case is made of the whole
 of-cond : {A B : Type 0} (f : A → B) (b : Bool) (x y : A) → cond b (f x) (f y) ≡ f (cond b x y)
 of-cond f true x y = refl
 of-cond f false x y = refl
@@ -83,7 +84,7 @@ record Enough (q : List ℕ) (n : ℕ) (p : Settings) : Type 0 where
   used : SameUsed (p .servers) (p .priorities) q
   entries : p .servers ≤ n
 
--- a delivery with the first n servers alone
+-- a delivery with the first n entries of its servers alone
 abbrev deliveryWith : ℕ → Delivery → Delivery
 deliveryWith n d = withServers d (take n (d .servers))
 
@@ -151,7 +152,8 @@ module _ (q : List ℕ) (n : ℕ) where
   unfolding acknowledged
   acknowledged-same k d = of-cond (deliveryWith n) (eqb k 0) _ _
 
-  transition-same : (v : ℕ) (m : Transition) (servers : List serverOf.Server) → transition v m (take n servers) ≡ take n (transition v m servers)
+  transition-same : (v : ℕ) (m : Transition) (servers : List serverOf.Server)
+      → transition v m (take n servers) ≡ take n (transition v m servers)
   unfolding transition
   transition-same v start servers = set-take n servers v (server Started)
   transition-same v stop servers = set-take n servers v (server Closed)
@@ -166,10 +168,12 @@ module _ (q : List ℕ) (n : ℕ) where
   unfolding expired
   expired-same p v d l =
       rw (other-same n (d .servers) v (p .servers), set-take n (d .servers) v (server Late))
-      (of-cond (deliveryWith n) (otherAgreed (d .servers) v (p .servers)) (withCounts (withServers d (lateServers d v)) (d .sent) (d .reached) 0)
+      (of-cond (deliveryWith n) (otherAgreed (d .servers) v (p .servers))
+      (withCounts (withServers d (lateServers d v)) (d .sent) (d .reached) 0)
       (withCounts d 0 (d .reached) 0))
 
-  ticked-same : (p : Settings) (d : Delivery) → p .servers ≤ n → ticked (withPriorities q p) (deliveryWith n d) ≡ deliveryWith n (ticked p d)
+  ticked-same : (p : Settings) (d : Delivery) → p .servers ≤ n
+      → ticked (withPriorities q p) (deliveryWith n d) ≡ deliveryWith n (ticked p d)
   unfolding ticked
   ticked-same p d l = go (d .active)
     where
@@ -298,7 +302,7 @@ module _ (q : List ℕ) (n : ℕ) where
 
 -- ---- from set-up on
 
--- what set-up makes of settings that it takes or not
+-- what set-up hands back, where it takes the settings and where it does not
 abbrev made : Bool → Settings → ℕ → Made
 made b p octets = cond b (record { answer = done; state = fresh p octets }) refusedSetUp
 
@@ -310,7 +314,7 @@ set-up-same p q octets = go (settingsSound p octets)
     go true = refl
     go false = refl
 
--- the entries of the servers alone
+-- both fresh exporters are the same with these priorities and the servers' own entries alone
 calls-same : (p : Settings) (q store : List ℕ) → SameUsed (p .servers) (p .priorities) q → (es : List Event)
     → responses (freshOver (withPriorities q p) store) es ≡ responses (freshOver p store) es
 unfolding begin setUp fresh settingsSound
@@ -325,19 +329,10 @@ calls-same p q store h es = go (settingsSound p (length store))
         ∙ responses-same q (p .servers) (over true p) es (record { used = h; entries = omega arith })
     go false = refl
 
-entries-same : (p : Settings) (store : List ℕ) (n : ℕ) → p .servers ≤ n → (es : List Event)
-    → responses (cutTo n (freshOver p store)) es ≡ responses (freshOver p store) es
-unfolding begin setUp fresh
-entries-same p store n l es =
-    responses-same (take n (z .priorities)) n (freshOver p store) es
-    (record { used = λ v k. sym (getD-take n (z .priorities) v 0 (omega (arith, fewer (settingsSound p (length store))))); entries = fewer (settingsSound p (length store)) })
-  where
-    z : Settings
-    z = freshOver p store .state .settings
-
-    fewer : (b : Bool) → made b p (length store) .state .settings .servers ≤ n
-    fewer true = l
-    fewer false = omega arith
+entries-same : (x : Exporter) (n : ℕ) → x .state .settings .servers ≤ n → (es : List Event) → responses (cutTo n x) es ≡ responses x es
+entries-same x n l es =
+    let a = x .state .settings .priorities in
+    responses-same (take n a) n x es (record { used = λ v k. sym (getD-take n a v 0 (omega arith)); entries = l })
 
 pub unused-entries : UnusedEntries
-unused-entries p store = record { setUps = set-up-same p; calls = λ q. calls-same p q store; entries = entries-same p store }
+unused-entries = record { setUps = set-up-same; calls = calls-same; entries = entries-same }

@@ -1,5 +1,5 @@
--- Entries without a server are ignored (02, ask 7): an exporter answers and writes the same whatever the priorities are that no server has,
--- and however many entries its arrays have, as long as there is one for each server.
+-- Unused priorities and other unused entries are ignored (02, ask 7): whatever priorities and phases stand behind those of an exporter's
+-- servers, and also where none do, it answers and writes the same.
 use mathlib.Core.Path.{_≡_}
 use mathlib.Core.List.{List, [], _∷_}
 use Prim.Native.Nat.{ℕ, _≤_, _<_}
@@ -61,16 +61,14 @@ responses x [] = []
 responses x (e ∷ es) =
     let o = eventStep x e in record { answer = o .answer; written = octetsWritten o } ∷ responses (afterEvent x e) es
 
--- What is claimed of settings and a store.
-pub record UnusedIgnored (p : Settings) (store : List ℕ) : Type 0 where
+-- The claim, of all settings, stores and exporters.
+pub record UnusedEntries : Type 0 where
   -- set-up answers the same whatever the priorities are
-  pub setUps : (priorities : List ℕ) (octets : ℕ) → setUp (withPriorities priorities p) octets .answer ≡ setUp p octets .answer
+  pub setUps : (p : Settings) (priorities : List ℕ) (octets : ℕ)
+      → setUp (withPriorities priorities p) octets .answer ≡ setUp p octets .answer
   -- every list of calls from the fresh exporter answers and writes the same whatever the unused priorities are
-  pub calls : (priorities : List ℕ) → SameUsed (p .servers) (p .priorities) priorities → (es : List Event)
+  pub calls : (p : Settings) (priorities store : List ℕ) → SameUsed (p .servers) (p .priorities) priorities → (es : List Event)
       → responses (freshOver (withPriorities priorities p) store) es ≡ responses (freshOver p store) es
-  -- and however many entries there are, with one for each server: with 8 of them, as before ask 7, for up to 8 servers
-  pub entries : (n : ℕ) → p .servers ≤ n → (es : List Event) → responses (cutTo n (freshOver p store)) es ≡ responses (freshOver p store) es
-
--- So it is for all settings and stores.
-abbrev pub UnusedEntries : Type 0
-UnusedEntries = (p : Settings) (store : List ℕ) → UnusedIgnored p store
+  -- and from any exporter the same without the entries from n on, as long as each server keeps its own, so whatever those entries are: up
+  -- to 8 servers need no more than the 8 entries that there were before ask 7
+  pub entries : (x : Exporter) (n : ℕ) → x .state .settings .servers ≤ n → (es : List Event) → responses (cutTo n x) es ≡ responses x es

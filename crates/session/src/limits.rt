@@ -1,5 +1,5 @@
-// The limits of an exporter (01, "Exporter"; the servers by 02, ask 7). specs/Limits.antt names the same numbers, and what a function tests against one of these it
-// is proved to test against that.
+// The limits of an exporter (01, "Exporter"; the servers by 02, ask 7). specs/Limits.antt names the same numbers, and what a function tests
+// against one of these it is proved to test against that.
 
 // The most servers.
 pub const MAX_SERVERS: u8 = 16;

@@ -13,6 +13,6 @@ use Rattle.tape.specs.Replay.{callsFrom, linesOf, replay}
 use Rattle.tape.specs.Openings.{Openings}
 
 pub openings : Openings
-unfolding numberOf uintIn every firstFrom isType widthOf keySound blockEnd headSound paddingSound blockSound blockAt tableSound settingsSound
-    setUp begin bodyAt octetsAt eventSound tapeSound settingsOf setUpBy callsFrom linesOf replay
+unfolding numberOf uintIn every firstFrom isType widthOf keySound blockEnd headSound paddingSound blockSound blockAt tableSound
+    settingsSound setUp begin bodyAt octetsAt eventSound tapeSound settingsOf setUpBy callsFrom linesOf replay
 openings = refl

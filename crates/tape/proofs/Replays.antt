@@ -15,7 +15,7 @@ use Rattle.octets.specs.Answers.{done}
 use Rattle.octets.specs.Numbers.{Octets}
 use Rattle.octets.proofs.Numbers.{uint-below}
 use Rattle.octets.specs.Each.{every}
-use Rattle.session.specs.Steps.{octetsWritten, setUp}
+use Rattle.session.specs.Steps.{octetsWritten}
 use Rattle.session.specs.Claim.{Exporter, begin}
 use Rattle.session.specs.InOctets.{Event, eventStep, storeLeft, afterEvent, freshOver, AllOctets}
 use Rattle.session.proofs.InOctets.{demand3-in-octets}

@@ -3,7 +3,7 @@
 use mathlib.Core.Path.{_≡_, refl, sym, ap, _∙_}
 use mathlib.Core.Bool.{cond, _&&_}
 use mathlib.Core.List.{List, []}
-use Prim.Native.Nat.{ℕ, _+_, _*_, _-_, _≤_}
+use Prim.Native.Nat.{ℕ, _-_, _≤_}
 use native.Mathlib.Nat.{le-refl, le-trans}
 use native.Mathlib.Omega.{arith}
 use borrow.Author.Tests.{eq-eqb, ne-eqb}
@@ -21,7 +21,7 @@ use Rattle.contents.specs.Tape.{eventCount, kindAt, serverAt, bodyLength, bodyA
 use Rattle.lines.specs.Lines.{lineOf, tapeRefused, lineOctets}
 use Rattle.tape.specs.Replay.{outputBufferOctets, outputBuffer, tapeSettings}
 use Rattle.events.specs.Events.{setUpBy, tableAnswer, eventCall}
-use Rattle.tape.specs.Turns.{opened, indexOf, nextBody, nextEnd, tableTurn, nextCall, callTurn, played, CallReady, turnOf, Lined}
+use Rattle.tape.specs.Turns.{opened, indexOf, nextBody, nextEnd, tableTurn, nextCall, callTurn, played, CallReady, Lined}
 use Rattle.tape.specs.Turns.{Turned}
 use Rattle.events.specs.Events.{effect, Gives, Called}
 use Rattle.tape.specs.declared.replay.Progress.{Progress}

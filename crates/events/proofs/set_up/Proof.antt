@@ -1,5 +1,4 @@
 -- `set_up` meets its contract: the test says whether the body names more servers than it has priorities, as the definition's does.
-use mathlib.Core.Path.{refl}
 use borrow.Author.Tests.{lt-ltb, le-ltb}
 use Rattle.events.specs.Events.{setUpBy}
 use borrow.Author.Needs.{needs}

@@ -4,7 +4,7 @@ use Rattle.lines.specs.Lines.{lineOf, tapeRefused, lineOctets}
 use Rattle.lines.proofs.Lines.{printed-whole}
 use lib.ListN.{length}
 use mathlib.Core.List.{[]}
-use mathlib.Core.Path.{refl, sym, ap, _∙_}
+use mathlib.Core.Path.{refl, _∙_}
 use native.Mathlib.Omega.{arith}
 use borrow.Author.Tests.{eq-eqb, ne-eqb}
 use Rattle.contents.proofs.Parts.{refused-unsound, done-sound}
