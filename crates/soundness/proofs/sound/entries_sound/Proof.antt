@@ -1,6 +1,7 @@
 -- `entries_sound` meets its contract. The loop's invariant: ok says whether the entries passed are in their limits. A turn adds the next
 -- entry's test, and the bound is the power of 2 that the definition compares with.
-use mathlib.Core.Path.{_≡_, refl}
+use mathlib.Core.Path.{_≡_, refl, ap}
+use mathlib.Core.Bool.{Bool, _&&_}
 use native.Mathlib.Omega.{arith}
 use Prim.Native.Nat.{ℕ, _-_, _≤_}
 use Rattle.octets.specs.Each.{every}
@@ -54,8 +55,13 @@ loop-less c = search needs
 
 loop-again : tie.Need-loop-again Inv-loop μ-loop
 loop-again c =
-    let servers = c .before .before .before .before .before .args .servers in
-    (search needs, rw (every-more, c .widened .ensures, one-shifted boundBits servers (omega arith)) (cc))
+    let l = c .before .before .before .before .loop in
+    let a = c .before .before .before .before .before .args in
+    let test = entrySound (a .servers) (a .lengths .now) (a .receivers .now) (l .i) in
+    (
+      search needs,
+      rw (every-more, c .widened .ensures, one-shifted boundBits (a .servers) (omega arith)) (ap (λ (b : Bool). b && test) (l .inv .1)),
+    )
 
 returns : tie.Need-returns Inv-loop μ-loop
 returns c = let e : c .before .loop .i ≡ c .before .before .args .n = omega arith in cc
