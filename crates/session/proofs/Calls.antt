@@ -38,12 +38,12 @@ use Rattle.session.proofs.SoundFacts.{SoundFacts, sound-facts, active-s
 use Rattle.session.proofs.Choice.{chosen-below}
 use Rattle.session.proofs.Places.{one-place, reached-test}
 use Rattle.session.proofs.QueueLaws.{duplicate-same, noEntry, heldAt, held-length, held-octets}
-use Rattle.session.proofs.Agrees.{writtenDuring, Core, Agrees}
+use Rattle.session.proofs.Agrees.{Core, Agrees}
 use Rattle.session.proofs.SoundKept.{active-some, after-sized, accepted-sound}
 use Rattle.session.proofs.HeldLaws.{held-read}
 use Rattle.session.proofs.StepLaws.{step-answer}
 use Rattle.session.proofs.Keeps.{begun, begun-released, written-released, settle-keeps, held-dsn, acked, ack-dsn, ack-below}
-use Rattle.session.proofs.Keeps.{ack-named, acknowledger, none-written, some-written, nothing-released, call-keeps, call-delivery}
+use Rattle.session.proofs.Keeps.{ack-named, acknowledger, first-place, call-keeps, call-delivery}
 
 -- ---- the state is sound
 
@@ -230,7 +230,7 @@ module _ (enc : Encoding) (room : ℕ) (h : History) (s : State) (store : List �
   unfolding checks
   first-written e =
       same (ℕ-discrete (nextPlace h) (l .releasedBefore + 1))
-      ∙ ap (eqb (nextPlace h)) (sym (began (writtenDuring (l .writings) (l .activation)) refl))
+      ∙ ap (eqb (nextPlace h)) (sym began)
     where
       l : Ledger
       l = h .ledger
@@ -247,12 +247,8 @@ module _ (enc : Encoding) (room : ℕ) (h : History) (s : State) (store : List �
       same (no x) = rw (ne-eqb (nextPlace h) (l .releasedBefore + 1) x)
 
       -- which was written first in it, or will be
-      began : (b : Bool) → writtenDuring (l .writings) (l .activation) ≡ b
-          → firstWritten (l .writings) (l .activation) (nextPlace h) ≡ l .releasedBefore + 1
-      began true x = some-written (l .writings) (l .activation) (nextPlace h) (l .releasedBefore + 1) x ∙ a .core .first
-      began false x =
-          let none = nothing-released enc l s store wide (a .isSound) (a .sized) (a .core) (active .0) (active .1) x in
-          none-written (l .writings) (l .activation) (nextPlace h) x ∙ omega (arith, next-place, none .0, none .1)
+      began : firstWritten (l .writings) (l .activation) (nextPlace h) ≡ l .releasedBefore + 1
+      began = rw next-place (first-place enc l s store wide (a .isSound) (a .sized) (a .core) (active .0) (active .1))
 
   -- the next DATA, with S or without
   nextWith : Bool → Reply

@@ -68,7 +68,7 @@ in-during (x ∷ xs) q v k e =
     go false false false r d e f = f e
 
 -- what was written first in an activation, where nothing was, and where something was
-pub none-written : (ws : List Writing) (k q : ℕ) → writtenDuring ws k ≡ false → firstWritten ws k q ≡ q
+none-written : (ws : List Writing) (k q : ℕ) → writtenDuring ws k ≡ false → firstWritten ws k q ≡ q
 unfolding anyWriting firstWritten
 none-written [] k q e = refl
 none-written (x ∷ xs) k q e = go (eqb (x .activation) k) (none-written xs k q) e
@@ -78,7 +78,7 @@ none-written (x ∷ xs) k q e = go (eqb (x .activation) k) (none-written xs k q)
     go true f h = absurd (false≢true (sym h))
     go false f h = f h
 
-pub some-written : (ws : List Writing) (k q r : ℕ) → writtenDuring ws k ≡ true → firstWritten ws k q ≡ firstWritten ws k r
+some-written : (ws : List Writing) (k q r : ℕ) → writtenDuring ws k ≡ true → firstWritten ws k q ≡ firstWritten ws k r
 unfolding anyWriting firstWritten
 some-written [] k q r e = absurd (false≢true e)
 some-written (x ∷ xs) k q r e = go (eqb (x .activation) k) (some-written xs k q r) e
@@ -215,7 +215,7 @@ module _ (enc : Encoding) (l : Ledger) (s : State) (store : List ℕ) (wide : 64
       }
 
   -- where nothing was written in the activation, nothing was sent and nothing released in it
-  pub nothing-released : (v : ℕ) → s .delivery .active ≡ Server v → writtenDuring (l .writings) (l .activation) ≡ false
+  nothing-released : (v : ℕ) → s .delivery .active ≡ Server v → writtenDuring (l .writings) (l .activation) ≡ false
       → (s .delivery .sent ≡ 0) × (l .released ≡ l .releasedBefore)
   nothing-released v ea none = (
     omega (arith, unreached (ℕ-discrete (s .delivery .reached) 0), f .numbers .sentReached),
@@ -231,6 +231,16 @@ module _ (enc : Encoding) (l : Ledger) (s : State) (store : List ℕ) (wide : 64
       unreleased : Dec (l .released ≡ l .releasedBefore) → l .released ≡ l .releasedBefore
       unreleased (yes x) = x
       unreleased (no x) = absurd (false≢true (sym none ∙ c .opened (omega (arith, x, c .origin))))
+
+  -- the place written first in the activation, or the next one if nothing was written, is the first behind those released before it
+  pub first-place : (v : ℕ) → s .delivery .active ≡ Server v
+      → firstWritten (l .writings) (l .activation) (l .released + (s .delivery .sent + 1)) ≡ l .releasedBefore + 1
+  first-place v ea = go (writtenDuring (l .writings) (l .activation)) refl
+    where
+      go : (b : Bool) → writtenDuring (l .writings) (l .activation) ≡ b
+          → firstWritten (l .writings) (l .activation) (l .released + (s .delivery .sent + 1)) ≡ l .releasedBefore + 1
+      go true e = some-written _ _ _ _ e ∙ c .first
+      go false e = none-written _ _ _ e ∙ omega (arith, nothing-released v ea e)
 
   -- next data, where server v is active
   next-at : (v : ℕ) → s .delivery .active ≡ Server v → s .delivery .sent < s .queue .count
@@ -265,19 +275,11 @@ module _ (enc : Encoding) (l : Ledger) (s : State) (store : List ℕ) (wide : 64
         first =
             ap (λ (b : Bool). firstWritten (l .writings) (l .activation) (cond b place (l .releasedBefore + 1)))
             (eq-eqb (l .activation) (l .activation) refl)
-            ∙ first-still (writtenDuring (l .writings) (l .activation)) refl;
+            ∙ first-place v ea;
         since = λ u j e lo hi. recent u j (cc) lo hi (ℕ-discrete j place);
         until = λ u j e. far u j e (ℕ-discrete j place);
       })
     where
-      first-still : (b : Bool) → writtenDuring (l .writings) (l .activation) ≡ b
-          → firstWritten (l .writings) (l .activation) (l .released + (s .delivery .sent + 1)) ≡ l .releasedBefore + 1
-      first-still true e =
-          some-written (l .writings) (l .activation) (l .released + (s .delivery .sent + 1)) (l .releasedBefore + 1) e ∙ c .first
-      first-still false e =
-          let z = nothing-released v ea e in
-          none-written (l .writings) (l .activation) (l .released + (s .delivery .sent + 1)) e ∙ omega (arith, z .0, z .1)
-
       far : (u j : ℕ)
           → (eqb (l .released + (s .delivery .sent + 1)) j && eqb v u && eqb (l .activation) (l .activation))
           || writtenIn (l .writings) j u (l .activation) ≡ true
