@@ -3,13 +3,14 @@
 --
 use mathlib.Core.Path.{_≡_, refl, sym, ap, _∙_, subst}
 use mathlib.Core.Logic.{inl, inr}
-use mathlib.Core.Bool.{Bool, true, false, not, _&&_, _||_, cond, false≢true, and-true, and-false}
+use mathlib.Core.Bool.{Bool, true, false, not, _&&_, _||_, cond, false≢true, and-true}
 use mathlib.Core.List.{List, [], _∷_, _++_}
 use Prim.Native.Nat.{ℕ, _+_, _-_, _≤_, _<_}
 use native.Mathlib.Nat.{zero-add, mod-lt}
 use native.Mathlib.Decide.{decLt, ℕ-discrete}
+use native.Mathlib.Numerals.{unary-clauses}
 use native.Mathlib.Omega.{arith}
-use lib.Dec.{eqb, leb, ltb}
+use lib.Dec.{eqb, leb, ltb, eqb·suc-suc}
 use lib.ListN.{length, getD, take, take-append-drop}
 use lib.Seq.{getD-drop}
 use borrow.Author.Tests.{leb-false, eqb-true, eqb-false, not-true, eq-eqb, ne-eqb, le-leb, lt-leb, lt-ltb, le-ltb}
@@ -42,8 +43,8 @@ use Rattle.session.proofs.Agrees.{Core, Agrees}
 use Rattle.session.proofs.SoundKept.{active-some, after-sized, accepted-sound}
 use Rattle.session.proofs.HeldLaws.{held-read}
 use Rattle.session.proofs.StepLaws.{step-answer}
-use Rattle.session.proofs.Keeps.{begun, begun-released, written-released, settle-keeps, held-dsn, acked, ack-dsn, ack-below}
-use Rattle.session.proofs.Keeps.{ack-named, acknowledger, first-place, call-keeps, call-delivery}
+use Rattle.session.proofs.Keeps.{begun, begun-released, written-released, none-more, settle-keeps, held-dsn, acked, ack-dsn}
+use Rattle.session.proofs.Keeps.{ack-below, ack-named, acknowledger, first-place, call-keeps, call-delivery}
 
 -- ---- the state is sound
 
@@ -130,6 +131,14 @@ held-entry {h} {s} {store} a i g =
 
 -- ---- a call
 
+-- a place behind the released ones is the one behind those released before only where none was released since
+none-since : (q r b : ℕ) → b ≤ r → r < q → eqb q (b + 1) && eqb r b ≡ eqb q (b + 1)
+none-since q r b h g = go (ℕ-discrete q (b + 1))
+  where
+    go : Dec (q ≡ b + 1) → eqb q (b + 1) && eqb r b ≡ eqb q (b + 1)
+    go (yes x) = rw (eq-eqb r b (omega arith)) (and-true (eqb q (b + 1)))
+    go (no x) = rw (ne-eqb q (b + 1) x)
+
 -- the session that a state belongs to
 abbrev pub sessionAt : Encoding → State → Session
 sessionAt enc s = record { encoding = enc; settings = s .settings }
@@ -208,47 +217,24 @@ module _ (enc : Encoding) (room : ℕ) (h : History) (s : State) (store : List �
   s-at : isFirst (s .due) (s .delivery .sent)
       ≡ (eqb (h .ledger .released + (s .delivery .sent + 1)) (h .ledger .releasedBefore + 1)
       && eqb (h .ledger .released) (h .ledger .releasedBefore))
-  s-at = ap (λ (x : Bool). x && eqb n 0) (a .core .starts) ∙ go (ℕ-discrete r b) (ℕ-discrete n 0)
-    where
-      n : ℕ
-      n = s .delivery .sent
-
-      r : ℕ
-      r = h .ledger .released
-
-      b : ℕ
-      b = h .ledger .releasedBefore
-
-      go : Dec (r ≡ b) → Dec (n ≡ 0) → eqb r b && eqb n 0 ≡ eqb (r + (n + 1)) (b + 1) && eqb r b
-      go (yes x) (yes y) = rw (eq-eqb r b x, eq-eqb n 0 y, eq-eqb (r + (n + 1)) (b + 1) (omega arith))
-      go (yes x) (no y) = rw (eq-eqb r b x, ne-eqb n 0 y, ne-eqb (r + (n + 1)) (b + 1) (λ z. y (omega arith)))
-      go (no x) y = rw (ne-eqb r b x) (sym (and-false (eqb (r + (n + 1)) (b + 1))))
+  s-at =
+      let n : ℕ = s .delivery .sent in
+      let r : ℕ = h .ledger .released in
+      let b : ℕ = h .ledger .releasedBefore in
+      let e : eqb (r + n) b ≡ eqb (r + (n + 1)) (b + 1) = simp (unary-clauses, eqb·suc-suc) in
+      ap (λ (x : Bool). x && eqb n 0) (a .core .starts) ∙ none-more r n b (a .core .origin) ∙ e
+      ∙ sym (none-since (r + (n + 1)) r b (a .core .origin) (omega arith))
 
   -- that record was written first in the activation, if any was
   first-written : judge (checks enc room nextData s store) ≡ done
       → isFirstIn h ≡ eqb (nextPlace h) (firstWritten (h .ledger .writings) (h .ledger .activation) (nextPlace h))
   unfolding checks
   first-written e =
-      same (ℕ-discrete (nextPlace h) (l .releasedBefore + 1))
-      ∙ ap (eqb (nextPlace h)) (sym began)
-    where
-      l : Ledger
-      l = h .ledger
-
-      active : (v : ℕ) × (s .delivery .active ≡ Server v)
-      active = active-some (s .delivery .active) (passed (checks enc room nextData s store) tt e .0)
-
-      -- none was released since where the place is the one with which the activation began
-      same : Dec (nextPlace h ≡ l .releasedBefore + 1)
-          → eqb (nextPlace h) (l .releasedBefore + 1) && eqb (l .released) (l .releasedBefore) ≡ eqb (nextPlace h) (l .releasedBefore + 1)
-      same (yes x) =
-          rw (eq-eqb (l .released) (l .releasedBefore) (omega (arith, a .core .origin)))
-          (and-true (eqb (nextPlace h) (l .releasedBefore + 1)))
-      same (no x) = rw (ne-eqb (nextPlace h) (l .releasedBefore + 1) x)
-
-      -- which was written first in it, or will be
-      began : firstWritten (l .writings) (l .activation) (nextPlace h) ≡ l .releasedBefore + 1
-      began = rw next-place (first-place enc l s store wide (a .isSound) (a .sized) (a .core) (active .0) (active .1))
+      let l = h .ledger in
+      let v = active-some (s .delivery .active) (passed (checks enc room nextData s store) tt e .0) in
+      let began : firstWritten (l .writings) (l .activation) (nextPlace h) ≡ l .releasedBefore + 1 =
+      rw next-place (first-place enc l s store wide (a .isSound) (a .sized) (a .core) (v .0) (v .1)) in
+      none-since (nextPlace h) (l .released) (l .releasedBefore) (a .core .origin) (omega arith) ∙ ap (eqb (nextPlace h)) (sym began)
 
   -- the next DATA, with S or without
   nextWith : Bool → Reply

@@ -2,10 +2,10 @@
 -- of them, and a set gains the server that the ledger notes of the same writing. That the state stays sound is shown for itself
 -- (`SoundKept`).
 use mathlib.Core.Path.{_≡_, refl, sym, ap, _∙_}
-use mathlib.Core.Bool.{Bool, true, false, _&&_, _||_, cond, false≢true}
+use mathlib.Core.Bool.{Bool, true, false, _&&_, _||_, cond, false≢true, and-true, and-false}
 use mathlib.Core.List.{List, [], _∷_, _++_}
-use Prim.Native.Nat.{ℕ, _+_, _-_, _%_, _≤_, _<_, max}
-use native.Mathlib.Nat.{mod-lt}
+use Prim.Native.Nat.{ℕ, zero, suc, _+_, _-_, _%_, _≤_, _<_, max}
+use native.Mathlib.Nat.{add-zero, mod-lt}
 use native.Mathlib.Decide.{ℕ-discrete}
 use native.Mathlib.Omega.{arith}
 use lib.Dec.{eqb}
@@ -49,6 +49,11 @@ begun-released false l = refl
 pub written-released : (v : Active) (q : ℕ) (l : Ledger) → writtenBy v q l .released ≡ l .released
 written-released Nobody q l = refl
 written-released (Server v) q l = refl
+
+-- with n more, as many are released as before exactly where as many were, and n is 0
+pub none-more : (released n before : ℕ) → before ≤ released → eqb released before && eqb n 0 ≡ eqb (released + n) before
+none-more r zero b h = and-true (eqb r b) ∙ ap (λ (x : ℕ). eqb x b) (sym (add-zero r))
+none-more r (suc n) b h = rw (ne-eqb (suc n) 0 (omega arith), ne-eqb (r + suc n) b (omega arith)) (and-false (eqb r b))
 
 -- what was written to a server in an activation was written in it
 in-during : (ws : List Writing) (q v k : ℕ) → writtenIn ws q v k ≡ true → writtenDuring ws k ≡ true
@@ -372,7 +377,7 @@ module _ (enc : Encoding) (l : Ledger) (s : State) (store : List ℕ) (wide : 64
           existing = k .existing;
         };
         origin = omega (arith, c .origin);
-        starts = none-more n;
+        starts = ap (λ (x : Bool). x && eqb n 0) (c .starts) ∙ none-more (l .released) n (l .releasedBefore) (c .origin);
         opened = λ x. opens n b (ℕ-discrete n 0) x;
         later = c .later;
         first = c .first;
@@ -380,21 +385,6 @@ module _ (enc : Encoding) (l : Ledger) (s : State) (store : List ℕ) (wide : 64
         until = λ u j x. omega (arith, c .until u j x, low .reached);
       })
     where
-      -- no record was released in this activation exactly where none was before, and n is 0
-      none-more : (n : ℕ) → s .due && eqb n 0 ≡ eqb (l .released + n) (l .releasedBefore)
-      none-more n = ap (λ (x : Bool). x && eqb n 0) (c .starts) ∙ go (ℕ-discrete r before) (ℕ-discrete n 0)
-        where
-          r : ℕ
-          r = l .released
-
-          before : ℕ
-          before = l .releasedBefore
-
-          go : Dec (r ≡ before) → Dec (n ≡ 0) → eqb r before && eqb n 0 ≡ eqb (r + n) before
-          go (yes x) (yes y) = rw (eq-eqb r before x, eq-eqb n 0 y, eq-eqb (r + n) before (omega arith))
-          go (yes x) (no y) = rw (eq-eqb r before x, ne-eqb n 0 y, ne-eqb (r + n) before (λ z. y (omega arith)))
-          go (no x) y = rw (ne-eqb r before x, ne-eqb (r + n) before (λ z. x (omega (arith, c .origin))))
-
       -- what is released was reached, and so was written
       opens : (n : ℕ) → n ≤ s .delivery .reached → Dec (n ≡ 0) → l .releasedBefore < l .released + n
           → writtenDuring (l .writings) (l .activation) ≡ true
