@@ -26,7 +26,8 @@ use Rattle.session.specs.declared.state.State.{State}
 use Rattle.session.specs.declared.state.Wrote.{Wrote}
 use Rattle.session.proofs.SoundFacts.{sound-facts}
 use Rattle.soundness.specs.Parts.{partsIn}
-use Rattle.session.proofs.StepLaws.{settled-same, step-refused, step-done}
+use Rattle.session.proofs.StepLaws.{settled-same, step-refused, step-done, step-answer}
+use Rattle.session.proofs.Counters.{found-sound, ack-held}
 
 -- ---- numbers that wrap at m
 
@@ -148,19 +149,7 @@ module _ (enc : Encoding) (v dsn config : ℕ) (s : State) where
 
   -- an accepted one finds a sound state
   pub ack-sound : answer enc 0 (ack v dsn config) s [] ≡ done → sound s ≡ true
-  ack-sound e = go (sound s) refl
-    where
-      go : (b : Bool) → sound s ≡ b → sound s ≡ true
-      go true k = k
-      go false k = let z : _≡_ {A = ℕ} 1 0 = sym (ack-unsound k) ∙ e in absurd (omega arith)
-
-  -- an accepted one releases records that are held
-  pub ack-held : answer enc 0 (ack v dsn config) s [] ≡ done
-      → (namedIn (enc .width) s dsn ≤ s .queue .count) × (namedIn (enc .width) s dsn ≤ 64)
-  ack-held e =
-      let f = sound-facts s (ack-sound e) .numbers in
-      let g = ack-reached (s .settings) (s .delivery) v config (namedIn (enc .width) s dsn) done (sym e ∙ ack-judged (ack-sound e)) refl in
-      omega arith
+  ack-sound e = found-sound enc 0 (ack v dsn config) s [] (step-answer enc 0 (ack v dsn config) s [] ∙ e)
 
 -- ---- by parts
 
@@ -187,6 +176,7 @@ module _ (enc : Encoding) (v dsn config : ℕ) (s : State) where
   -- what is released was held
   pub released-few : (ackChangeOf (namedIn (enc .width) s dsn) (step enc 0 (ack v dsn config) (ackParts s) []) .released ≤ s .queue .count)
       × (ackChangeOf (namedIn (enc .width) s dsn) (step enc 0 (ack v dsn config) (ackParts s) []) .released ≤ 64)
+  unfolding ackCount
   released-few = go (eqb (answer enc 0 (ack v dsn config) (ackParts s) []) done) refl
     where
       go : (b : Bool) → eqb (answer enc 0 (ack v dsn config) (ackParts s) []) done ≡ b
@@ -194,7 +184,7 @@ module _ (enc : Encoding) (v dsn config : ℕ) (s : State) where
           × (ackChangeOf (namedIn (enc .width) s dsn) (step enc 0 (ack v dsn config) (ackParts s) []) .released ≤ 64)
       go true q =
           let e = eqb-true (answer enc 0 (ack v dsn config) (ackParts s) []) done q in
-          rw (step-done enc 0 (ack v dsn config) (ackParts s) [] e) (ack-held enc v dsn config (ackParts s) e)
+          rw (step-done enc 0 (ack v dsn config) (ackParts s) [] e) (ack-held enc 0 v dsn config (ackParts s) [] e)
       go false q =
           let h = eqb-false (answer enc 0 (ack v dsn config) (ackParts s) []) done q in
           rw (step-refused enc 0 (ack v dsn config) (ackParts s) [] _ h refl, q) (omega arith)

@@ -2,13 +2,14 @@
 -- stays; the rest is what the step's definitions say.
 use mathlib.Core.Path.{_≡_, refl, sym, ap, _∙_}
 use mathlib.Core.Bool.{Bool, true, false, not, _&&_, cond, and-true, and-false}
-use mathlib.Core.List.{List}
-use Prim.Native.Nat.{ℕ, _-_, _<_}
+use mathlib.Core.List.{List, _∷_}
+use Prim.Native.Nat.{ℕ, _-_, _≤_, _<_}
 use native.Mathlib.Omega.{arith}
 use lib.Dec.{eqb}
 use lib.ListN.{length}
-use borrow.Author.Tests.{eqb-true, eqb-false, eq-eqb, ne-eqb}
-use Rattle.octets.specs.Answers.{judge, done, unsoundState}
+use borrow.Author.Tests.{ltb-false, eqb-true, eqb-false, not-false, eq-eqb, ne-eqb}
+use Rattle.octets.specs.Answers.{_when_, judge, done, unsoundState}
+use Rattle.octets.proofs.Judging.{passed}
 use Rattle.octets.proofs.Each.{and-left}
 use Rattle.wire.specs.Replies.{Encoding}
 use Rattle.session.specs.Servers.{choose, chosen, withCounts, sentOne, acknowledged}
@@ -50,6 +51,16 @@ sent-one enc s room store e =
     let h : sound s ≡ true = and-left (sound s) (eqb (length store) (s .capacity)) (found-sound enc room nextData s store e) in
     rw (left-alone enc room nextData s store e h refl refl)
     (record { same = record { servers = refl; active = refl }; sent = refl; reached = refl; timer = refl; due = refl; count = refl })
+
+-- an accepted DATA ACK names no more records than are held, and so at most 64
+pub ack-held : (enc : Encoding) (room v dsn config : ℕ) (s : State) (store : List ℕ) → answer enc room (ack v dsn config) s store ≡ done
+    → (ackCount (enc .width) s dsn ≤ s .queue .count) × (ackCount (enc .width) s dsn ≤ 64)
+unfolding answer checks
+ack-held enc room v dsn config s store e =
+    let p = passed ((unsoundState when not (sound s)) ∷ checks enc room (ack v dsn config) s store) tt e in
+    let f = sound-facts s (not-false (sound s) (p .0)) .numbers in
+    let g = ltb-false (s .delivery .reached) (ackCount (enc .width) s dsn) (p .1 .1 .1 .1 .0) in
+    omega arith
 
 -- the delivery after a DATA ACK that names n records
 record Counted (n : ℕ) (d e : Delivery) : Type 0 where

@@ -1,16 +1,14 @@
 -- S on records that are sent again. The rule holds since no call but a DATA ACK changes whether S is due before the choice is made anew,
 -- and a DATA ACK leaves the choice; the examples hold by computing their calls.
 use mathlib.Core.Path.{_≡_, refl, sym, _∙_}
-use mathlib.Core.Bool.{Bool, true, false, not, true≢false}
-use mathlib.Core.List.{List, _∷_}
+use mathlib.Core.Bool.{Bool, true, false, true≢false}
+use mathlib.Core.List.{List}
 use Prim.Native.Nat.{ℕ, _≤_}
 use native.Mathlib.Decide.{ℕ-discrete}
 use native.Mathlib.Omega.{arith}
-use borrow.Author.Tests.{ltb-false}
-use Rattle.octets.specs.Answers.{_when_, done, unsoundState}
+use Rattle.octets.specs.Answers.{done}
 use Rattle.octets.specs.Numbers.{numberOf, uintIn, octetsIn}
 use Rattle.octets.specs.Each.{every, firstFrom}
-use Rattle.octets.proofs.Judging.{passed}
 use Rattle.wire.specs.FieldTypes.{isType, widthOf}
 use Rattle.wire.specs.Messages.{isMessage, bodyFits, messageOf, layoutOf, meaningOf}
 use Rattle.wire.specs.Table.{keySound, blockEnd, headSound, paddingSound, blockSound, blockAt, tableSound, templateIndex, templateAt}
@@ -20,7 +18,7 @@ use Rattle.session.specs.Servers.{sameActive, choose, chosen, changed, s
 use Rattle.session.specs.Servers.{acknowledged}
 use Rattle.session.specs.Queue.{sumOf, ringRead, ringWrite, recordAt, has, hasOther, pushed, dropFront, marked}
 use Rattle.session.specs.Sound.{settingsSound, numbersSound, sound}
-use Rattle.session.specs.Steps.{ackCount, Call, put, nextData, tick, ack, move, soundFor, headOf, written, checks, answer, after}
+use Rattle.session.specs.Steps.{ackCount, Call, put, nextData, tick, ack, move, headOf, written, checks, answer, after}
 use Rattle.session.specs.Steps.{settled, storeAfter, step, fresh, setUp}
 use Rattle.session.specs.History.{dsnOf, placeOf, deliveryAfter, ledgerAfter, afterAccepted, afterCall, freshHistory, anyWriting}
 use Rattle.session.specs.Claim.{advance, begin}
@@ -30,7 +28,7 @@ use Rattle.session.specs.declared.state.State.{State}
 use Rattle.session.proofs.SoundFacts.{sound-facts, active-same}
 use Rattle.session.proofs.SoundKept.{tick-calm}
 use Rattle.session.proofs.StepLaws.{step-done, step-refused, step-answer}
-use Rattle.session.proofs.Counters.{found-sound, counter-rule}
+use Rattle.session.proofs.Counters.{found-sound, ack-held, counter-rule}
 
 -- ---- the rule
 
@@ -74,15 +72,6 @@ acked-due n s left held r =
       stays = λ x y. r .dueStays (omega (arith, r .count));
     }
 
--- an accepted DATA ACK names no more records than are held
-ack-held : (enc : Encoding) (room v dsn config : ℕ) (s : State) (store : List ℕ) → answer enc room (ack v dsn config) s store ≡ done
-    → sound s ≡ true → ackCount (enc .width) s dsn ≤ s .queue .count
-unfolding answer checks
-ack-held enc room v dsn config s store e h =
-    let c = ack v dsn config in
-    let p = passed ((unsoundState when not (soundFor c s store)) ∷ checks enc room c s store) tt e in
-    omega (arith, ltb-false (s .delivery .reached) (ackCount (enc .width) s dsn) (p .1 .1 .1 .1 .0), sound-facts s h .numbers .reachedHeld)
-
 -- an accepted call
 accepted-due : (enc : Encoding) (room : ℕ) (c : Call) (s : State) (store : List ℕ) → answer enc room c s store ≡ done
     → DueRules s (settled (after (enc .width) c s))
@@ -96,8 +85,7 @@ accepted-due enc room tick s store e =
 accepted-due enc room (ack v dsn config) s store e =
     let c = ack v dsn config in
     let told = step-answer enc room c s store ∙ e in
-    let held = ack-held enc room v dsn config s store e (found-sound enc room c s store told) in
-    acked-due (ackCount (enc .width) s dsn) s (settled (after (enc .width) c s)) held
+    acked-due (ackCount (enc .width) s dsn) s (settled (after (enc .width) c s)) (ack-held enc room v dsn config s store e .0)
     (rw (step-done enc room c s store e) at (counter-rule enc s .dataAck room v dsn config store told))
 accepted-due enc room (move v m) s store e = settled-due s (after (enc .width) (move v m) s) refl (omega arith) refl
 
