@@ -9,7 +9,7 @@ use native.Mathlib.Omega.{arith}
 use lib.ListN.{length, getD, take, drop, replicate, length-take, length-drop, List·getD-append, List·getD-eq-default}
 use lib.Seq.{sets-eq, length-sets, getD-take, getD-drop}
 use lib.Dec.{eqb, ltb}
-use borrow.Author.Tests.{ne-eqb, le-ltb, ltb-true, ltb-false}
+use borrow.Author.Tests.{ne-eqb, lt-ltb, le-ltb, ltb-true, ltb-false}
 use Rattle.octets.specs.Answers.{done}
 use Rattle.octets.specs.Numbers.{putAt, uintAt, Octets}
 use Rattle.octets.proofs.Numbers.{uint-in-same, uint-below}
@@ -93,10 +93,19 @@ settings-same b c h =
 pub store-same : (b c : List ℕ) → ((i : ℕ) → i < prioritiesAt → getD b i 0 ≡ getD c i 0) → storeLength b ≡ storeLength c
 store-same b c h = ap (λ (n : ℕ). n + 1) (number-same-at b c h 6 2 (omega arith))
 
--- an event 0 with a priority for every server does what set-up does with its settings
-pub set-up-enough : (b : List ℕ) (room : ℕ) → prioritiesAt + settingsOf b .servers ≤ length b → setUpBy b room ≡ setUp (settingsOf b) room
+-- an event 0 with fewer priorities than servers is refused, and one with a priority for every server does what set-up does
+pub set-up-fewer : (b : List ℕ) (capacity : ℕ) → length b - prioritiesAt < settingsOf b .servers → refusedSetUp ≡ setUpBy b capacity
 unfolding setUpBy
-set-up-enough b room h = rw (le-ltb (length b - prioritiesAt) (settingsOf b .servers) (omega arith)) refl
+set-up-fewer b capacity h =
+    let p = settingsOf b in
+    sym (ap (λ (x : Bool). cond x refusedSetUp (setUp p capacity)) (lt-ltb (length b - prioritiesAt) (p .servers) h))
+
+pub set-up-enough : (b : List ℕ) (capacity : ℕ) → settingsOf b .servers ≤ length b - prioritiesAt
+    → setUp (settingsOf b) capacity ≡ setUpBy b capacity
+unfolding setUpBy
+set-up-enough b capacity h =
+    let p = settingsOf b in
+    sym (ap (λ (x : Bool). cond x refusedSetUp (setUp p capacity)) (le-ltb (length b - prioritiesAt) (p .servers) h))
 
 -- an event 0 that is answered 0 did what set-up does with its settings
 pub set-up-accepted : (b : List ℕ) (room : ℕ) → setUpBy b room .answer ≡ done → setUpBy b room ≡ setUp (settingsOf b) room

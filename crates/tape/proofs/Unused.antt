@@ -43,7 +43,11 @@ unused-printed t u h =
     let others : settingsOf c ≡ withPriorities q p = settings-same b c (λ i l. h .used i (omega arith)) in
     let servers : settingsOf c .servers ≡ p .servers = ap (λ (z : Settings). z .servers) others in
     let first : setUpBy c room .answer ≡ setUpBy b room .answer =
-    rw (set-up-enough c room (rw servers (h .enoughToo)), set-up-enough b room (h .enough), others) (unused-entries .setUps p q room) in
+    rw (
+      ← set-up-enough c room (omega (arith, servers, h .enoughToo)),
+      ← set-up-enough b room (omega (arith, h .enough)),
+      others,
+    ) (unused-entries .setUps p q room) in
     let es = tapeCalls t in
     let lines : linesOf (freshOver (withPriorities q p) (tapeStore t)) 2 es ≡ linesOf (freshOver p (tapeStore t)) 2 es =
     lines-of _ 2 es

@@ -57,8 +57,7 @@ loop-again : tie.Need-loop-again Inv-loop μ-loop
 loop-again c =
     let l = c .before .before .before .before .loop in
     let a = c .before .before .before .before .before .args in
-    let test = entrySound (a .servers) (a .lengths .now) (a .receivers .now) (l .i) in
-    (
+    let test = entrySound (a .servers) (a .lengths .now) (a .receivers .now) (l .i) in (
       search needs,
       rw (every-more, c .widened .ensures, one-shifted boundBits (a .servers) (omega arith)) (ap (λ (b : Bool). b && test) (l .inv .1)),
     )
