@@ -52,7 +52,7 @@ module _ (z : Session) (wide : 64 < modulus (dsnBits z)) where
       (held (x .state) (x .store)) (i .call) (outcome z x i)) (k .settings)
       (call-claim (z .encoding) (i .room) h (x .state) (x .store) wide (k .agrees) (i .call) m)
 
-  run-keeps : (x : Exporter) (h : History) (is : List Invocation) → AllInRange (dsnBits z) is → Kept z h x
+  pub run-keeps : (x : Exporter) (h : History) (is : List Invocation) → AllInRange (dsnBits z) is → Kept z h x
       → Kept z (historyFrom (dsnBits z) (z .settings) h (transcript z x is)) (run z x is)
   unfolding run transcript historyFrom
   run-keeps x h [] m k = k

@@ -265,7 +265,7 @@ received-range p v m o = go (eqb (formAnswer p m) done) refl
         ∷ []))
         refl (eqb-false (formAnswer p m) done e)
 
-all-in-range : (p : Settings) (es : List Event) → AllOctets es → AllInRange 32 (map (invocationOf p) es)
+pub all-in-range : (p : Settings) (es : List Event) → AllOctets es → AllInRange 32 (map (invocationOf p) es)
 unfolding callOf
 all-in-range p [] o = tt
 all-in-range p (Put table id r ∷ es) o = (tt, all-in-range p es o)

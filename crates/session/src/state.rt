@@ -111,3 +111,15 @@ pub struct Wrote {
     // how many octets of the output it wrote, from the first one on; 0 after a refusal
     pub written: usize,
 }
+
+// What sending a batch answers: how many messages it wrote, and how many octets these have together.
+pub struct Batch {
+    // the next state: what the messages that were written leave
+    pub state: State,
+    // 0 where the given number was reached, or the number of the refusal that stopped the batch
+    pub answer: u8,
+    // how many messages were written
+    pub count: usize,
+    // how many octets of the output they are, from the first one on
+    pub written: usize,
+}

@@ -1,0 +1,93 @@
+-- The batches that were worked out from the papers: each is computed. Where the records end before the given number, it does not matter how
+-- large that number is: the largest is not counted down.
+use mathlib.Core.Path.{refl}
+use Prim.Native.Nat.{ℕ, suc}
+use Rattle.octets.specs.Answers.{nothingToSend}
+use Rattle.octets.specs.Numbers.{octetsIn}
+use Rattle.octets.specs.Each.{every}
+use Rattle.wire.specs.Messages.{messageOf, layoutOf}
+use Rattle.session.specs.Servers.{choose, changed, settle, sentOne}
+use Rattle.session.specs.Queue.{ringRead, sumOf, recordAt, has, hasOther, marked}
+use Rattle.session.specs.Sound.{settingsSound, numbersSound, sound}
+use Rattle.session.specs.Steps.{headOf, written, checks, answer, after, settled, storeAfter, step}
+use Rattle.session.specs.Batches.{batch}
+use Rattle.session.specs.BatchRows.{row, Holds, BatchRows}
+use Rattle.session.specs.declared.state.Phase.the-variants.{Agreed}
+
+-- two records are left, and the given number is 3 or more
+records-end : (n : ℕ) → Holds (row Agreed 1 1024 (suc (suc (suc n))) 1000 nothingToSend 2 36 3)
+unfolding octetsIn every messageOf layoutOf choose changed settle sentOne ringRead sumOf recordAt has hasOther marked settingsSound
+    numbersSound sound headOf written checks answer after settled storeAfter step batch
+records-end n = (refl, (refl, (refl, refl)))
+
+-- so with the largest number
+largest-number : Holds (row Agreed 1 1024 18446744073709551615 1000 nothingToSend 2 36 3)
+largest-number = records-end 18446744073709551612
+
+pub batch-rows : BatchRows
+unfolding octetsIn every messageOf layoutOf choose changed settle sentOne ringRead sumOf recordAt has hasOther marked settingsSound
+    numbersSound sound headOf written checks answer after settled storeAfter step batch
+batch-rows = record {
+  stops = (
+    (refl, (refl, (refl, refl))),
+    (
+      (refl, (refl, (refl, refl))),
+      (
+        (refl, (refl, (refl, refl))),
+        (
+          (refl, (refl, (refl, refl))),
+          (
+            (refl, (refl, (refl, refl))),
+            (
+              (refl, (refl, (refl, refl))),
+              (
+                largest-number,
+                (
+                  (refl, (refl, (refl, refl))),
+                  (
+                    (refl, (refl, (refl, refl))),
+                    (
+                      (refl, (refl, (refl, refl))),
+                      (
+                        (refl, (refl, (refl, refl))),
+                        (
+                          (refl, (refl, (refl, refl))),
+                          (
+                            (refl, (refl, (refl, refl))),
+                            (
+                              (refl, (refl, (refl, refl))),
+                              (
+                                (refl, (refl, (refl, refl))),
+                                (
+                                  (refl, (refl, (refl, refl))),
+                                  (
+                                    (refl, (refl, (refl, refl))),
+                                    (
+                                      (refl, (refl, (refl, refl))),
+                                      (
+                                        (refl, (refl, (refl, refl))),
+                                        (
+                                          (refl, (refl, (refl, refl))),
+                                          tt,
+                                        ),
+                                      ),
+                                    ),
+                                  ),
+                                ),
+                              ),
+                            ),
+                          ),
+                        ),
+                      ),
+                    ),
+                  ),
+                ),
+              ),
+            ),
+          ),
+        ),
+      ),
+    ),
+  );
+  octets = refl;
+}

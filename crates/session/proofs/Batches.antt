@@ -1,0 +1,360 @@
+-- A batch is its single calls, by induction on the given number: each accepted call writes one DATA, which is read by its own length field,
+-- and leaves a sound state. In a list of calls it stands for them, so that demand 3 holds of lists with batches.
+use mathlib.Core.Path.{_≡_, refl, sym, ap, _∙_, subst}
+use mathlib.Core.Bool.{Bool, true, false, not, cond}
+use mathlib.Core.List.{List, [], _∷_, _++_, map, append-assoc}
+use Prim.Native.Nat.{ℕ, zero, suc, _+_, _-_, _≤_}
+use native.Mathlib.Numerals.{add-one}
+use native.Mathlib.Omega.{arith}
+use borrow.Author.Tests.{eqb-true, eqb-false, not-false, le-leb, leb-false}
+use lib.Dec.{eqb, eqb·suc-suc, eqb·zero-suc}
+use lib.ListN.{length, drop, length-append, length-drop, length-set}
+use lib.Seq.{take-at, drop-at}
+use Rattle.octets.specs.Answers.{_when_, done, unsoundState}
+use Rattle.octets.specs.Numbers.{numberOf, uintIn, octetsIn}
+use Rattle.octets.proofs.Numbers.{uint-one, uint-front, read-back}
+use Rattle.octets.proofs.Stores.{cond-cases, sets-first}
+use Rattle.octets.proofs.Each.{and-left, and-right}
+use Rattle.octets.proofs.Judging.{passed}
+use Rattle.wire.specs.Messages.{lengthField, messageNumber, dataNumber, isMessage, bodyFits, messageOf, dataFront, layoutOf, readAnswer}
+use Rattle.wire.specs.Messages.{maxRecordOctets}
+use Rattle.wire.specs.Replies.{silent, crane, layout}
+use Rattle.messages.specs.declared.message.DataHead.{DataHead}
+use Rattle.messages.specs.declared.message.Message.the-variants.{Data}
+use Rattle.messages.proofs.Messages.{readable, reads, data-length}
+use Rattle.session.specs.Queue.{recordAt, marked}
+use Rattle.session.specs.Sound.{sound}
+use Rattle.session.specs.Steps.{nextData, headOf, written, checks, soundFor, answer, after, settled, storeAfter, Outcome, step}
+use Rattle.session.specs.Steps.{octetsWritten}
+use Rattle.session.specs.History.{History, freshHistory}
+use Rattle.session.specs.Claim.{Exporter, transcript, historyFrom, Premises}
+use Rattle.session.specs.InOctets.{Event, Put, NextData, Receive, OfferTemplates, LineDown, Tick, eventStep, afterEvent, afterEvents}
+use Rattle.session.specs.InOctets.{invocationOf, craneSession, freshOver, AllOctets}
+use Rattle.session.specs.Batches.{BatchOutcome, answerAtNumber, batch, singleCalls, outcomes, lastAnswer, messagesOf, joined}
+use Rattle.session.specs.Batches.{messagesIn, AllData, BatchClaim, ListedCall, Single, SendBatch, callsFor, afterListed, afterAll}
+use Rattle.session.specs.Batches.{singlesOf, BatchInList, BatchesInList, AllOctetsListed, Demand3WithBatches}
+use Rattle.session.specs.declared.state.Settings.{Settings}
+use Rattle.session.specs.declared.state.State.{State}
+use Rattle.session.proofs.Rings.{read-length}
+use Rattle.session.proofs.SoundFacts.{sound-facts}
+use Rattle.session.proofs.SoundKept.{Sized, kept-sound}
+use Rattle.session.proofs.Places.{wide-modulus}
+use Rattle.session.proofs.Calls.{sound-for}
+use Rattle.session.proofs.Demand.{Kept, run-keeps, begin-kept}
+use Rattle.session.proofs.InOctets.{run-means, all-in-range, demand3-in-octets}
+use Rattle.session.proofs.StepLaws.{step-done, step-answer}
+use Rattle.session.proofs.Written.{octets-fit}
+use Rattle.session.proofs.Refusals.{refusals}
+
+-- ---- a DATA message
+
+-- a DATA whose record is not too long is read, as DATA
+data-read : (h : DataHead) (part : List ℕ) → length part ≤ maxRecordOctets
+    → (readAnswer (layoutOf (Data h) part) ≡ done) × (messageNumber (layoutOf (Data h) part) ≡ dataNumber)
+unfolding layoutOf messageOf isMessage bodyFits octetsIn uintIn numberOf
+data-read h part short =
+    let m = layoutOf (Data h) part in
+    let long : length m ≡ 16 + length part = data-length h part in
+    let number : messageNumber m ≡ dataNumber = uint-one m 1 in
+    let field : lengthField m ≡ 8 + length (dataFront h ++ part) = read-back 4 (8 + length (dataFront h ++ part)) (omega arith) in (
+      reads m (record {
+        long = omega (arith, long);
+        version = uint-one m 0;
+        field = field ∙ omega arith;
+        known = refl;
+        fits = le-leb 8 (length m - 8) (omega (arith, long));
+        table = λ e. absurd (omega (arith, number, e));
+      }),
+      number,
+    )
+
+-- messages that are read as DATA are found one behind the other by their length fields, whatever follows them
+messages-back : (ms : List (List ℕ)) (rest : List ℕ) → AllData ms → messagesIn (length ms) (joined ms ++ rest) ≡ ms
+unfolding messagesIn joined
+messages-back [] rest d = refl
+messages-back (m ∷ ms) rest d =
+    let behind = joined ms ++ rest in
+    let r = readable m (d .0 .0) in
+    let field : lengthField (m ++ behind) ≡ length m = uint-front m behind 4 4 (r .long) ∙ r .field in
+    rw (append-assoc m (joined ms) rest, field, take-at m behind (length m) refl, drop-at m behind (length m) refl)
+    (ap (λ (l : List (List ℕ)). m ∷ l) (messages-back ms rest (d .1)))
+
+-- ---- a single call
+
+-- a state that next data finds sound, with the store and arrays of the code's lengths
+record Ready (s : State) (store : List ℕ) : Type 0 where
+  found : soundFor nextData s store ≡ true
+  sized : Sized (s .queue)
+
+module _ (room : ℕ) (s : State) (store : List ℕ) where
+  -- an accepted call found the state sound and a record to send
+  next-found : eqb (step crane room nextData s store .answer) done ≡ true
+      → (soundFor nextData s store ≡ true) × (length (recordAt s store (s .delivery .sent)) ≤ maxRecordOctets)
+  unfolding answer checks recordAt
+  next-found e =
+      let p =
+      passed ((unsoundState when not (soundFor nextData s store)) ∷ checks crane room nextData s store) tt
+      (sym (step-answer crane room nextData s store) ∙ eqb-true _ done e) in
+      let found = not-false (soundFor nextData s store) (p .0) in
+      let f = sound-facts s (and-left (sound s) _ found) in
+      let more = leb-false (s .queue .count) (s .delivery .sent) (p .1 .1 .0) in
+      (found, rw read-length (f .short (s .delivery .sent) more))
+
+  -- it writes a DATA
+  next-read : eqb (step crane room nextData s store .answer) done ≡ true → let m = octetsWritten (step crane room nextData s store) in
+      (readAnswer m ≡ done) × (messageNumber m ≡ dataNumber)
+  unfolding written
+  next-read e =
+      let a = sym (step-answer crane room nextData s store) ∙ eqb-true _ done e in
+      rw (step-done crane room nextData s store a) (data-read (headOf 32 s) (recordAt s store (s .delivery .sent)) (next-found e .1))
+
+  -- a refused one writes nothing
+  next-silent : eqb (step crane room nextData s store .answer) done ≡ false → octetsWritten (step crane room nextData s store) ≡ []
+  next-silent e = ap layout (refusals .steps crane room nextData s store (eqb-false _ done e) .written)
+
+  -- a call leaves the arrays their lengths, and the state the length of its store
+  next-sized : Sized (s .queue) → Sized (step crane room nextData s store .state .queue)
+      × (step crane room nextData s store .state .capacity ≡ s .capacity)
+  unfolding step settled after marked
+  next-sized z =
+      let a = answer crane room nextData s store in
+      cond-cases (λ (o : Outcome). Sized (o .state .queue) × (o .state .capacity ≡ s .capacity)) (eqb a done)
+      (record {
+        answer = done;
+        state = settled (after 32 nextData s);
+        store = storeAfter nextData s store;
+        written = written 32 nextData s store;
+      })
+      (record { answer = a; state = s; store = store; written = silent })
+      (λ h. (
+        record { lengths = z .lengths; templates = z .templates; receivers = length-set (s .queue .receivers) _ _ ∙ z .receivers },
+        refl,
+      ))
+      (λ h. (z, refl))
+
+  -- and a sound state sound
+  next-ready : Ready s store → Ready (step crane room nextData s store .state) store
+  next-ready r =
+      let k = next-sized (r .sized) in
+      record {
+        found = rw (kept-sound crane room nextData s store (r .sized) (and-left (sound s) _ (r .found)), k .1)
+            (and-right (sound s) _ (r .found));
+        sized = k .0;
+      }
+
+  -- so the answer at the given number is 0 behind an accepted call
+  pub next-at-number : Sized (s .queue) → eqb (step crane room nextData s store .answer) done ≡ true
+      → answerAtNumber (step crane room nextData s store .state) store ≡ done
+  next-at-number z e = rw (next-ready (record { found = next-found e .0; sized = z }) .found) refl
+
+-- ---- the batch
+
+-- what holds of a batch b of at most n messages and of its single calls es
+record Facts (n : ℕ) (out : List ℕ) (x : Exporter) (b : BatchOutcome) (es : List Event) : Type 0 where
+  sameRun : afterEvents x es ≡ record { state = b .state; store = x .store }
+  counted : b .count ≡ length (messagesOf (outcomes x es))
+  limited : b .count ≤ n
+  written : b .octets ≡ joined (messagesOf (outcomes x es))
+  fits : length (b .octets) ≤ length out
+  areData : AllData (messagesOf (outcomes x es))
+  answered : Sized (x .state .queue) → b .answer ≡ lastAnswer (answerAtNumber (x .state) (x .store)) (outcomes x es)
+  -- the given number is reached exactly where the answer is 0, and a refused call is the last exactly where it is not
+  reached : Ready (x .state) (x .store) → eqb (b .answer) done ≡ eqb (b .count) n
+  calls : length es ≡ b .count + cond (eqb (b .count) n) 0 1
+
+facts : (n : ℕ) (out : List ℕ) (x : Exporter) → Facts n out x (batch n (length out) (x .state) (x .store)) (singleCalls n out x)
+unfolding batch singleCalls outcomes lastAnswer messagesOf joined afterEvent afterEvents
+facts zero out x =
+    record {
+      sameRun = refl;
+      counted = refl;
+      limited = omega arith;
+      written = refl;
+      fits = omega arith;
+      areData = tt;
+      answered = λ z. refl;
+      reached = λ r. rw (r .found) refl;
+      calls = refl;
+    }
+facts (suc n) out x = go (eqb (o .answer) done) refl (rw length-drop at (facts n (drop (length m) out) next))
+  where
+    o : Outcome
+    o = eventStep x (NextData out)
+
+    m : List ℕ
+    m = octetsWritten o
+
+    next : Exporter
+    next = afterEvent x (NextData out)
+
+    b : BatchOutcome
+    b = batch n (length out - length m) (o .state) (x .store)
+
+    es : List Event
+    es = singleCalls n (drop (length m) out) next
+
+    go : (accepted : Bool) → eqb (o .answer) done ≡ accepted → Facts n (drop (length m) out) next b es
+        → Facts (suc n) out x (batch (suc n) (length out) (x .state) (x .store)) (singleCalls (suc n) out x)
+    go true e f =
+        rw e
+        (record {
+          sameRun = f .sameRun;
+          counted = rw e (rw add-one (ap suc (f .counted)));
+          limited = omega (arith, f .limited);
+          written = rw e (ap (λ (l : List ℕ). m ++ l) (f .written));
+          fits =
+              omega (
+                arith,
+                f .fits,
+                length-append m (b .octets),
+                length-drop (length m) out,
+                octets-fit (length out) nextData (x .state) (x .store),
+              );
+          areData = rw e (next-read (length out) (x .state) (x .store) e, f .areData);
+          answered = λ z.
+              f .answered (next-sized (length out) (x .state) (x .store) z .0)
+              ∙ ap (λ (a : ℕ). lastAnswer a (outcomes next es))
+              (next-at-number (length out) (x .state) (x .store) z e ∙ sym (eqb-true (o .answer) done e));
+          reached = λ r. f .reached (next-ready (length out) (x .state) (x .store) r) ∙ rw (add-one, eqb·suc-suc);
+          calls = rw (add-one, eqb·suc-suc) (ap suc (f .calls) ∙ omega arith);
+        })
+    go false e f =
+        rw (e, next-silent (length out) (x .state) (x .store) e)
+        (record {
+          sameRun = refl;
+          counted = rw e refl;
+          limited = omega arith;
+          written = rw e refl;
+          fits = omega arith;
+          areData = rw e tt;
+          answered = λ z. refl;
+          reached = λ r. e ∙ sym (eqb·zero-suc n);
+          calls = rw (eqb·zero-suc n) refl;
+        })
+
+-- of arrays of the code's lengths: otherwise a message that is written would not be noted, and the state would no longer be sound
+pub batch-claim : (n : ℕ) (out : List ℕ) (x : Exporter) → Sized (x .state .queue) → BatchClaim n out x
+batch-claim n out x z =
+    let f = facts n out x in
+    let b = batch n (length out) (x .state) (x .store) in
+    let ms = messagesOf (outcomes x (singleCalls n out x)) in
+    let behind = drop (length (b .octets)) out in
+    let output = sets-first out (b .octets) (f .fits) in
+    record {
+      sameRun = f .sameRun;
+      answered = f .answered z;
+      counted = f .counted;
+      limited = f .limited;
+      written = f .written;
+      fits = f .fits;
+      output = output;
+      read =
+          ap (messagesIn (b .count)) output
+          ∙ ap (λ (k : ℕ). messagesIn k (b .octets ++ behind)) (f .counted)
+          ∙ ap (λ (l : List ℕ). messagesIn (length ms) (l ++ behind)) (f .written)
+          ∙ messages-back ms behind (f .areData);
+      areData = f .areData;
+    }
+
+-- ---- what a list leaves
+
+-- calls behind others go on from what those leave
+after-both : (x : Exporter) (es fs : List Event) → afterEvents x (es ++ fs) ≡ afterEvents (afterEvents x es) fs
+unfolding afterEvents
+after-both x [] fs = refl
+after-both x (e ∷ es) fs = after-both (afterEvent x e) es fs
+
+-- a call of a list leaves what its single calls leave
+listed-run : (x : Exporter) (l : ListedCall) → afterListed x l ≡ afterEvents x (callsFor x l)
+unfolding afterEvents
+listed-run x (Single e) = refl
+listed-run x (SendBatch n out) = sym (facts n out x .sameRun)
+
+-- so does a list
+list-run : (x : Exporter) (ls : List ListedCall) → afterAll x ls ≡ afterEvents x (singlesOf x ls)
+unfolding afterAll singlesOf afterEvents
+list-run x [] = refl
+list-run x (l ∷ ls) =
+    let y = afterListed x l in
+    list-run y ls
+    ∙ ap (λ (z : Exporter). afterEvents z (singlesOf y ls)) (listed-run x l)
+    ∙ sym (after-both x (callsFor x l) (singlesOf y ls))
+
+-- ---- what a list receives
+
+octets-both : (es fs : List Event) → AllOctets es → AllOctets fs → AllOctets (es ++ fs)
+octets-both [] fs o k = k
+octets-both (Put table id r ∷ es) fs o k = octets-both es fs o k
+octets-both (NextData out ∷ es) fs o k = octets-both es fs o k
+octets-both (Receive v m out ∷ es) fs o k = (o .0, octets-both es fs (o .1) k)
+octets-both (OfferTemplates v table out ∷ es) fs o k = octets-both es fs o k
+octets-both (LineDown v ∷ es) fs o k = octets-both es fs o k
+octets-both (Tick ∷ es) fs o k = octets-both es fs o k
+
+-- a batch receives no message
+singles-octets : (n : ℕ) (out : List ℕ) (x : Exporter) → AllOctets (singleCalls n out x)
+unfolding singleCalls
+singles-octets zero out x = tt
+singles-octets (suc n) out x =
+    let o = eventStep x (NextData out) in
+    cond-cases AllOctets (eqb (o .answer) done) (singleCalls n (drop (length (octetsWritten o)) out) (afterEvent x (NextData out))) []
+    (λ e. singles-octets n (drop (length (octetsWritten o)) out) (afterEvent x (NextData out)))
+    (λ e. tt)
+
+listed-octets : (x : Exporter) (l : ListedCall) (ls : List ListedCall) → AllOctetsListed (l ∷ ls)
+    → AllOctets (callsFor x l) × AllOctetsListed ls
+listed-octets x (Single e) ls o = o
+listed-octets x (SendBatch n out) ls o = (singles-octets n out x, o)
+
+list-octets : (x : Exporter) (ls : List ListedCall) → AllOctetsListed ls → AllOctets (singlesOf x ls)
+unfolding singlesOf
+list-octets x [] o = tt
+list-octets x (l ∷ ls) o =
+    let c = listed-octets x l ls o in
+    octets-both (callsFor x l) (singlesOf (afterListed x l) ls) (c .0) (list-octets (afterListed x l) ls (c .1))
+
+-- ---- batches in a list
+
+-- an exporter that calls from set-up on left, with their history
+record Reached (p : Settings) (x : Exporter) : Type 0 where
+  history : History
+  kept : Kept (craneSession p) history x
+
+module _ (p : Settings) where
+  reached-after : (x : Exporter) (es : List Event) → AllOctets es → Reached p x → Reached p (afterEvents x es)
+  reached-after x es o r =
+      let z = craneSession p in
+      let is = map (invocationOf p) es in
+      record {
+        history = historyFrom 32 p (r .history) (transcript z x is);
+        kept = subst (Kept z (historyFrom 32 p (r .history) (transcript z x is))) (sym (run-means p x es (r .kept .settings)))
+            (run-keeps z (wide-modulus 32 (omega arith)) x (r .history) is (all-in-range p es o) (r .kept));
+      }
+
+  batch-in-list : (x : Exporter) (l : ListedCall) → Reached p x → BatchInList x l
+  batch-in-list x (Single e) r = tt
+  batch-in-list x (SendBatch n out) r =
+      let a = r .kept .agrees in
+      let f = facts n out x in
+      (batch-claim n out x (a .sized), (f .reached (record { found = sound-for a nextData; sized = a .sized }), f .calls))
+
+  batches-in-list : (x : Exporter) (ls : List ListedCall) → AllOctetsListed ls → Reached p x → BatchesInList x ls
+  batches-in-list x [] o r = tt
+  batches-in-list x (l ∷ ls) o r =
+      let c = listed-octets x l ls o in (
+        batch-in-list x l r,
+        batches-in-list (afterListed x l) ls (c .1)
+            (subst (Reached p) (sym (listed-run x l)) (reached-after x (callsFor x l) (c .0) r)),
+      )
+
+-- ---- the claim
+
+pub demand3-with-batches : Demand3WithBatches
+demand3-with-batches p store a i ls o =
+    let x = freshOver p store in
+    let m : Premises (craneSession p) store = record { wide = omega arith; accepted = a; initial = i } in
+    record {
+      sameRun = list-run x ls;
+      claim = demand3-in-octets p store a i (singlesOf x ls) (list-octets x ls o);
+      batches = batches-in-list p x ls o (record { history = freshHistory; kept = begin-kept (craneSession p) store m });
+    }

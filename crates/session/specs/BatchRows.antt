@@ -1,0 +1,95 @@
+-- Batches worked out from the papers (02, ask 5): where each stops, with which answer, and what it wrote.
+use mathlib.Core.Path.{_≡_}
+use mathlib.Core.List.{List, [], _∷_, _++_}
+use Prim.Native.Nat.{ℕ}
+use lib.ListN.{length, replicate}
+use Rattle.octets.specs.Answers.{done, unsoundState, outputTooShort, noActiveServer, nothingToSend}
+use Rattle.session.specs.Limits.{maxHeld}
+use Rattle.session.specs.Batches.{batch}
+use Rattle.session.specs.Examples.{alone}
+use Rattle.session.specs.declared.state.Phase.{Phase}
+use Rattle.session.specs.declared.state.Phase.the-variants.{Closed, Agreed}
+use Rattle.session.specs.declared.state.State.{State}
+
+-- One server, in a phase, and three records of 2 octets each, of which the first `sent` were sent; a store of a length; a given number and
+-- an output's length. Then what the batch answers, how many messages and octets it writes, and how many of the records count as sent.
+pub record Row : Type 0 where
+  pub phase : Phase
+  pub sent : ℕ
+  pub stored : ℕ
+  pub number : ℕ
+  pub room : ℕ
+  pub answer : ℕ
+  pub count : ℕ
+  pub written : ℕ
+  pub sentAfter : ℕ
+
+-- A row, by its columns.
+abbrev pub row : Phase → ℕ → ℕ → ℕ → ℕ → ℕ → ℕ → ℕ → ℕ → Row
+row phase sent stored number room answer count written sentAfter =
+    record {
+      phase = phase;
+      sent = sent;
+      stored = stored;
+      number = number;
+      room = room;
+      answer = answer;
+      count = count;
+      written = written;
+      sentAfter = sentAfter;
+    }
+
+-- The exporter of a row; its next DSN is 1, so that the three have 4,294,967,294, 4,294,967,295 and 0.
+abbrev pub exporterFor : Phase → ℕ → State
+exporterFor phase sent = alone phase 3 (replicate maxHeld 2) sent 1
+
+-- What a row says.
+abbrev pub Holds : Row → Type 0
+Holds r =
+    let b = batch (r .number) (r .room) (exporterFor (r .phase) (r .sent)) (replicate (r .stored) 0) in
+    (b .answer ≡ r .answer)
+    × ((b .count ≡ r .count) × ((length (b .octets) ≡ r .written) × (b .state .delivery .sent ≡ r .sentAfter)))
+
+-- Every row holds.
+abbrev pub AllHold : List Row → Type 0
+AllHold [] = Unit {0}
+AllHold (r ∷ rs) = Holds r × AllHold rs
+
+-- A message has 18 octets. The given number is reached, also with the last octet of the output, and also by the last record; the records
+-- end before it, also with the last octet; an octet is missing for one more; nobody is active; a given number of 0; a store that is not of
+-- the length set, 1,024.
+abbrev pub rows : List Row
+rows =
+    row Agreed 0 1024 2 100 done 2 36 2
+    ∷ row Agreed 0 1024 2 36 done 2 36 2
+    ∷ row Agreed 0 1024 3 54 done 3 54 3
+    ∷ row Agreed 1 1024 1 18 done 1 18 2
+    ∷ row Agreed 0 1024 4 1000 nothingToSend 3 54 3
+    ∷ row Agreed 0 1024 4 54 nothingToSend 3 54 3
+    ∷ row Agreed 1 1024 18446744073709551615 1000 nothingToSend 2 36 3
+    ∷ row Agreed 3 1024 1 100 nothingToSend 0 0 3
+    ∷ row Agreed 0 1024 3 53 outputTooShort 2 36 2
+    ∷ row Agreed 0 1024 4 36 outputTooShort 2 36 2
+    ∷ row Agreed 0 1024 1 17 outputTooShort 0 0 0
+    ∷ row Agreed 0 1024 1 0 outputTooShort 0 0 0
+    ∷ row Closed 0 1024 1 100 noActiveServer 0 0 0
+    ∷ row Closed 0 1024 3 0 noActiveServer 0 0 0
+    ∷ row Agreed 0 1024 0 100 done 0 0 0
+    ∷ row Agreed 3 1024 0 0 done 0 0 3
+    ∷ row Closed 0 1024 0 0 done 0 0 0
+    ∷ row Agreed 0 1023 0 100 unsoundState 0 0 0
+    ∷ row Agreed 0 1023 2 100 unsoundState 0 0 0
+    ∷ row Agreed 0 1025 2 100 unsoundState 0 0 0
+    ∷ []
+
+-- The octets of a batch of two, of three records that were sent to the active server alone and stand first in the store.
+abbrev pub Back : Type 0
+Back =
+    batch 2 100 (exporterFor Agreed 1) ((1 ∷ 2 ∷ 3 ∷ 4 ∷ 5 ∷ 6 ∷ []) ++ replicate 1018 0) .octets
+    ≡ 0x01 ∷ 0x20 ∷ 0x07 ∷ 0x00 ∷ 0x00 ∷ 0x00 ∷ 0x00 ∷ 0x12 ∷ 0x00 ∷ 0x03 ∷ 0x01 ∷ 0x00 ∷ 0xFF ∷ 0xFF ∷ 0xFF ∷ 0xFF ∷ 0x03 ∷ 0x04
+    ∷ 0x01 ∷ 0x20 ∷ 0x07 ∷ 0x00 ∷ 0x00 ∷ 0x00 ∷ 0x00 ∷ 0x12 ∷ 0x00 ∷ 0x03 ∷ 0x01 ∷ 0x00 ∷ 0x00 ∷ 0x00 ∷ 0x00 ∷ 0x00 ∷ 0x05 ∷ 0x06 ∷ []
+
+-- The rows and the octets.
+pub record BatchRows : Type 0 where
+  pub stops : AllHold rows
+  pub octets : Back
