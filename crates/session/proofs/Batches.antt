@@ -1,6 +1,6 @@
 -- A batch is its single calls, by induction on the given number: each accepted call writes one DATA, which is read by its own length field,
 -- and leaves a sound state. In a list of calls it stands for them, so that demand 3 holds of lists with batches.
-use mathlib.Core.Path.{_≡_, refl, sym, ap, _∙_, subst}
+use mathlib.Core.Path.{_≡_, refl, sym, ap, ap₂, _∙_, subst}
 use mathlib.Core.Bool.{Bool, true, false, not, cond}
 use mathlib.Core.List.{List, [], _∷_, _++_, map, append-assoc}
 use Prim.Native.Nat.{ℕ, zero, suc, _+_, _-_, _≤_}
@@ -8,7 +8,7 @@ use native.Mathlib.Numerals.{add-one}
 use native.Mathlib.Omega.{arith}
 use borrow.Author.Tests.{eqb-true, eqb-false, not-false, le-leb, leb-false}
 use lib.Dec.{eqb, eqb·suc-suc, eqb·zero-suc}
-use lib.ListN.{length, drop, length-append, length-drop, length-set}
+use lib.ListN.{length, take, drop, length-append, length-drop, length-set}
 use lib.Seq.{take-at, drop-at}
 use Rattle.octets.specs.Answers.{_when_, done, unsoundState}
 use Rattle.octets.specs.Numbers.{numberOf, uintIn, octetsIn}
@@ -76,8 +76,10 @@ messages-back (m ∷ ms) rest d =
     let behind = joined ms ++ rest in
     let r = readable m (d .0 .0) in
     let field : lengthField (m ++ behind) ≡ length m = uint-front m behind 4 4 (r .long) ∙ r .field in
-    rw (append-assoc m (joined ms) rest, field, take-at m behind (length m) refl, drop-at m behind (length m) refl)
-    (ap (λ (l : List (List ℕ)). m ∷ l) (messages-back ms rest (d .1)))
+    ap (messagesIn (suc (length ms))) (append-assoc m (joined ms) rest)
+    ∙ ap (λ (k : ℕ). take k (m ++ behind) ∷ messagesIn (length ms) (drop k (m ++ behind))) field
+    ∙ ap₂ (λ (l r : List ℕ). l ∷ messagesIn (length ms) r) (take-at m behind (length m) refl) (drop-at m behind (length m) refl)
+    ∙ ap (λ (l : List (List ℕ)). m ∷ l) (messages-back ms rest (d .1))
 
 -- ---- a single call
 
@@ -149,6 +151,21 @@ module _ (room : ℕ) (s : State) (store : List ℕ) where
 
 -- ---- the batch
 
+-- an accepted call writes one message more
+accepted-message : (o : Outcome) (os : List Outcome) → eqb (o .answer) done ≡ true
+    → messagesOf (o ∷ os) ≡ octetsWritten o ∷ messagesOf os
+unfolding messagesOf
+accepted-message o os e = ap (λ (b : Bool). cond b (octetsWritten o ∷ messagesOf os) (messagesOf os)) e
+
+-- a refused one none
+refused-message : (o : Outcome) (os : List Outcome) → eqb (o .answer) done ≡ false → messagesOf (o ∷ os) ≡ messagesOf os
+unfolding messagesOf
+refused-message o os e = ap (λ (b : Bool). cond b (octetsWritten o ∷ messagesOf os) (messagesOf os)) e
+
+-- one more of a number is reached where the number is
+reached-next : (k n : ℕ) → eqb (k + 1) (suc n) ≡ eqb k n
+reached-next k n = rw (add-one, eqb·suc-suc)
+
 -- what holds of a batch b of at most n messages and of its single calls es
 record Facts (n : ℕ) (out : List ℕ) (x : Exporter) (b : BatchOutcome) (es : List Event) : Type 0 where
   sameRun : afterEvents x es ≡ record { state = b .state; store = x .store }
@@ -196,12 +213,13 @@ facts (suc n) out x = go (eqb (o .answer) done) refl (rw length-drop at (facts n
     go : (accepted : Bool) → eqb (o .answer) done ≡ accepted → Facts n (drop (length m) out) next b es
         → Facts (suc n) out x (batch (suc n) (length out) (x .state) (x .store)) (singleCalls (suc n) out x)
     go true e f =
+        let more = accepted-message o (outcomes next es) e in
         rw e
         (record {
           sameRun = f .sameRun;
-          counted = rw e (rw add-one (ap suc (f .counted)));
+          counted = ap (λ (k : ℕ). k + 1) (f .counted) ∙ add-one (length (messagesOf (outcomes next es))) ∙ sym (ap length more);
           limited = omega (arith, f .limited);
-          written = rw e (ap (λ (l : List ℕ). m ++ l) (f .written));
+          written = ap (λ (l : List ℕ). m ++ l) (f .written) ∙ sym (ap joined more);
           fits =
               omega (
                 arith,
@@ -210,23 +228,27 @@ facts (suc n) out x = go (eqb (o .answer) done) refl (rw length-drop at (facts n
                 length-drop (length m) out,
                 octets-fit (length out) nextData (x .state) (x .store),
               );
-          areData = rw e (next-read (length out) (x .state) (x .store) e, f .areData);
+          areData = subst AllData (sym more) (next-read (length out) (x .state) (x .store) e, f .areData);
           answered = λ z.
               f .answered (next-sized (length out) (x .state) (x .store) z .0)
               ∙ ap (λ (a : ℕ). lastAnswer a (outcomes next es))
               (next-at-number (length out) (x .state) (x .store) z e ∙ sym (eqb-true (o .answer) done e));
-          reached = λ r. f .reached (next-ready (length out) (x .state) (x .store) r) ∙ rw (add-one, eqb·suc-suc);
-          calls = rw (add-one, eqb·suc-suc) (ap suc (f .calls) ∙ omega arith);
+          reached = λ r. f .reached (next-ready (length out) (x .state) (x .store) r) ∙ sym (reached-next (b .count) n);
+          calls =
+              let one : ℕ = cond (eqb (b .count) n) 0 1 in
+              let shift : suc (b .count + one) ≡ b .count + 1 + one = omega arith in
+              ap suc (f .calls) ∙ shift ∙ ap (λ (t : Bool). b .count + 1 + cond t 0 1) (sym (reached-next (b .count) n));
         })
     go false e f =
+        let none = refused-message o [] e in
         rw (e, next-silent (length out) (x .state) (x .store) e)
         (record {
           sameRun = refl;
-          counted = rw e refl;
+          counted = sym (ap length none);
           limited = omega arith;
-          written = rw e refl;
+          written = sym (ap joined none);
           fits = omega arith;
-          areData = rw e tt;
+          areData = subst AllData (sym none) tt;
           answered = λ z. refl;
           reached = λ r. e ∙ sym (eqb·zero-suc n);
           calls = rw (eqb·zero-suc n) refl;
