@@ -2,9 +2,9 @@
 ghost use mathlib.Core.Path.{_≡_};
 ghost use mathlib.Core.List.{[], _∷_};
 ghost use mathlib.Core.Bool.{false, not, _&&_};
-ghost use Prim.Native.Nat.{_+_, _≤_, _<_, max};
+ghost use Prim.Native.Nat.{_+_, _^_, _≤_, _<_, max};
 ghost use lib.Dec.{eqb};
-ghost use lib.ListN.{length};
+ghost use lib.ListN.{length, getD};
 ghost use Rattle.octets.specs.Answers.{_when_, judge, done, unsoundState};
 ghost use Rattle.wire.specs.Messages.{maxRecordOctets, Placed, layoutOf};
 ghost use Rattle.messages.specs.declared.message.Message.the-variants.{Data};
@@ -83,11 +83,12 @@ fn is_first(due: bool, i: usize) -> bool
 
 // Whether a record that was sent to a set of servers is a duplicate for the active one.
 fn is_duplicate(p: Settings, active: Active, set: u16) -> bool
+    requires { ⌜ Below maxServers active × (set < 2 ^ p .servers) ⌝ }
     ensures { λ r. ⌜ r ≡ isDuplicate p active set ⌝ }
 {
     match active {
         Active::Nobody => false,
-        Active::Server(v) => crate::sets::has_other(set, v, p.servers),
+        Active::Server(v) => crate::sets::has_other(set, v),
     }
 }
 
@@ -110,7 +111,8 @@ fn next_head<'a>(
     receivers: &'a [u16; MAX_HELD],
     next: u32,
 ) -> DataHead
-    requires { ⌜ (count ≤ maxHeld) × (d .sent < maxHeld) ⌝ }
+    requires { ⌜ (count ≤ maxHeld) × ((d .sent < maxHeld)
+        × (Below maxServers (d .active) × (getD (now receivers) (d .sent) 0 < 2 ^ p .servers))) ⌝ }
     ensures { λ r. ⌜ r ≡ headOf 32 (stateOf p 0 d due count [] (now (templates .entry)) (now (receivers .entry)) 0 next) ⌝ }
 {
     let active = d.active;

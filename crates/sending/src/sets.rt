@@ -1,20 +1,17 @@
 // Sets of servers, as the bits of a number: whether another server is in one, and one more server in it.
 ghost use mathlib.Core.Path.{_≡_};
-ghost use Prim.Native.Nat.{_<_};
+ghost use mathlib.Core.Bool.{not, _&&_};
+ghost use Prim.Native.Nat.{_^_, _<_};
+ghost use lib.Dec.{eqb};
 ghost use Rattle.session.specs.Limits.{maxServers};
-ghost use Rattle.session.specs.Queue.{with, hasOther};
+ghost use Rattle.session.specs.Queue.{with};
 
-// Whether one of the first n servers, other than v, is in a set.
-pub(crate) fn has_other(set: u16, v: u8, n: u8) -> bool
-    ensures { λ r. ⌜ r ≡ hasOther n v set ⌝ }
+// Whether another server than v is in a set of existing servers: it is neither empty nor v alone.
+pub(crate) fn has_other(set: u16, v: u8) -> bool
+    requires { ⌜ v < maxServers ⌝ }
+    ensures { λ r. ⌜ r ≡ (not (eqb set 0) && not (eqb set (2 ^ v))) ⌝ }
 {
-    let mut found = false;
-    let mut k: u8 = 0;
-    while k < n {
-        found = (!(k == v) & queue::has_server(set, k)) | found;
-        k += 1;
-    }
-    found
+    (set != 0) & (set != (1u16 << v))
 }
 
 // A set with a server.

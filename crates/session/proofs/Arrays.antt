@@ -5,12 +5,15 @@ use mathlib.Core.Bool.{true, false, not, _&&_, _||_}
 use mathlib.Core.List.{List, [], _∷_, _++_, map, append-nil}
 use Prim.Native.Nat.{ℕ, zero, suc, _+_, _-_, _*_, _/_, _%_, _^_, _≤_, _<_}
 use native.Mathlib.Nat.{mod-lt, one-mul, mod-eq-of-lt, pow-le-pow-right, div-eq-of-lt, zero-lt-suc, lt-of-lt-of-le, not-suc-le-zero}
-use native.Mathlib.Nat.{le-of-suc-le-suc}
+use native.Mathlib.Nat.{le-of-suc-le-suc, zero-add, zero-mul, mod-one, pow-succ'}
+use native.Mathlib.Decide.{decLt, ℕ-discrete}
 use native.Mathlib.Numerals.{add-one}
 use native.Mathlib.Omega.{arith}
 use lib.Bits.{bitAnd, and-zero-l, and-zero-r, and-self, and-shr, and-mod}
+use borrow.Author.Tests.{eq-eqb, ne-eqb}
+use lib.Arith.{mod-mul}
 use lib.Dec.{eqb}
-use lib.Pow.{pow-lt}
+use lib.Pow.{pow-pos, pow-lt}
 use lib.ListN.{length, getD, set, take, drop, replicate, length-drop, length-replicate, replicate-append-replicate, drop-of-length-le}
 use lib.Seq.{take-suc, take-all, drop-at, getD-drop}
 use Rattle.octets.specs.Each.{every}
@@ -51,10 +54,59 @@ has-none w m v h l =
 pub one-shifted : (w v : ℕ) → v < w → 1 * 2 ^ v % 2 ^ w ≡ 2 ^ v
 one-shifted w v h = ap (λ (x : ℕ). x % 2 ^ w) (one-mul (2 ^ v)) ∙ mod-eq-of-lt {m = 2 ^ w} (pow-lt {j = w} h)
 
--- one more server
-pub other-more : (n v m : ℕ) → hasOther (n + 1) v m ≡ (not (eqb n v) && has m n) || hasOther n v m
-unfolding hasOther
-other-more n v m = rw add-one refl
+-- a set with server n, and else servers below n only, is not that of another server alone
+not-alone : (n v l : ℕ) → l < 2 ^ n → (n ≡ v → ⊥) → 2 ^ n + l ≡ 2 ^ v → ⊥
+not-alone n v l h d e = go (decLt n v)
+  where
+    go : Dec (n < v) → ⊥
+    go (yes z) = omega (arith, pow-le-pow-right {n = 2} (zero-lt-suc 1) {i = suc n} {j = v} z)
+    go (no z) = omega (arith, pow-lt {i = v} {j = n} (omega arith))
+
+-- one of the first n servers, other than v, is in a set exactly where its first n bits are neither 0 nor the bit of v alone
+other-low : (n v m : ℕ) → hasOther n v m ≡ not (eqb (m % 2 ^ n) 0) && not (eqb (m % 2 ^ n) (2 ^ v))
+unfolding hasOther has
+other-low zero v m = rw (mod-one m)
+other-low (suc n) v m =
+    let low : m % 2 ^ suc n ≡ m / 2 ^ n % 2 * 2 ^ n + m % 2 ^ n =
+    ap (λ (x : ℕ). m % x) (pow-succ' 2 n) ∙ mod-mul m {m = 2} {c = 2 ^ n} (omega arith) (pow-pos n) in
+    rw (other-low n v m, low)
+    (go (m / 2 ^ n % 2) (m % 2 ^ n) (mod-lt (m / 2 ^ n) {m = 2} (omega arith)) (mod-lt m (pow-pos n)) (ℕ-discrete n v))
+  where
+    go : (b l : ℕ) → b < 2 → l < 2 ^ n → Dec (n ≡ v)
+        → (not (eqb n v) && eqb b 1) || (not (eqb l 0) && not (eqb l (2 ^ v)))
+        ≡ not (eqb (b * 2 ^ n + l) 0) && not (eqb (b * 2 ^ n + l) (2 ^ v))
+    go zero l h k (yes e) = rw (eq-eqb n v e, zero-mul (2 ^ n), zero-add l)
+    go zero l h k (no e) = rw (ne-eqb n v e, zero-mul (2 ^ n), zero-add l)
+    go (suc zero) l h k (no e) =
+        rw (
+          one-mul (2 ^ n),
+          ne-eqb n v e,
+          ne-eqb (2 ^ n + l) 0 (λ z. omega (arith, pow-pos n)),
+          ne-eqb (2 ^ n + l) (2 ^ v) (not-alone n v l k e),
+        )
+    go (suc zero) zero h k (yes e) =
+        let q = ap (λ (x : ℕ). 2 ^ x) e in
+        rw (
+          one-mul (2 ^ n),
+          eq-eqb n v e,
+          ne-eqb (2 ^ n + 0) 0 (λ z. omega (arith, pow-pos n)),
+          eq-eqb (2 ^ n + 0) (2 ^ v) (omega (arith, q)),
+        )
+    go (suc zero) (suc l) h k (yes e) =
+        let q = ap (λ (x : ℕ). 2 ^ x) e in
+        rw (
+          one-mul (2 ^ n),
+          eq-eqb n v e,
+          ne-eqb (suc l) 0 (λ z. omega arith),
+          ne-eqb (suc l) (2 ^ v) (λ z. omega (arith, q)),
+          ne-eqb (2 ^ n + suc l) 0 (λ z. omega arith),
+          ne-eqb (2 ^ n + suc l) (2 ^ v) (λ z. omega (arith, q)),
+        )
+    go (suc (suc b)) l h k d = absurd (omega arith)
+
+-- a set of the first n servers has another one than v exactly where it is neither empty nor v alone
+pub other-only : (n v m : ℕ) → m < 2 ^ n → hasOther n v m ≡ not (eqb m 0) && not (eqb m (2 ^ v))
+other-only n v m h = other-low n v m ∙ ap (λ (x : ℕ). not (eqb x 0) && not (eqb x (2 ^ v))) (mod-eq-of-lt {m = 2 ^ n} h)
 
 -- ---- entries moved to the front
 

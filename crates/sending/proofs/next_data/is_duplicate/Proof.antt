@@ -1,5 +1,9 @@
--- `is_duplicate` meets its contract. While nobody is active there is no duplicate; else the call looks for another server in the set, as
--- the definition does.
+-- `is_duplicate` meets its contract. While nobody is active there is no duplicate; else another server is in the set where it is neither
+-- empty nor the active server alone, since it names existing servers only.
+use mathlib.Core.Path.{sym, subst, _∙_}
+use Rattle.session.specs.Limits.{maxServers}
+use Rattle.session.proofs.Arrays.{other-only}
+use Rattle.soundness.specs.Parts.{Below}
 use borrow.Author.Needs.{needs}
 use Rattle.sending.proofs.next_data.is_duplicate.Statement.{statement}
 use Rattle.sending.proofs.next_data.is_duplicate.Tie as tie
@@ -11,13 +15,16 @@ enum-known-active : tie.Need-enum-known-active
 enum-known-active c = search needs
 
 has-other-requires : tie.Need-has-other-requires
-has-other-requires c κs = search needs
+has-other-requires c κs = subst (Below maxServers) (c .before .active .given .1) (c .before .before .before .pre .0)
 
 returns : tie.Need-returns
 returns c = search needs
 
 returns-2 : tie.Need-returns-2
-returns-2 c = rw (c .before .before .active .given .1) (c .has-other .ensures)
+returns-2 c =
+    let v = c .before .before .active .given in
+    let z = c .before .before .before .before in
+    rw (v .1) (c .has-other .ensures ∙ sym (other-only (z .args .p .servers) (v .0 .0) (z .args .set) (z .pre .1)))
 
 pub is-duplicate-spec : {M : Type 1} → statement M
 is-duplicate-spec =

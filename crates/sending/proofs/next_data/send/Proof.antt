@@ -47,7 +47,8 @@ next-head-requires c κs =
     stateOf (a .p) (a .capacity) (a .d) (a .due) (a .count) (a .lengths .now) (a .templates .now) (a .receivers .now) (a .start)
     (a .next) in
     let f = sound-facts s (z .pre .isSound) in
-    (f .numbers .few, sent-few s (a .store .now) (z .pre))
+    let known = f .known (a .d .sent) (z .pre .more) in
+    (f .numbers .few, (sent-few s (a .store .now) (z .pre), (active-below s (z .pre .isSound), known)))
 
 write-record-requires : tie.Need-write-record-requires
 write-record-requires c κs =
