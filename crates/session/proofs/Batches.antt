@@ -83,13 +83,13 @@ messages-back (m ∷ ms) rest d =
 
 -- ---- a single call
 
--- a state that next data finds sound, with the store and arrays of the code's lengths
+-- a state that next data finds sound, with arrays of the code's lengths
 record Ready (s : State) (store : List ℕ) : Type 0 where
   found : soundFor nextData s store ≡ true
   sized : Sized (s .queue)
 
 module _ (room : ℕ) (s : State) (store : List ℕ) where
-  -- an accepted call found the state sound and a record to send
+  -- an accepted call found the state sound, so that the record it sends is not too long
   next-found : eqb (step crane room nextData s store .answer) done ≡ true
       → (soundFor nextData s store ≡ true) × (length (recordAt s store (s .delivery .sent)) ≤ maxRecordOctets)
   unfolding answer checks recordAt
@@ -115,7 +115,7 @@ module _ (room : ℕ) (s : State) (store : List ℕ) where
   next-silent e = ap layout (refusals .steps crane room nextData s store (eqb-false _ done e) .written)
 
   -- a call leaves the arrays their lengths, and the state the length of its store
-  next-sized : Sized (s .queue) → Sized (step crane room nextData s store .state .queue)
+  pub next-sized : Sized (s .queue) → Sized (step crane room nextData s store .state .queue)
       × (step crane room nextData s store .state .capacity ≡ s .capacity)
   unfolding step settled after marked
   next-sized z =
@@ -134,7 +134,7 @@ module _ (room : ℕ) (s : State) (store : List ℕ) where
       ))
       (λ h. (z, refl))
 
-  -- and a sound state sound
+  -- and a sound state stays sound
   next-ready : Ready s store → Ready (step crane room nextData s store .state) store
   next-ready r =
       let k = next-sized (r .sized) in
@@ -162,7 +162,7 @@ refused-message : (o : Outcome) (os : List Outcome) → eqb (o .answer) done ≡
 unfolding messagesOf
 refused-message o os e = ap (λ (b : Bool). cond b (octetsWritten o ∷ messagesOf os) (messagesOf os)) e
 
--- one more of a number is reached where the number is
+-- a number is reached with one more where the number before it was
 reached-next : (k n : ℕ) → eqb (k + 1) (suc n) ≡ eqb k n
 reached-next k n = rw (add-one, eqb·suc-suc)
 
@@ -179,6 +179,7 @@ record Facts (n : ℕ) (out : List ℕ) (x : Exporter) (b : BatchOutcome) (es : 
   reached : Ready (x .state) (x .store) → eqb (b .answer) done ≡ eqb (b .count) n
   calls : length es ≡ b .count + cond (eqb (b .count) n) 0 1
 
+-- the first call, and where it is accepted the batch of one less from what it leaves
 facts : (n : ℕ) (out : List ℕ) (x : Exporter) → Facts n out x (batch n (length out) (x .state) (x .store)) (singleCalls n out x)
 unfolding batch singleCalls outcomes lastAnswer messagesOf joined afterEvent afterEvents
 facts zero out x =
@@ -254,7 +255,7 @@ facts (suc n) out x = go (eqb (o .answer) done) refl (rw length-drop at (facts n
           calls = rw (eqb·zero-suc n) refl;
         })
 
--- of arrays of the code's lengths: otherwise a message that is written would not be noted, and the state would no longer be sound
+-- with arrays of the code's lengths: in shorter ones no set could be noted, and an accepted call would leave an unsound state
 pub batch-claim : (n : ℕ) (out : List ℕ) (x : Exporter) → Sized (x .state .queue) → BatchClaim n out x
 batch-claim n out x z =
     let f = facts n out x in
@@ -304,6 +305,7 @@ list-run x (l ∷ ls) =
 
 -- ---- what a list receives
 
+-- the messages of two lists of calls
 octets-both : (es fs : List Event) → AllOctets es → AllOctets fs → AllOctets (es ++ fs)
 octets-both [] fs o k = k
 octets-both (Put table id r ∷ es) fs o k = octets-both es fs o k
@@ -323,11 +325,13 @@ singles-octets (suc n) out x =
     (λ e. singles-octets n (drop (length (octetsWritten o)) out) (afterEvent x (NextData out)))
     (λ e. tt)
 
+-- those of one call of a list, and of the rest
 listed-octets : (x : Exporter) (l : ListedCall) (ls : List ListedCall) → AllOctetsListed (l ∷ ls)
     → AllOctets (callsFor x l) × AllOctetsListed ls
 listed-octets x (Single e) ls o = o
 listed-octets x (SendBatch n out) ls o = (singles-octets n out x, o)
 
+-- so the single calls of a list receive octets
 list-octets : (x : Exporter) (ls : List ListedCall) → AllOctetsListed ls → AllOctets (singlesOf x ls)
 unfolding singlesOf
 list-octets x [] o = tt
@@ -343,6 +347,7 @@ record Reached (p : Settings) (x : Exporter) : Type 0 where
   kept : Kept (craneSession p) history x
 
 module _ (p : Settings) where
+  -- more calls leave such an exporter
   reached-after : (x : Exporter) (es : List Event) → AllOctets es → Reached p x → Reached p (afterEvents x es)
   reached-after x es o r =
       let z = craneSession p in
@@ -353,6 +358,7 @@ module _ (p : Settings) where
             (run-keeps z (wide-modulus 32 (omega arith)) x (r .history) is (all-in-range p es o) (r .kept));
       }
 
+  -- its arrays have their lengths, and next data finds it sound
   batch-in-list : (x : Exporter) (l : ListedCall) → Reached p x → BatchInList x l
   batch-in-list x (Single e) r = tt
   batch-in-list x (SendBatch n out) r =
@@ -360,6 +366,7 @@ module _ (p : Settings) where
       let f = facts n out x in
       (batch-claim n out x (a .sized), (f .reached (record { found = sound-for a nextData; sized = a .sized }), f .calls))
 
+  -- so it is with every batch of a list
   batches-in-list : (x : Exporter) (ls : List ListedCall) → AllOctetsListed ls → Reached p x → BatchesInList x ls
   batches-in-list x [] o r = tt
   batches-in-list x (l ∷ ls) o r =
