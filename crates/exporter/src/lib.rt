@@ -40,6 +40,7 @@
 // `State` lists `session` beside this crate: the checker asks for it.
 pub use putting::put;
 pub use receiving::receive;
+pub use sending::batch;
 pub use sending::next_data;
 pub use session::limits;
 pub use session::state;

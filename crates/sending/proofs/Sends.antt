@@ -20,12 +20,12 @@ use Rattle.messages.specs.declared.message.DataHead.{DataHead}
 use Rattle.messages.specs.declared.message.Written.{Written}
 use Rattle.messages.specs.declared.message.Written.the-variants.{Octets, Refused}
 use Rattle.wire.specs.Replies.{crane, layout}
-use Rattle.session.specs.Servers.{withCounts, sentOne}
+use Rattle.session.specs.Servers.{sentOne}
 use Rattle.session.specs.Queue.{ringRead, recordAt, octetsTo, markedSet, marked}
 use Rattle.session.specs.Sound.{sound}
 use Rattle.session.specs.Steps.{dsnAt, isFirst, isDuplicate, headOf, sendChecks, nextData, answer, checks, soundFor, after, settled}
 use Rattle.session.specs.Steps.{written, Outcome, nextDataStep, wroteOf, outputAfter}
-use Rattle.sending.specs.Sendings.{SendFacts, sendingOf}
+use Rattle.sending.specs.Sendings.{withSendings, SendFacts, sendingOf}
 use Rattle.soundness.specs.Parts.{stateOf}
 use Rattle.sending.specs.declared.next_data.Sending.{Sending}
 use Rattle.session.specs.declared.state.State.{State}
@@ -81,11 +81,11 @@ abbrev pub octetsNext : State → List ℕ → List ℕ
 octetsNext s store = layout (written 32 nextData s store)
 
 -- what is judged before the room
-abbrev earlyChecks : State → List ℕ → List Check
+abbrev pub earlyChecks : State → List ℕ → List Check
 earlyChecks s store =
     (unsoundState when not (sound (partsIn s) && eqb (length store) (s .capacity))) ∷ sendChecks (s .delivery) (s .queue .count)
 
-abbrev sendAnswer : State → List ℕ → ℕ
+abbrev pub sendAnswer : State → List ℕ → ℕ
 sendAnswer s store = judge (earlyChecks s store)
 
 pub send-facts : (s : State) (store : List ℕ) (a : ℕ) → a ≡ sendAnswer s store → a ≡ 0 → SendFacts s store
@@ -100,7 +100,7 @@ send-facts s store a j e =
     }
 
 -- a refusal before the room is judged is the call's
-send-refused : (s : State) (store out : List ℕ) → (sendAnswer s store ≡ 0 → ⊥)
+pub send-refused : (s : State) (store out : List ℕ) → (sendAnswer s store ≡ 0 → ⊥)
     → sendAnswer s store ≡ answer crane (length out) nextData s store
 unfolding answer checks written
 send-refused s store out n =
@@ -118,7 +118,7 @@ pub sent-few : (s : State) (store : List ℕ) → SendFacts s store → s .deliv
 sent-few s store f = omega (arith, f .more, sound-facts s (f .isSound) .numbers .few)
 
 -- what the head of the next DATA looks at: not the store's length, the lengths and the start
-abbrev headParts : State → State
+abbrev pub headParts : State → State
 headParts s = stateOf (s .settings) 0 (s .delivery) (s .due) (s .queue .count) [] (s .queue .templates) (s .queue .receivers) 0 (s .next)
 
 -- the head by its fields: S, D and the DSN are found, the others are copied
@@ -189,6 +189,20 @@ sent-refused s store out after' octets r a f o q p = go (ltb (length out) (lengt
         let k : a ≡ 12 = cc in
         (rw (e, k), rw e (p .left ∙ put-short out 0 octets (omega (arith, ltb-true (length out) (length octets) t))))
 
+-- so the output stays
+pub short-output : (s : State) (store out after' octets : List ℕ) (r : Written) (a : ℕ) → SendFacts s store → octets ≡ octetsNext s store
+    → r ≡ Refused a → Placed octets out r after'
+    → (a ≡ 12) × ((answer crane (length out) nextData s store ≡ a) × (after' ≡ out))
+short-output s store out after' octets r a f o q p = go (ltb (length out) (length octets)) refl (sym q ∙ p .answered)
+  where
+    go : (b : Bool) → ltb (length out) (length octets) ≡ b → Refused a ≡ cond b (Refused 12) (Octets (length octets))
+        → (a ≡ 12) × ((answer crane (length out) nextData s store ≡ a) × (after' ≡ out))
+    go false t x = let z : _≡_ {A = ℕ} 0 1 = cc in absurd (omega arith)
+    go true t x =
+        let v = answer-room s store out f ∙ ap (λ (b : Bool). cond b 12 0) (ap (λ (l : List ℕ). ltb (length out) (length l)) (sym o) ∙ t) in
+        let k : a ≡ 12 = cc in
+        (k, (v ∙ sym k, p .left ∙ put-short out 0 octets (omega (arith, ltb-true (length out) (length octets) t))))
+
 -- ---- what sending changes
 
 -- what sending changes, by what it hands back
@@ -207,7 +221,7 @@ sendingBy s r =
     }
 
 -- the change that a sending of n octets makes
-abbrev sentOctets : State → ℕ → Sending
+abbrev pub sentOctets : State → ℕ → Sending
 sentOctets s n =
     record {
       answer = done;
@@ -295,21 +309,7 @@ next-facts s store out e =
 
 -- the state with such a change
 abbrev withSent : State → Sending → State
-withSent s c =
-    record {
-      settings = s .settings;
-      capacity = s .capacity;
-      delivery = withCounts (s .delivery) (c .sent) (c .reached) (s .delivery .timer);
-      due = s .due;
-      queue = record {
-        count = s .queue .count;
-        lengths = s .queue .lengths;
-        templates = s .queue .templates;
-        receivers = set (s .queue .receivers) (c .place) (c .set);
-      };
-      start = s .start;
-      next = s .next;
-    }
+withSent s c = withSendings s (c .sent) (c .reached) (set (s .queue .receivers) (c .place) (c .set))
 
 module _ (s : State) (store out : List ℕ) where
   -- an outcome's change is made to one of the 64 entries

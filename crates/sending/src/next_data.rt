@@ -44,7 +44,7 @@ pub struct Sending {
 
 // 0 where there is a record to send and a server to send it to, by the parts of the state that soundness looks at and the length of the
 // lent store; else 1, 13 or 14.
-fn send_answer<'a>(
+pub(crate) fn send_answer<'a>(
     p: Settings,
     capacity: usize,
     d: Delivery,
@@ -102,7 +102,7 @@ fn dsn_at(next: u32, count: usize, i: usize) -> u32
 }
 
 // The head of the next DATA.
-fn next_head<'a>(
+pub(crate) fn next_head<'a>(
     p: Settings,
     d: Delivery,
     due: bool,
@@ -128,7 +128,13 @@ fn next_head<'a>(
 }
 
 // Writes a DATA whose record lies in the store from a place on.
-fn write_record(head: DataHead, store: &[u8], at: usize, len: usize, out: &mut [u8]) -> Written
+pub(crate) fn write_record(
+    head: DataHead,
+    store: &[u8],
+    at: usize,
+    len: usize,
+    out: &mut [u8],
+) -> Written
     requires { ⌜ (at < length (now store)) × ((len ≤ length (now store)) × (len ≤ maxRecordOctets)) ⌝ }
     ensures { λ r. ⌜
         (let octets = ringRead (length (now (store .entry))) (now (store .entry)) at len in
@@ -145,7 +151,7 @@ fn write_record(head: DataHead, store: &[u8], at: usize, len: usize, out: &mut [
 }
 
 // A set of servers with the active one.
-fn marked_set(active: Active, set: u16) -> u16
+pub(crate) fn marked_set(active: Active, set: u16) -> u16
     requires { ⌜ Below maxServers active ⌝ }
     ensures { λ r. ⌜ r ≡ markedSet active set ⌝ }
 {
@@ -156,7 +162,7 @@ fn marked_set(active: Active, set: u16) -> u16
 }
 
 // The larger of two numbers.
-fn larger(a: usize, b: usize) -> usize
+pub(crate) fn larger(a: usize, b: usize) -> usize
     ensures { λ r. ⌜ r ≡ max a b ⌝ }
 {
     if a < b {
@@ -204,7 +210,7 @@ fn accept_sending(d: Delivery, set: u16, n: usize) -> Sending
 }
 
 // A length as a count, so that reading an entry and widening it are proved apart.
-fn wide(len: u16) -> usize
+pub(crate) fn wide(len: u16) -> usize
     ensures { λ r. ⌜ r ≡ len ⌝ }
 {
     len as usize
