@@ -18,7 +18,7 @@ use Rattle.session.specs.declared.state.Phase.the-variants.{Agreed}
 records-end : (n : ℕ) → Holds (row Agreed 1 1024 (suc (suc (suc n))) 1000 nothingToSend 2 36 3)
 unfolding octetsIn every messageOf layoutOf choose changed settle sentOne ringRead sumOf recordAt has hasOther marked settingsSound
     numbersSound sound headOf written checks answer after settled storeAfter step batch
-records-end n = (refl, (refl, (refl, refl)))
+records-end n = refl
 
 -- so with the largest number
 largest-number : Holds (row Agreed 1 1024 18446744073709551615 1000 nothingToSend 2 36 3)
@@ -28,66 +28,10 @@ pub batch-rows : BatchRows
 unfolding octetsIn every messageOf layoutOf choose changed settle sentOne ringRead sumOf recordAt has hasOther marked settingsSound
     numbersSound sound headOf written checks answer after settled storeAfter step batch
 batch-rows = record {
-  stops = (
-    (refl, (refl, (refl, refl))),
-    (
-      (refl, (refl, (refl, refl))),
-      (
-        (refl, (refl, (refl, refl))),
-        (
-          (refl, (refl, (refl, refl))),
-          (
-            (refl, (refl, (refl, refl))),
-            (
-              (refl, (refl, (refl, refl))),
-              (
-                largest-number,
-                (
-                  (refl, (refl, (refl, refl))),
-                  (
-                    (refl, (refl, (refl, refl))),
-                    (
-                      (refl, (refl, (refl, refl))),
-                      (
-                        (refl, (refl, (refl, refl))),
-                        (
-                          (refl, (refl, (refl, refl))),
-                          (
-                            (refl, (refl, (refl, refl))),
-                            (
-                              (refl, (refl, (refl, refl))),
-                              (
-                                (refl, (refl, (refl, refl))),
-                                (
-                                  (refl, (refl, (refl, refl))),
-                                  (
-                                    (refl, (refl, (refl, refl))),
-                                    (
-                                      (refl, (refl, (refl, refl))),
-                                      (
-                                        (refl, (refl, (refl, refl))),
-                                        (
-                                          (refl, (refl, (refl, refl))),
-                                          tt,
-                                        ),
-                                      ),
-                                    ),
-                                  ),
-                                ),
-                              ),
-                            ),
-                          ),
-                        ),
-                      ),
-                    ),
-                  ),
-                ),
-              ),
-            ),
-          ),
-        ),
-      ),
-    ),
-  );
+  atNumber = (refl, (refl, (refl, (refl, tt))));
+  recordsEnd = (refl, (refl, (largest-number, (refl, (refl, tt)))));
+  refused = (refl, (refl, (refl, (refl, (refl, (refl, tt))))));
+  noneAsked = (refl, (refl, (refl, tt)));
+  unsound = (refl, (refl, (refl, (refl, (refl, (refl, tt))))));
   octets = refl;
 }

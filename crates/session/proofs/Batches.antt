@@ -30,9 +30,9 @@ use Rattle.session.specs.History.{History, freshHistory}
 use Rattle.session.specs.Claim.{Exporter, transcript, historyFrom, Premises}
 use Rattle.session.specs.InOctets.{Event, Put, NextData, Receive, OfferTemplates, LineDown, Tick, eventStep, afterEvent, afterEvents}
 use Rattle.session.specs.InOctets.{invocationOf, craneSession, freshOver, AllOctets}
-use Rattle.session.specs.Batches.{BatchOutcome, answerAtNumber, batch, singleCalls, outcomes, lastAnswer, messagesOf, joined}
-use Rattle.session.specs.Batches.{messagesIn, AllData, BatchClaim, ListedCall, Single, SendBatch, callsFor, afterListed, afterAll}
-use Rattle.session.specs.Batches.{singlesOf, BatchInList, BatchesInList, AllOctetsListed, Demand3WithBatches}
+use Rattle.session.specs.Batches.{BatchOutcome, answerAtNumber, batch, batchInto, singleCalls, outcomes, lastAnswer, messagesOf}
+use Rattle.session.specs.Batches.{joined, messagesIn, AllData, BatchClaim, ListedCall, Single, SendBatch, callsFor, afterListed}
+use Rattle.session.specs.Batches.{afterList, singlesOf, BatchInList, BatchesInList, AllOctetsListed, Demand3WithBatches}
 use Rattle.session.specs.declared.state.Settings.{Settings}
 use Rattle.session.specs.declared.state.State.{State}
 use Rattle.session.proofs.Rings.{read-length}
@@ -259,7 +259,7 @@ facts (suc n) out x = go (eqb (o .answer) done) refl (rw length-drop at (facts n
 pub batch-claim : (n : ℕ) (out : List ℕ) (x : Exporter) → Sized (x .state .queue) → BatchClaim n out x
 batch-claim n out x z =
     let f = facts n out x in
-    let b = batch n (length out) (x .state) (x .store) in
+    let b = batchInto n out x in
     let ms = messagesOf (outcomes x (singleCalls n out x)) in
     let behind = drop (length (b .octets)) out in
     let output = sets-first out (b .octets) (f .fits) in
@@ -294,8 +294,8 @@ listed-run x (Single e) = refl
 listed-run x (SendBatch n out) = sym (facts n out x .sameRun)
 
 -- so does a list
-list-run : (x : Exporter) (ls : List ListedCall) → afterAll x ls ≡ afterEvents x (singlesOf x ls)
-unfolding afterAll singlesOf afterEvents
+list-run : (x : Exporter) (ls : List ListedCall) → afterList x ls ≡ afterEvents x (singlesOf x ls)
+unfolding afterList singlesOf afterEvents
 list-run x [] = refl
 list-run x (l ∷ ls) =
     let y = afterListed x l in

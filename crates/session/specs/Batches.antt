@@ -19,7 +19,7 @@ use Rattle.session.specs.declared.state.Batch.{Batch}
 
 -- ---- the batch
 
--- What a batch answers and leaves: the answer that stopped it, how many messages it wrote, the state, and the messages' octets back to
+-- What a batch answers and leaves: the answer it stopped with, how many messages it wrote, the state, and the messages' octets back to
 -- back.
 pub record BatchOutcome : Type 0 where
   pub answer : ℕ
@@ -49,6 +49,10 @@ batchOf b = record { answer = b .answer; count = b .count; written = length (b .
 -- The output after it: its messages stand from the first octet on, and every other octet is as it was.
 abbrev pub outputAfterBatch : List ℕ → BatchOutcome → List ℕ
 outputAfterBatch out b = sets out 0 (b .octets)
+
+-- A batch into an output, on an exporter's state and store.
+abbrev pub batchInto : ℕ → List ℕ → Exporter → BatchOutcome
+batchInto n out x = batch n (length out) (x .state) (x .store)
 
 -- ---- its single calls
 
@@ -86,7 +90,7 @@ unfoldable pub messagesIn : ℕ → List ℕ → List (List ℕ)
 messagesIn zero octets = []
 messagesIn (suc n) octets = take (lengthField octets) octets ∷ messagesIn n (drop (lengthField octets) octets)
 
--- Every one of them is read as DATA.
+-- Every message of a list is read as DATA.
 abbrev pub AllData : List (List ℕ) → Type 0
 AllData [] = Unit {0}
 AllData (m ∷ ms) = ((readAnswer m ≡ done) × (messageNumber m ≡ dataNumber)) × AllData ms
@@ -96,21 +100,21 @@ AllData (m ∷ ms) = ((readAnswer m ≡ done) × (messageNumber m ≡ dataNumber
 -- Of a batch of at most n messages into an output, on any store and any state whose arrays have their 64 entries: it is its single calls.
 pub record BatchClaim (n : ℕ) (out : List ℕ) (x : Exporter) : Type 0 where
   -- it leaves the state and the store that they leave
-  pub sameRun : afterEvents x (singleCalls n out x)
-      ≡ record { state = batch n (length out) (x .state) (x .store) .state; store = x .store }
+  pub sameRun : afterEvents x (singleCalls n out x) ≡ record { state = batchInto n out x .state; store = x .store }
   -- it is answered as the last of them
-  pub answered : batch n (length out) (x .state) (x .store) .answer
+  pub answered : batchInto n out x .answer
       ≡ lastAnswer (answerAtNumber (x .state) (x .store)) (outcomes x (singleCalls n out x))
   -- it counts the accepted ones, and they are at most the given number
-  pub counted : batch n (length out) (x .state) (x .store) .count ≡ length (messagesOf (outcomes x (singleCalls n out x)))
-  pub limited : batch n (length out) (x .state) (x .store) .count ≤ n
+  pub counted : batchInto n out x .count ≡ length (messagesOf (outcomes x (singleCalls n out x)))
+  pub limited : batchInto n out x .count ≤ n
   -- it writes their messages back to back, which fit the output; no octet behind them changes
-  pub written : batch n (length out) (x .state) (x .store) .octets ≡ joined (messagesOf (outcomes x (singleCalls n out x)))
-  pub fits : length (batch n (length out) (x .state) (x .store) .octets) ≤ length out
-  pub output : let b = batch n (length out) (x .state) (x .store) in
+  pub written : batchInto n out x .octets ≡ joined (messagesOf (outcomes x (singleCalls n out x)))
+  pub fits : length (batchInto n out x .octets) ≤ length out
+  pub output : let b = batchInto n out x in
       outputAfterBatch out b ≡ b .octets ++ drop (length (b .octets)) out
-  -- as many messages as it counts are read from the output, each a DATA, and they are the layouts of the accepted calls
-  pub read : let b = batch n (length out) (x .state) (x .store) in
+  -- as many messages as it counts are read from the output, each a DATA; they are the accepted calls' messages, and with `written` they are
+  -- all that it wrote
+  pub read : let b = batchInto n out x in
       messagesIn (b .count) (outputAfterBatch out b) ≡ messagesOf (outcomes x (singleCalls n out x))
   pub areData : AllData (messagesOf (outcomes x (singleCalls n out x)))
 
@@ -129,24 +133,24 @@ callsFor x (SendBatch n out) = singleCalls n out x
 -- State and store after it.
 abbrev pub afterListed : Exporter → ListedCall → Exporter
 afterListed x (Single e) = afterEvent x e
-afterListed x (SendBatch n out) = record { state = batch n (length out) (x .state) (x .store) .state; store = x .store }
+afterListed x (SendBatch n out) = record { state = batchInto n out x .state; store = x .store }
 
 -- State and store after a list.
-unfoldable pub afterAll : Exporter → List ListedCall → Exporter
-afterAll x [] = x
-afterAll x (l ∷ ls) = afterAll (afterListed x l) ls
+unfoldable pub afterList : Exporter → List ListedCall → Exporter
+afterList x [] = x
+afterList x (l ∷ ls) = afterList (afterListed x l) ls
 
 -- The single calls that a list stands for, from x on.
 unfoldable pub singlesOf : Exporter → List ListedCall → List Event
 singlesOf x [] = []
 singlesOf x (l ∷ ls) = callsFor x l ++ singlesOf (afterListed x l) ls
 
--- What is claimed of one call of a list beside demand 3. In a list from a fresh exporter on a batch is answered 0 exactly where the given
--- number was reached, and a refused call stands behind the accepted ones exactly where it was not.
+-- What is claimed of one call of a list beside demand 3. In a list from a fresh exporter on, no state is unsound: a batch is answered 0
+-- exactly where the given number was reached, and a refused call stands behind the accepted ones exactly where it was not.
 abbrev pub BatchInList : Exporter → ListedCall → Type 0
 BatchInList x (Single e) = Unit {0}
 BatchInList x (SendBatch n out) =
-    let b = batch n (length out) (x .state) (x .store) in
+    let b = batchInto n out x in
     BatchClaim n out x
     × ((eqb (b .answer) done ≡ eqb (b .count) n)
     × (length (singleCalls n out x) ≡ b .count + cond (eqb (b .count) n) 0 1))
@@ -159,7 +163,7 @@ BatchesInList x (l ∷ ls) = BatchInList x l × BatchesInList (afterListed x l) 
 -- What is claimed of a list with batches from a fresh exporter on.
 pub record ClaimWithBatches (p : Settings) (store : List ℕ) (ls : List ListedCall) : Type 0 where
   -- it leaves the state and the store that its single calls leave
-  pub sameRun : let x = freshOver p store in afterAll x ls ≡ afterEvents x (singlesOf x ls)
+  pub sameRun : let x = freshOver p store in afterList x ls ≡ afterEvents x (singlesOf x ls)
   -- demand 3 holds of its single calls, the refused ones that stop batches among them
   pub claim : ClaimInOctets p store (singlesOf (freshOver p store) ls)
   -- and every batch is its single calls
