@@ -8,7 +8,7 @@ use native.Mathlib.Numerals.{add-one}
 use native.Mathlib.Omega.{arith}
 use borrow.Author.Tests.{eqb-true, eqb-false, not-false, le-leb, leb-false}
 use lib.Dec.{eqb, eqb·suc-suc, eqb·zero-suc}
-use lib.ListN.{length, take, drop, length-append, length-drop, length-set}
+use lib.ListN.{length, take, drop, replicate, length-append, length-drop, length-set}
 use lib.Seq.{take-at, drop-at}
 use Rattle.octets.specs.Answers.{_when_, done, unsoundState}
 use Rattle.octets.specs.Numbers.{numberOf, uintIn, octetsIn}
@@ -31,7 +31,7 @@ use Rattle.session.specs.Claim.{Exporter, transcript, historyFrom, Premi
 use Rattle.session.specs.InOctets.{Event, Put, NextData, Receive, OfferTemplates, LineDown, Tick, eventStep, afterEvent, afterEvents}
 use Rattle.session.specs.InOctets.{invocationOf, craneSession, freshOver, AllOctets}
 use Rattle.session.specs.Batches.{BatchOutcome, answerAtNumber, batch, batchInto, singleCalls, outcomes, lastAnswer, messagesOf}
-use Rattle.session.specs.Batches.{joined, messagesIn, AllData, BatchClaim, ListedCall, Single, SendBatch, callsFor, afterListed}
+use Rattle.session.specs.Batches.{joined, messagesIn, AllData, EveryBatch, ListedCall, Single, SendBatch, callsFor, afterListed}
 use Rattle.session.specs.Batches.{afterList, singlesOf, BatchInList, BatchesInList, AllOctetsListed, Demand3WithBatches}
 use Rattle.session.specs.declared.state.Settings.{Settings}
 use Rattle.session.specs.declared.state.State.{State}
@@ -162,6 +162,12 @@ refused-message : (o : Outcome) (os : List Outcome) → eqb (o .answer) done ≡
 unfolding messagesOf
 refused-message o os e = ap (λ (b : Bool). cond b (octetsWritten o ∷ messagesOf os) (messagesOf os)) e
 
+-- its answer stands in front of the others
+accepted-answers : (k a : ℕ) (others last : List ℕ) → eqb a done ≡ true → others ≡ replicate k done ++ last
+    → a ∷ others ≡ replicate (k + 1) done ++ last
+accepted-answers k a others last e h =
+    ap₂ (λ (b : ℕ) (l : List ℕ). b ∷ l) (eqb-true a done e) h ∙ ap (λ (n : ℕ). replicate n done ++ last) (sym (add-one k))
+
 -- a number is reached with one more where the number before it was
 reached-next : (k n : ℕ) → eqb (k + 1) (suc n) ≡ eqb k n
 reached-next k n = rw (add-one, eqb·suc-suc)
@@ -175,9 +181,10 @@ record Facts (n : ℕ) (out : List ℕ) (x : Exporter) (b : BatchOutcome) (es : 
   fits : length (b .octets) ≤ length out
   areData : AllData (messagesOf (outcomes x es))
   answered : Sized (x .state .queue) → b .answer ≡ lastAnswer (answerAtNumber (x .state) (x .store)) (outcomes x es)
-  -- the given number is reached exactly where the answer is 0, and a refused call is the last exactly where it is not
+  -- the given number is reached exactly where the answer is 0; where it is not, a refused call with that answer is the last
   reached : Ready (x .state) (x .store) → eqb (b .answer) done ≡ eqb (b .count) n
-  calls : length es ≡ b .count + cond (eqb (b .count) n) 0 1
+  calls : Ready (x .state) (x .store)
+      → map (λ (o : Outcome). o .answer) (outcomes x es) ≡ replicate (b .count) done ++ cond (eqb (b .answer) done) [] (b .answer ∷ [])
 
 -- the first call, and where it is accepted the batch of one less from what it leaves
 facts : (n : ℕ) (out : List ℕ) (x : Exporter) → Facts n out x (batch n (length out) (x .state) (x .store)) (singleCalls n out x)
@@ -192,7 +199,7 @@ facts zero out x =
       areData = tt;
       answered = λ z. refl;
       reached = λ r. rw (r .found) refl;
-      calls = refl;
+      calls = λ r. rw (r .found) refl;
     }
 facts (suc n) out x = go (eqb (o .answer) done) refl (rw length-drop at (facts n (drop (length m) out) next))
   where
@@ -235,10 +242,8 @@ facts (suc n) out x = go (eqb (o .answer) done) refl (rw length-drop at (facts n
               ∙ ap (λ (a : ℕ). lastAnswer a (outcomes next es))
               (next-at-number (length out) (x .state) (x .store) z e ∙ sym (eqb-true (o .answer) done e));
           reached = λ r. f .reached (next-ready (length out) (x .state) (x .store) r) ∙ sym (reached-next (b .count) n);
-          calls =
-              let one : ℕ = cond (eqb (b .count) n) 0 1 in
-              let shift : suc (b .count + one) ≡ b .count + 1 + one = omega arith in
-              ap suc (f .calls) ∙ shift ∙ ap (λ (t : Bool). b .count + 1 + cond t 0 1) (sym (reached-next (b .count) n));
+          calls = λ r.
+              accepted-answers (b .count) (o .answer) _ _ e (f .calls (next-ready (length out) (x .state) (x .store) r));
         })
     go false e f =
         let none = refused-message o [] e in
@@ -252,12 +257,12 @@ facts (suc n) out x = go (eqb (o .answer) done) refl (rw length-drop at (facts n
           areData = subst AllData (sym none) tt;
           answered = λ z. refl;
           reached = λ r. e ∙ sym (eqb·zero-suc n);
-          calls = rw (eqb·zero-suc n) refl;
+          calls = λ r. rw e refl;
         })
 
--- with arrays of the code's lengths: in shorter ones no set could be noted, and an accepted call would leave an unsound state
-pub batch-claim : (n : ℕ) (out : List ℕ) (x : Exporter) → Sized (x .state .queue) → BatchClaim n out x
-batch-claim n out x z =
+-- in shorter arrays no set could be noted, and an accepted call would leave an unsound state
+pub batch-claim : EveryBatch
+batch-claim n out x lengths templates receivers =
     let f = facts n out x in
     let b = batchInto n out x in
     let ms = messagesOf (outcomes x (singleCalls n out x)) in
@@ -265,7 +270,7 @@ batch-claim n out x z =
     let output = sets-first out (b .octets) (f .fits) in
     record {
       sameRun = f .sameRun;
-      answered = f .answered z;
+      answered = f .answered (record { lengths = lengths; templates = templates; receivers = receivers });
       counted = f .counted;
       limited = f .limited;
       written = f .written;
@@ -363,8 +368,10 @@ module _ (p : Settings) where
   batch-in-list x (Single e) r = tt
   batch-in-list x (SendBatch n out) r =
       let a = r .kept .agrees in
+      let z = a .sized in
       let f = facts n out x in
-      (batch-claim n out x (a .sized), (f .reached (record { found = sound-for a nextData; sized = a .sized }), f .calls))
+      let ready : Ready (x .state) (x .store) = record { found = sound-for a nextData; sized = z } in
+      (batch-claim n out x (z .lengths) (z .templates) (z .receivers), (f .reached ready, f .calls ready))
 
   -- so it is with every batch of a list
   batches-in-list : (x : Exporter) (ls : List ListedCall) → AllOctetsListed ls → Reached p x → BatchesInList x ls

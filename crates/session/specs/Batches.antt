@@ -3,13 +3,14 @@
 use Prim.Native.Nat.{ℕ, zero, suc, _+_, _-_, _≤_, _<_}
 use mathlib.Core.Path.{_≡_}
 use mathlib.Core.Bool.{not, cond}
-use mathlib.Core.List.{List, [], _∷_, _++_}
+use mathlib.Core.List.{List, [], _∷_, _++_, map}
 use lib.Dec.{eqb}
-use lib.ListN.{length, take, drop}
+use lib.ListN.{length, take, drop, replicate}
 use lib.Seq.{sets}
 use Rattle.octets.specs.Answers.{_when_, judge, done, unsoundState}
 use Rattle.wire.specs.Messages.{lengthField, messageNumber, dataNumber, readAnswer}
 use Rattle.wire.specs.Replies.{crane}
+use Rattle.session.specs.Limits.{maxHeld}
 use Rattle.session.specs.Steps.{modulus, nextData, soundFor, Outcome, step, octetsWritten, setUp}
 use Rattle.session.specs.Claim.{Exporter}
 use Rattle.session.specs.InOctets.{Event, NextData, eventStep, afterEvent, afterEvents, freshOver, ClaimInOctets, AllOctets}
@@ -97,7 +98,7 @@ AllData (m ∷ ms) = ((readAnswer m ≡ done) × (messageNumber m ≡ dataNumber
 
 -- ---- what is claimed of a batch
 
--- Of a batch of at most n messages into an output, on any store and any state whose arrays have their 64 entries: it is its single calls.
+-- What is claimed of a batch of at most n messages into an output, on a state and a store: it is its single calls.
 pub record BatchClaim (n : ℕ) (out : List ℕ) (x : Exporter) : Type 0 where
   -- it leaves the state and the store that they leave
   pub sameRun : afterEvents x (singleCalls n out x) ≡ record { state = batchInto n out x .state; store = x .store }
@@ -117,6 +118,12 @@ pub record BatchClaim (n : ℕ) (out : List ℕ) (x : Exporter) : Type 0 where
   pub read : let b = batchInto n out x in
       messagesIn (b .count) (outputAfterBatch out b) ≡ messagesOf (outcomes x (singleCalls n out x))
   pub areData : AllData (messagesOf (outcomes x (singleCalls n out x)))
+
+-- Every batch is its single calls, also on an unsound state, where the arrays have their 64 entries, as the code's have.
+abbrev pub EveryBatch : Type 0
+EveryBatch =
+    (n : ℕ) (out : List ℕ) (x : Exporter) → length (x .state .queue .lengths) ≡ maxHeld → length (x .state .queue .templates) ≡ maxHeld
+    → length (x .state .queue .receivers) ≡ maxHeld → BatchClaim n out x
 
 -- ---- in a list of calls (01, "History"; 02, ask 5)
 
@@ -146,14 +153,16 @@ singlesOf x [] = []
 singlesOf x (l ∷ ls) = callsFor x l ++ singlesOf (afterListed x l) ls
 
 -- What is claimed of one call of a list beside demand 3. In a list from a fresh exporter on, no state is unsound: a batch is answered 0
--- exactly where the given number was reached, and a refused call stands behind the accepted ones exactly where it was not.
+-- exactly where the given number was reached, and it stands for as many accepted calls as it counts and, where its answer is not 0, one
+-- refused call with that answer.
 abbrev pub BatchInList : Exporter → ListedCall → Type 0
 BatchInList x (Single e) = Unit {0}
 BatchInList x (SendBatch n out) =
     let b = batchInto n out x in
     BatchClaim n out x
     × ((eqb (b .answer) done ≡ eqb (b .count) n)
-    × (length (singleCalls n out x) ≡ b .count + cond (eqb (b .count) n) 0 1))
+    × (map (λ (o : Outcome). o .answer) (outcomes x (callsFor x (SendBatch n out)))
+    ≡ replicate (b .count) done ++ cond (eqb (b .answer) done) [] (b .answer ∷ [])))
 
 -- The same of every call of a list.
 abbrev pub BatchesInList : Exporter → List ListedCall → Type 0
