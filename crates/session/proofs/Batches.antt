@@ -3,13 +3,13 @@
 use mathlib.Core.Path.{_≡_, refl, sym, ap, ap₂, _∙_, subst}
 use mathlib.Core.Bool.{Bool, true, false, not, cond}
 use mathlib.Core.List.{List, [], _∷_, _++_, map, append-assoc}
-use Prim.Native.Nat.{ℕ, zero, suc, _+_, _-_, _≤_}
+use Prim.Native.Nat.{ℕ, zero, suc, _+_, _-_, _≤_, _<_}
 use native.Mathlib.Numerals.{add-one}
 use native.Mathlib.Omega.{arith}
 use borrow.Author.Tests.{eqb-true, eqb-false, not-false, le-leb, leb-false}
 use lib.Dec.{eqb, eqb·suc-suc, eqb·zero-suc}
 use lib.ListN.{length, take, drop, replicate, length-append, length-drop, length-set}
-use lib.Seq.{take-at, drop-at}
+use lib.Seq.{drop-drop, take-at, drop-at}
 use Rattle.octets.specs.Answers.{_when_, done, unsoundState}
 use Rattle.octets.specs.Numbers.{numberOf, uintIn, octetsIn}
 use Rattle.octets.proofs.Numbers.{uint-one, uint-front, read-back}
@@ -25,7 +25,7 @@ use Rattle.messages.proofs.Messages.{readable, reads, data-length}
 use Rattle.session.specs.Queue.{recordAt, marked}
 use Rattle.session.specs.Sound.{sound}
 use Rattle.session.specs.Steps.{nextData, headOf, written, checks, soundFor, answer, after, settled, storeAfter, Outcome, step}
-use Rattle.session.specs.Steps.{octetsWritten}
+use Rattle.session.specs.Steps.{nextDataStep, octetsWritten}
 use Rattle.session.specs.History.{History, freshHistory}
 use Rattle.session.specs.Claim.{Exporter, transcript, historyFrom, Premises}
 use Rattle.session.specs.InOctets.{Event, Put, NextData, Receive, OfferTemplates, LineDown, Tick, eventStep, afterEvent, afterEvents}
@@ -114,6 +114,10 @@ module _ (room : ℕ) (s : State) (store : List ℕ) where
   next-silent : eqb (step crane room nextData s store .answer) done ≡ false → octetsWritten (step crane room nextData s store) ≡ []
   next-silent e = ap layout (refusals .steps crane room nextData s store (eqb-false _ done e) .written)
 
+  -- and leaves the state
+  next-refused : eqb (step crane room nextData s store .answer) done ≡ false → step crane room nextData s store .state ≡ s
+  next-refused e = refusals .steps crane room nextData s store (eqb-false _ done e) .state
+
   -- a call leaves the arrays their lengths, and the state the length of its store
   pub next-sized : Sized (s .queue) → Sized (step crane room nextData s store .state .queue)
       × (step crane room nextData s store .state .capacity ≡ s .capacity)
@@ -168,6 +172,10 @@ accepted-answers : (k a : ℕ) (others last : List ℕ) → eqb a done ≡ true 
 accepted-answers k a others last e h =
     ap₂ (λ (b : ℕ) (l : List ℕ). b ∷ l) (eqb-true a done e) h ∙ ap (λ (n : ℕ). replicate n done ++ last) (sym (add-one k))
 
+-- the octets that two messages leave are those that the second leaves of what the first left
+drop-both : (m l out : List ℕ) → drop (length (m ++ l)) out ≡ drop (length l) (drop (length m) out)
+drop-both m l out = ap (λ (k : ℕ). drop k out) (length-append m l) ∙ sym (drop-drop (length l) (length m) out)
+
 -- a number is reached with one more where the number before it was
 reached-next : (k n : ℕ) → eqb (k + 1) (suc n) ≡ eqb k n
 reached-next k n = rw (add-one, eqb·suc-suc)
@@ -177,6 +185,7 @@ record Facts (n : ℕ) (out : List ℕ) (x : Exporter) (b : BatchOutcome) (es : 
   sameRun : afterEvents x es ≡ record { state = b .state; store = x .store }
   counted : b .count ≡ length (messagesOf (outcomes x es))
   limited : b .count ≤ n
+  stopped : b .count < n → nextDataStep (b .state) (x .store) (drop (length (b .octets)) out) .answer ≡ b .answer
   written : b .octets ≡ joined (messagesOf (outcomes x es))
   fits : length (b .octets) ≤ length out
   areData : AllData (messagesOf (outcomes x es))
@@ -194,6 +203,7 @@ facts zero out x =
       sameRun = refl;
       counted = refl;
       limited = omega arith;
+      stopped = λ s. absurd (omega (arith, s));
       written = refl;
       fits = omega arith;
       areData = tt;
@@ -227,6 +237,9 @@ facts (suc n) out x = go (eqb (o .answer) done) refl (rw length-drop at (facts n
           sameRun = f .sameRun;
           counted = ap (λ (k : ℕ). k + 1) (f .counted) ∙ add-one (length (messagesOf (outcomes next es))) ∙ sym (ap length more);
           limited = omega (arith, f .limited);
+          stopped = λ s.
+              ap (λ (l : List ℕ). nextDataStep (b .state) (x .store) l .answer) (drop-both m (b .octets) out)
+              ∙ f .stopped (omega (arith, s));
           written = ap (λ (l : List ℕ). m ++ l) (f .written) ∙ sym (ap joined more);
           fits =
               omega (
@@ -252,6 +265,7 @@ facts (suc n) out x = go (eqb (o .answer) done) refl (rw length-drop at (facts n
           sameRun = refl;
           counted = sym (ap length none);
           limited = omega arith;
+          stopped = λ s. ap (λ (y : State). nextDataStep y (x .store) out .answer) (next-refused (length out) (x .state) (x .store) e);
           written = sym (ap joined none);
           fits = omega arith;
           areData = subst AllData (sym none) tt;
@@ -260,7 +274,7 @@ facts (suc n) out x = go (eqb (o .answer) done) refl (rw length-drop at (facts n
           calls = λ r. rw e refl;
         })
 
--- in shorter arrays no set could be noted, and an accepted call would leave an unsound state
+-- the arrays have their entries: in shorter ones no set could be noted, and an accepted call would leave an unsound state
 pub batch-claim : EveryBatch
 batch-claim n out x lengths templates receivers =
     let f = facts n out x in
@@ -273,6 +287,7 @@ batch-claim n out x lengths templates receivers =
       answered = f .answered (record { lengths = lengths; templates = templates; receivers = receivers });
       counted = f .counted;
       limited = f .limited;
+      stopped = f .stopped;
       written = f .written;
       fits = f .fits;
       output = output;

@@ -11,7 +11,7 @@ use Rattle.octets.specs.Answers.{_when_, judge, done, unsoundState}
 use Rattle.wire.specs.Messages.{lengthField, messageNumber, dataNumber, readAnswer}
 use Rattle.wire.specs.Replies.{crane}
 use Rattle.session.specs.Limits.{maxHeld}
-use Rattle.session.specs.Steps.{modulus, nextData, soundFor, Outcome, step, octetsWritten, setUp}
+use Rattle.session.specs.Steps.{modulus, nextData, soundFor, Outcome, step, nextDataStep, octetsWritten, setUp}
 use Rattle.session.specs.Claim.{Exporter}
 use Rattle.session.specs.InOctets.{Event, NextData, eventStep, afterEvent, afterEvents, freshOver, ClaimInOctets, AllOctets}
 use Rattle.session.specs.declared.state.Settings.{Settings}
@@ -108,6 +108,9 @@ pub record BatchClaim (n : ℕ) (out : List ℕ) (x : Exporter) : Type 0 where
   -- it counts the accepted ones, and they are at most the given number
   pub counted : batchInto n out x .count ≡ length (messagesOf (outcomes x (singleCalls n out x)))
   pub limited : batchInto n out x .count ≤ n
+  -- where it stopped short of the given number, one more call, lent the octets left, is answered as it is
+  pub stopped : let b = batchInto n out x in
+      b .count < n → nextDataStep (b .state) (x .store) (drop (length (b .octets)) out) .answer ≡ b .answer
   -- it writes their messages back to back, which fit the output; no octet behind them changes
   pub written : batchInto n out x .octets ≡ joined (messagesOf (outcomes x (singleCalls n out x)))
   pub fits : length (batchInto n out x .octets) ≤ length out
