@@ -44,7 +44,7 @@ row phase sent storeLength number room answer count written sentAfter =
 abbrev pub exporterFor : Phase → ℕ → State
 exporterFor phase sent = alone phase 3 (replicate maxHeld 2) sent 1
 
--- What a row says: the state is that of as many records sent as it ends with.
+-- What a row says; the state left is that of a row with `sentAfter` records sent.
 abbrev pub Holds : Row → Type 0
 Holds r =
     batchOf (batch (r .number) (r .room) (exporterFor (r .phase) (r .sent)) (replicate (r .storeLength) 0))

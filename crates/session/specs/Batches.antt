@@ -102,9 +102,8 @@ AllData (m ∷ ms) = ((readAnswer m ≡ done) × (messageNumber m ≡ dataNumber
 pub record BatchClaim (n : ℕ) (out : List ℕ) (x : Exporter) : Type 0 where
   -- it leaves the state and the store that they leave
   pub sameRun : afterEvents x (singleCalls n out x) ≡ record { state = batchInto n out x .state; store = x .store }
-  -- it is answered as the last of them
-  pub answered : batchInto n out x .answer
-      ≡ lastAnswer (answerAtNumber (x .state) (x .store)) (outcomes x (singleCalls n out x))
+  -- it is answered as the last of them, and where there is none as at the given number
+  pub answered : batchInto n out x .answer ≡ lastAnswer (answerAtNumber (x .state) (x .store)) (outcomes x (singleCalls n out x))
   -- it counts the accepted ones, and they are at most the given number
   pub counted : batchInto n out x .count ≡ length (messagesOf (outcomes x (singleCalls n out x)))
   pub limited : batchInto n out x .count ≤ n
@@ -114,12 +113,10 @@ pub record BatchClaim (n : ℕ) (out : List ℕ) (x : Exporter) : Type 0 where
   -- it writes their messages back to back, which fit the output; no octet behind them changes
   pub written : batchInto n out x .octets ≡ joined (messagesOf (outcomes x (singleCalls n out x)))
   pub fits : length (batchInto n out x .octets) ≤ length out
-  pub output : let b = batchInto n out x in
-      outputAfterBatch out b ≡ b .octets ++ drop (length (b .octets)) out
+  pub output : let b = batchInto n out x in outputAfterBatch out b ≡ b .octets ++ drop (length (b .octets)) out
   -- as many messages as it counts are read from the output, each a DATA; they are the accepted calls' messages, and with `written` they are
   -- all that it wrote
-  pub read : let b = batchInto n out x in
-      messagesIn (b .count) (outputAfterBatch out b) ≡ messagesOf (outcomes x (singleCalls n out x))
+  pub read : let b = batchInto n out x in messagesIn (b .count) (outputAfterBatch out b) ≡ messagesOf (outcomes x (singleCalls n out x))
   pub areData : AllData (messagesOf (outcomes x (singleCalls n out x)))
 
 -- Every batch is its single calls, also on an unsound state, where the arrays have their 64 entries, as the code's have.
