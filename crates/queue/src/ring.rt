@@ -40,8 +40,8 @@ pub fn ring_write(store: &mut [u8], at: usize, octets: &[u8])
     octets::copy(store, 0, &octets[first..]);
 }
 
-// Copies the n octets from place `at` on, modulo the store's length, to a place of the output; nothing where `at` is no place of the store,
-// where it has fewer than n, or where they do not fit the output.
+// Copies the n octets from place `at` on, modulo the store's length, to a place of the output, in one move where they do not reach past the
+// store's end; nothing where `at` is no place of the store, where it has fewer than n, or where they do not fit the output.
 pub fn ring_read(store: &[u8], at: usize, n: usize, out: &mut [u8], place: usize)
     ensures { λ _. ⌜ now (out .exit) ≡ ringCopied (now (store .entry)) at n (now (out .entry)) place ⌝ }
 {
@@ -54,7 +54,7 @@ pub fn ring_read(store: &[u8], at: usize, n: usize, out: &mut [u8], place: usize
     }
     let first = room - at;
     if n <= first {
-        octets::copy(out, place, &store[at..at + n]);
+        octets::copy_blocks(out, place, &store[at..at + n]);
         return;
     }
     if octets::saturating_sub(out.len(), place) < n {

@@ -25,8 +25,41 @@ returns-2 c =
 sub-first : tie.Need-sub-first
 sub-first c = search needs
 
-add-copy : tie.Need-add-copy
-add-copy c = search needs
+add-copy-blocks : tie.Need-add-copy-blocks
+add-copy-blocks c = search needs
+
+sub-copy-blocks : tie.Need-sub-copy-blocks
+sub-copy-blocks c = search needs
+
+part-copy-blocks-start : tie.Need-part-copy-blocks-start
+part-copy-blocks-start c = search needs
+
+part-copy-blocks-end : tie.Need-part-copy-blocks-end
+part-copy-blocks-end c = search needs
+
+copy-blocks-requires : tie.Need-copy-blocks-requires
+copy-blocks-requires c κs = search needs
+
+same-length : tie.Need-same-length
+same-length c = search needs
+
+returns-3 : tie.Need-returns-3
+returns-3 c =
+    let a = c .before .before .before .before .before .before .before .before .before .before .args in
+    let s = a .store .now in
+    let e : a .at + a .n - a .at ≡ a .n = omega arith in
+    c .before .before .copy-blocks .ensures
+    ∙ ap (λ (k : ℕ). putAt (a .out .now) (a .place) (take k (drop (a .at) s))) e
+    ∙ copied-near s (a .at) (a .n) (a .out .now) (a .place) (omega arith) (omega arith)
+
+saturating-sub-requires : tie.Need-saturating-sub-requires
+saturating-sub-requires c κs = search needs
+
+returns-4 : tie.Need-returns-4
+returns-4 c =
+    let a = c .before .before .before .before .before .before .before .args in
+    copied-short (a .store .now) (a .at) (a .n) (a .out .now) (a .place) (omega arith) (omega arith)
+    (omega (arith, c .if4 .taken, c .before .saturating-sub .ensures))
 
 sub-copy : tie.Need-sub-copy
 sub-copy c = search needs
@@ -40,52 +73,19 @@ part-copy-end c = search needs
 copy-requires : tie.Need-copy-requires
 copy-requires c κs = search needs
 
-same-length : tie.Need-same-length
-same-length c = search needs
-
-returns-3 : tie.Need-returns-3
-returns-3 c =
-    let a = c .before .before .before .before .before .before .before .before .before .before .args in
-    let s = a .store .now in
-    let e : a .at + a .n - a .at ≡ a .n = omega arith in
-    c .before .before .copy .ensures
-    ∙ ap (λ (k : ℕ). putAt (a .out .now) (a .place) (take k (drop (a .at) s))) e
-    ∙ copied-near s (a .at) (a .n) (a .out .now) (a .place) (omega arith) (omega arith)
-
-saturating-sub-requires : tie.Need-saturating-sub-requires
-saturating-sub-requires c κs = search needs
-
-returns-4 : tie.Need-returns-4
-returns-4 c =
-    let a = c .before .before .before .before .before .before .before .args in
-    copied-short (a .store .now) (a .at) (a .n) (a .out .now) (a .place) (omega arith) (omega arith)
-    (omega (arith, c .if4 .taken, c .before .saturating-sub .ensures))
+add-copy : tie.Need-add-copy
+add-copy c = search needs
 
 sub-copy-2 : tie.Need-sub-copy-2
 sub-copy-2 c = search needs
-
-part-copy-start-2 : tie.Need-part-copy-start-2
-part-copy-start-2 c = search needs
-
-part-copy-end-2 : tie.Need-part-copy-end-2
-part-copy-end-2 c = search needs
-
-copy-requires-2 : tie.Need-copy-requires-2
-copy-requires-2 c κs = search needs
-
-add-copy-2 : tie.Need-add-copy-2
-add-copy-2 c = search needs
-
-sub-copy-3 : tie.Need-sub-copy-3
-sub-copy-3 c = search needs
 
 slice-aggregate-copy : tie.Need-slice-aggregate-copy
 slice-aggregate-copy c =
     let a = c .before .before .before .before .before .before .before .before .before .before .before .before .before .before .args in
     sym (length-take-le (a .n - (length (a .store .now) - a .at)) (a .store .now) (omega arith))
 
-copy-requires-3 : tie.Need-copy-requires-3
-copy-requires-3 c κs = search needs
+copy-requires-2 : tie.Need-copy-requires-2
+copy-requires-2 c κs = search needs
 
 same-length-2 : tie.Need-same-length-2
 same-length-2 c = search needs
@@ -99,9 +99,9 @@ returns-5 c =
     let f = length s - a .at in
     let l : length (drop (a .at) s) ≤ f = omega (arith, length-drop (a .at) s) in
     let h : a .place + a .n ≤ length o = omega (arith, w .if4 .left, w .before .saturating-sub .ensures) in
-    c .before .before .copy3 .ensures
+    c .before .before .copy2 .ensures
     ∙ ap (λ (l : List ℕ). putAt l (a .place + f) (take (a .n - f) s))
-    (c .before .before .before .before .before .before .before .copy2 .ensures ∙ ap (putAt o (a .place)) (take-all f (drop (a .at) s) l))
+    (c .before .before .before .before .before .before .before .copy .ensures ∙ ap (putAt o (a .place)) (take-all f (drop (a .at) s) l))
     ∙ copied-far s (a .at) (a .n) o (a .place) f refl (omega arith) (omega arith) (omega arith) h
 
 pub ring-read-spec : {M : Type 1} → statement M
@@ -111,22 +111,22 @@ ring-read-spec =
     returns
     returns-2
     sub-first
-    add-copy
-    sub-copy
-    part-copy-start
-    part-copy-end
-    copy-requires
+    add-copy-blocks
+    sub-copy-blocks
+    part-copy-blocks-start
+    part-copy-blocks-end
+    copy-blocks-requires
     same-length
     returns-3
     saturating-sub-requires
     returns-4
+    sub-copy
+    part-copy-start
+    part-copy-end
+    copy-requires
+    add-copy
     sub-copy-2
-    part-copy-start-2
-    part-copy-end-2
-    copy-requires-2
-    add-copy-2
-    sub-copy-3
     slice-aggregate-copy
-    copy-requires-3
+    copy-requires-2
     same-length-2
     returns-5)
