@@ -54,11 +54,31 @@ type Answer = Result<(), u8>;
 /// How many octets were written, or the refusal.
 type Wrote = Result<usize, u8>;
 
+/// What a batch ends with: the answer that it stopped at, and how many messages and octets were written before.
+pub struct Batch {
+    pub answer: u8,
+    pub count: usize,
+    pub written: usize,
+}
+
 fn settings_sound(p: &Settings, capacity: usize) -> bool {
     (1..=MAX_SERVERS).contains(&(p.servers as usize))
         && (1..=64).contains(&p.threshold)
         && p.duration >= 1
         && (1024..=65536).contains(&capacity)
+}
+
+/// Copies octets of the ring from a place on: the place behind them.
+fn read_ring(ring: &[u8], at: usize, octets: &mut [u8]) -> usize {
+    let end = at + octets.len();
+    if end < ring.len() {
+        octets.copy_from_slice(&ring[at..end]);
+        return end;
+    }
+    let (tail, rest) = octets.split_at_mut(ring.len() - at);
+    tail.copy_from_slice(&ring[at..]);
+    rest.copy_from_slice(&ring[..rest.len()]);
+    rest.len()
 }
 
 impl State {
@@ -233,6 +253,78 @@ impl State {
         self.sent = i + 1;
         self.reached = self.reached.max(i + 1);
         Ok(total)
+    }
+
+    /// Sends up to `limit` records back to back: 0 at that number, else the answer of the single call that refuses.
+    pub fn send_batch(&mut self, store: &[u8], out: &mut [u8], limit: usize) -> Batch {
+        let none = |answer| Batch {
+            answer,
+            count: 0,
+            written: 0,
+        };
+        if self.held_if_sound().is_err() || store.len() != self.capacity {
+            return none(UNSOUND_STATE);
+        }
+        if limit == 0 {
+            return none(DONE);
+        }
+        let Some(active) = self.active else {
+            return none(NO_ACTIVE_SERVER);
+        };
+        let most = limit.min(self.count - self.sent);
+        let (count, written) = self.send_records(active, most, store, out);
+        self.sent += count;
+        self.reached = self.reached.max(self.sent);
+        let answer = if count < most {
+            OUTPUT_TOO_SHORT
+        } else if count < limit {
+            NOTHING_TO_SEND
+        } else {
+            DONE
+        };
+        Batch {
+            answer,
+            count,
+            written,
+        }
+    }
+
+    /// Writes the next `most` records, as far as the output has room for whole ones: how many, and how many octets.
+    fn send_records(
+        &mut self,
+        active: u8,
+        most: usize,
+        store: &[u8],
+        out: &mut [u8],
+    ) -> (usize, usize) {
+        let (sent, bit) = (self.sent, 1 << active);
+        let before: u32 = self.lengths[..sent].iter().map(|&n| n as u32).sum();
+        let mut at = self.ring_place(before as usize);
+        let first = self.next.wrapping_sub(self.count as u32);
+        let mut written = 0;
+        let records = self.lengths[sent..sent + most]
+            .iter()
+            .zip(&self.templates[sent..])
+            .zip(&mut self.receivers[sent..]);
+        for (i, ((&len, &template), receivers)) in records.enumerate() {
+            let len = len as usize;
+            let Some(out) = out.get_mut(written..written + 16 + len) else {
+                return (i, written);
+            };
+            let head = DataHead {
+                session: self.settings.session,
+                template,
+                config: self.settings.config,
+                first: self.due && sent + i == 0,
+                duplicate: *receivers & !bit != 0,
+                dsn: first.wrapping_add((sent + i) as u32),
+            };
+            out[..16].copy_from_slice(&message::data_head(&head, len));
+            at = read_ring(store, at, &mut out[16..]);
+            *receivers |= bit;
+            written += out.len();
+        }
+        (most, written)
     }
 
     fn acknowledge(&mut self, v: u8, dsn: u32, config: u8) -> Answer {

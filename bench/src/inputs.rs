@@ -287,6 +287,9 @@ pub const STORE_OCTETS: usize = 65536;
 /// The octets of the longest message, a TMPL DATA with the largest table.
 pub const OUTPUT_OCTETS: usize = 16392;
 
+/// The octets of the longest batch: 64 DATA with records of 1,024 octets.
+pub const BATCH_OCTETS: usize = 64 * (16 + 1024);
+
 /// A timer that runs from the first record sent on, and does not run out while it is measured.
 pub const GIVEN: Given = Given {
     servers: 2,
@@ -339,6 +342,12 @@ impl Events {
 
     pub fn nexts(mut self, n: usize) -> Events {
         (0..n).for_each(|_| self.push(session::NEXT_DATA, 0, &[]));
+        self
+    }
+
+    /// A batch of at most `limit` messages.
+    pub fn batch(mut self, limit: u8) -> Events {
+        self.push(session::BATCH, limit, &[]);
         self
     }
 

@@ -178,7 +178,7 @@ fn session_run(v: &Valid, events: &Events) -> (Side, Side) {
     let sides = [library::session, session].map(|f| {
         let (v, events) = (v.clone(), events.octets.clone());
         let mut store = vec![0u8; inputs::STORE_OCTETS];
-        let mut out = vec![0u8; OUTPUT_OCTETS];
+        let mut out = vec![0u8; inputs::BATCH_OCTETS];
         Box::new(move || {
             black_box(f(
                 inputs::GIVEN,
@@ -244,6 +244,23 @@ fn after_sent(g: &mut Group, v: &Valid, sent: &Events, at_sent: usize) {
     g.line("DATA ACK, 64 released", all_at_once, less, 1);
     g.line("DATA ACK, 0 released (64 held)", none, less, 64);
     g.line("tick (64 held)", ticks, less, 64);
+}
+
+/// How many batches a run has.
+const BATCHES: usize = 16;
+
+/// A batch of 64 records that are sent again, and the same by single calls. Before each a DATA ACK releases none, so that they are sent
+/// again; these are taken off.
+fn batches(octets: usize, rounds: usize) -> Group {
+    let mut g = Group::new(&format!("batch of 64 records of {octets} octets"), rounds);
+    let v = Valid::small(octets);
+    let sent = Events::opening().puts(64).batch(64);
+    let at_acks = g.session(&v, &sent.clone().acks(BATCHES, 0));
+    let at_batches = g.session(&v, &sent.clone().times(BATCHES, |e| e.ack(0).batch(64)));
+    let at_singles = g.session(&v, &sent.times(BATCHES, |e| e.ack(0).nexts(64)));
+    g.line("one batch", at_batches, Some(at_acks), BATCHES);
+    g.line("64 next data", at_singles, Some(at_acks), BATCHES);
+    g
 }
 
 fn tables() -> Group {
@@ -398,6 +415,9 @@ pub fn groups() -> Vec<Group> {
     for n in [16, 128, 1024] {
         let title = format!("exporter, largest table, records of {n} octets");
         all.push(sessions(&title, &Valid::large(n), 60, false));
+    }
+    for (n, rounds) in [(16, 200), (128, 200), (1024, 60)] {
+        all.push(batches(n, rounds));
     }
     all.extend([tables(), records(), walks(), messages(), ipdr_messages()]);
     all

@@ -118,6 +118,21 @@ fn call(
     }
 }
 
+/// An exporter set up by event 0 of a tape and the table of event 1, with the lines of both; none where one is refused.
+fn open(all: &[Event], store: &[u8]) -> (Vec<u8>, Option<State>) {
+    let (set_up, table) = (all[0].2, all[1].2);
+    let mut text = Vec::new();
+    let made = settings(set_up).and_then(|settings| State::set_up(settings, store));
+    line(&mut text, 0, made.as_ref().map(|_| 0).map_err(|a| *a), &[]);
+    let Ok(state) = made else {
+        return (text, None);
+    };
+    let is_sessions = table::is_sound(table) && table[0] == set_up[1];
+    let answered = is_sessions.then_some(0).ok_or(UNSOUND_TABLE);
+    line(&mut text, 1, answered, &[]);
+    (text, is_sessions.then_some(state))
+}
+
 /// The program: a tape from standard input, its lines to standard output, each written by itself as the other program does.
 pub fn program() -> std::io::Result<()> {
     let mut tape = Vec::new();
@@ -130,30 +145,13 @@ pub fn program() -> std::io::Result<()> {
     };
     let mut store = vec![0; u16_at(all[0].2, 6) as usize + 1];
     let mut out = vec![0; OUTPUT_OCTETS];
-    let mut text = Vec::new();
-    let made = settings(all[0].2).and_then(|settings| State::set_up(settings, &store));
-    line(&mut text, 0, made.as_ref().map(|_| 0).map_err(|a| *a), &out);
-    let Ok(mut state) = made else {
-        return output.write_all(&text);
-    };
-    let table = all[1].2;
-    let is_sessions = table::is_sound(table) && table[0] == all[0].2[1];
-    line(
-        &mut text,
-        1,
-        if is_sessions {
-            Ok(0)
-        } else {
-            Err(UNSOUND_TABLE)
-        },
-        &out,
-    );
+    let (mut text, opened) = open(&all, &store);
     output.write_all(&text)?;
-    if !is_sessions {
+    let Some(mut state) = opened else {
         return Ok(());
-    }
+    };
     for (i, event) in all.iter().enumerate().skip(2) {
-        let answered = call(&mut state, *event, table, &mut store, &mut out);
+        let answered = call(&mut state, *event, all[1].2, &mut store, &mut out);
         text.clear();
         line(&mut text, i, answered, &out);
         output.write_all(&text)?;

@@ -1,7 +1,7 @@
 //! A session: an exporter is set up and makes one call after the other, as lent events ask for.
 
 use crate::answer::UNSOUND_STATE;
-use crate::exporter::{Settings, State, MAX_SERVERS};
+use crate::exporter::{Batch, Settings, State, MAX_SERVERS};
 
 /// The octets of an event: its call, its server, the length of its message, and 16 octets with which the message begins.
 pub const EVENT_OCTETS: usize = 19;
@@ -13,7 +13,9 @@ pub const PUT: u8 = 0;
 pub const NEXT_DATA: u8 = 1;
 pub const TICK: u8 = 2;
 pub const OFFER: u8 = 3;
-pub const RECEIVE: u8 = 4;
+/// At most as many messages as the octet of the server says.
+pub const BATCH: u8 = 4;
+pub const RECEIVE: u8 = 5;
 
 /// What a session is set up with; session, Configuration ID, boot time and priorities are fixed.
 #[derive(Clone, Copy)]
@@ -40,7 +42,20 @@ fn settings(g: Given) -> Settings {
     }
 }
 
-/// The sum of all answers and of the octets written.
+/// The answer of a batch, its octets and its count.
+fn batch_sum(b: Batch) -> u64 {
+    b.answer as u64 + b.written as u64 + b.count as u64
+}
+
+/// The answer or the octets written.
+fn sum(answered: Result<usize, u8>) -> u64 {
+    match answered {
+        Ok(written) => written as u64,
+        Err(answer) => answer as u64,
+    }
+}
+
+/// The sum of all answers, of the octets written and of the batches' counts.
 #[inline(never)]
 pub fn session(
     g: Given,
@@ -60,16 +75,13 @@ pub fn session(
     for event in events {
         let server = event[1];
         let len = (event[2] % MESSAGE_LENGTHS) as usize;
-        let answered = match event[0] {
-            PUT => state.put(store, table, id, record).map(|()| 0),
-            NEXT_DATA => state.next_data(store, out),
-            TICK => state.tick().map(|()| 0),
-            OFFER => state.offer_templates(server, table, out),
-            _ => state.receive(server, &event[3..3 + len], out),
-        };
-        total = total.wrapping_add(match answered {
-            Ok(written) => written as u64,
-            Err(answer) => answer as u64,
+        total = total.wrapping_add(match event[0] {
+            PUT => sum(state.put(store, table, id, record).map(|()| 0)),
+            NEXT_DATA => sum(state.next_data(store, out)),
+            TICK => sum(state.tick().map(|()| 0)),
+            OFFER => sum(state.offer_templates(server, table, out)),
+            BATCH => batch_sum(state.send_batch(store, out, server as usize)),
+            _ => sum(state.receive(server, &event[3..3 + len], out)),
         });
     }
     total

@@ -118,11 +118,14 @@ fn compare_beginnings(g: Given, lent: Lent, v: &Valid, list: &Events) -> usize {
     list.len() + 1
 }
 
+/// Numbers that batches are given.
+const LIMITS: [u8; 9] = [0, 1, 2, 3, 7, 63, 64, 65, 255];
+
 /// A list of events drawn at random, most of which are accepted.
 fn drawn(random: &mut Random, servers: u8, n: usize) -> Events {
     let mut list = Events::opening();
     for _ in 0..n {
-        list = match random.below(24) {
+        list = match random.below(27) {
             0..=8 => list.puts(1),
             9..=16 => list.nexts(1),
             17 | 18 => {
@@ -143,6 +146,7 @@ fn drawn(random: &mut Random, servers: u8, n: usize) -> Events {
                 list.receive(random.below(servers as usize) as u8, &inputs::bare(kind));
                 list
             }
+            23..=25 => list.batch(LIMITS[random.below(LIMITS.len())]),
             _ => {
                 let m = damaged(&inputs::data_ack(random.next() as u32), random);
                 list.receive(0, &m[..m.len().min(16)]);
@@ -165,6 +169,7 @@ pub fn all() -> usize {
         + editions(&mut random)
         + measured_sessions()
         + large_stores()
+        + batches()
         + drawn_sessions(&mut random)
 }
 
@@ -293,6 +298,50 @@ fn large_stores() -> usize {
         .iter()
         .flat_map(|&store| [1024, 1023, 997].map(|octets| compare(store, octets)))
         .sum()
+}
+
+/// Batches of each number into outputs with room for some of the messages, round small stores, and of a state that is not sound.
+fn batches() -> usize {
+    let message = 16 + 128;
+    let mut outs = vec![inputs::small_table().len() + 8, inputs::BATCH_OCTETS];
+    for n in [1, 2, 63, 64] {
+        outs.extend([n * message - 1, n * message, n * message + 1]);
+    }
+    let compare = |g, store, octets, list: &Events| -> usize {
+        let v = Valid::small(octets);
+        let lents = outs.iter().map(|&out| Lent { store, out });
+        lents
+            .map(|lent| compare_beginnings(g, lent, &v, list))
+            .sum()
+    };
+    let unsound = Given {
+        threshold: 0,
+        ..inputs::GIVEN
+    };
+    let numbers = batches_of_each_number();
+    let round = Events::opening().times(20, |e| {
+        e.puts(9).batch(5).ack(3).batch(2).ack(0).batch(64).ack(6)
+    });
+    compare(inputs::GIVEN, inputs::STORE_OCTETS, 128, &numbers)
+        + compare(unsound, inputs::STORE_OCTETS, 128, &numbers)
+        + compare(inputs::GIVEN, 1024, 100, &round)
+        + compare(inputs::GIVEN, 1025, 113, &round)
+}
+
+/// 64 records in batches of each number; to server 0, to nobody, and to server 1, which gets them as duplicates.
+fn batches_of_each_number() -> Events {
+    let each = |list: Events| {
+        LIMITS
+            .iter()
+            .fold(list, |e, &n| e.batch(n).ack(0).batch(n).batch(n).ack(0))
+    };
+    let mut list = each(each(Events::opening()).puts(64)).batch(60).ack(2);
+    list.receive(0, &inputs::bare(message::STOP));
+    list = each(list);
+    list.receive(1, &inputs::bare(message::START));
+    list.offer(1);
+    list.receive(1, &inputs::final_tmpl_data_ack());
+    LIMITS.iter().fold(list, |e, &n| e.batch(n).puts(1))
 }
 
 fn drawn_sessions(random: &mut Random) -> usize {
