@@ -7,7 +7,8 @@ use lib.Dec.{eqb}
 use lib.ListN.{length, getD, take, drop, replicate}
 use Rattle.exporter.specs.Steps.{setUp, octetsWritten, outputAfter}
 use Rattle.exporter.specs.Claim.{Exporter}
-use Rattle.exporter.specs.InOctets.{Event, Put, NextData, Receive, OfferTemplates, Tick, eventStep, storeLeft}
+use Rattle.exporter.specs.InOctets.{Put, NextData, Receive, OfferTemplates, Tick, eventStep, storeLeft}
+use Rattle.session.specs.Batches.{ListedCall, Single, SendBatch, batch, outputAfterBatch}
 use Rattle.session.specs.Limits.{maxServers}
 use Rattle.session.specs.declared.state.Settings.{Settings}
 use Rattle.session.specs.declared.state.State.{State}
@@ -52,20 +53,22 @@ pub record Lent : Type 0 where
   pub octets : List ℕ
   pub events : List ℕ
 
--- The event at a place, by the number of its call: 0 put, 1 next data, 2 tick, 3 an offer, any other a message that is received.
-unfoldable pub eventAt : Lent → ℕ → List ℕ → Event
-eventAt l at out =
+-- The call of the event at a place, by its number: 0 put, 1 next data, 2 tick, 3 an offer, 4 a batch of at most as many messages as the
+-- octet of the server says, any other a message that is received.
+unfoldable pub callAt : Lent → ℕ → List ℕ → ListedCall
+callAt l at out =
     let code = getD (l .events) at 0 in
     let server = getD (l .events) (at + 1) 0 in
-    cond (eqb code 0) (Put (l .table) (l .template) (l .octets))
-    (cond (eqb code 1) (NextData out)
-    (cond (eqb code 2) Tick
-    (cond (eqb code 3) (OfferTemplates server (l .table) out)
-    (Receive server (messageAt (l .events) at) out))))
+    cond (eqb code 0) (Single (Put (l .table) (l .template) (l .octets)))
+    (cond (eqb code 1) (Single (NextData out))
+    (cond (eqb code 2) (Single Tick)
+    (cond (eqb code 3) (Single (OfferTemplates server (l .table) out))
+    (cond (eqb code 4) (SendBatch server out)
+    (Single (Receive server (messageAt (l .events) at) out))))))
 
 -- ---- the calls, one after the other
 
--- Where a session stands: state and store, the output, and the sum of all answers and octets written.
+-- Where a session stands: state and store, the output, and the sum of all answers, octets written and counts of batches.
 pub record Progress : Type 0 where
   pub state : State
   pub store : List ℕ
@@ -84,16 +87,23 @@ exporterOf p = record { state = p .state; store = p .store }
 abbrev pub added : ℕ → ℕ → ℕ → ℕ
 added total answer written = ((total + answer) % 2 ^ 64 + written) % 2 ^ 64
 
--- After one more event.
-unfoldable pub after : Lent → Event → Progress → Progress
-after l e p =
+-- The same with the count of a batch.
+abbrev pub addedBatch : ℕ → ℕ → ℕ → ℕ → ℕ
+addedBatch total answer written count = (added total answer written + count) % 2 ^ 64
+
+-- After one more call.
+unfoldable pub after : ListedCall → Progress → Progress
+after (Single e) p =
     let o = eventStep (exporterOf p) e in
     progress (o .state) (storeLeft (exporterOf p) e o) (outputAfter (p .out) o) (added (p .total) (o .answer) (length (octetsWritten o)))
+after (SendBatch n out) p =
+    let b = batch n (length out) (p .state) (p .store) in
+    progress (b .state) (p .store) (outputAfterBatch out b) (addedBatch (p .total) (b .answer) (length (b .octets)) (b .count))
 
--- After the first n events.
+-- After the calls of the first n events.
 unfoldable pub played : Lent → ℕ → Progress → Progress
 played l zero p = p
-played l (suc n) p = let q = played l n p in after l (eventAt l (eventOctets * n) (q .out)) q
+played l (suc n) p = let q = played l n p in after (callAt l (eventOctets * n) (q .out)) q
 
 -- What set-up leaves and answers, before the first event.
 abbrev pub opened : Settings → List ℕ → List ℕ → Progress

@@ -4,11 +4,11 @@
 ghost use mathlib.Core.Path.{_≡_};
 ghost use Prim.Native.Nat.{_+_, _≤_};
 ghost use lib.ListN.{length};
-ghost use Rattle.sessions.specs.Sessions.{settingsOf, eventOctets, messageAt, added, eventCount, progress, played, sessionEnd};
-ghost use Rattle.sessions.specs.Sessions.{PlayedTo};
+ghost use Rattle.sessions.specs.Sessions.{settingsOf, eventOctets, messageAt, added, addedBatch, eventCount, progress, played};
+ghost use Rattle.sessions.specs.Sessions.{sessionEnd, PlayedTo};
 use exporter::limits::SERVER_ENTRIES;
-use exporter::state::Made;
 use exporter::state::Settings;
+use exporter::state::State;
 
 // The octets of an event: its call, its server, the length of its message modulo 17, and 16 octets, the first of which are the message.
 const EVENT_OCTETS: usize = 19;
@@ -24,6 +24,9 @@ const NEXT_DATA: u8 = 1;
 const TICK: u8 = 2;
 
 const OFFER: u8 = 3;
+
+// At most as many messages as the octet of the server says.
+const BATCH: u8 = 4;
 
 // The settings of a session: all priorities are 0.
 fn settings(servers: u8, threshold: u8, duration: u16, initial: u32) -> Settings
@@ -60,9 +63,17 @@ fn add(total: u64, answer: u8, written: usize) -> u64
     std::num::wrapping_add_u64(sum, written as u64)
 }
 
-// Makes the calls of all events, and sums up the answers and the octets written.
+// The same with the count of a batch's messages.
+fn add_batch(total: u64, answer: u8, written: usize, count: usize) -> u64
+    ensures { λ n. ⌜ n ≡ addedBatch total answer written count ⌝ }
+{
+    std::num::wrapping_add_u64(add(total, answer, written), count as u64)
+}
+
+// Makes the calls of all events, and sums up the answers, the octets written and the counts of batches.
 fn play(
-    made: Made,
+    mut state: State,
+    mut total: u64,
     store: &mut [u8],
     table: &[u8],
     id: u16,
@@ -73,17 +84,13 @@ fn play(
     ensures { λ n. ⌜ PlayedTo (played
         (record { table = now (table .entry); template = id; octets = now (r .entry); events = now (events .entry) })
         (eventCount (now (events .entry)))
-        (progress (made .state) (now (store .entry)) (now (out .entry)) (made .answer))) n (now (store .exit)) (now (out .exit)) ⌝ }
+        (progress state (now (store .entry)) (now (out .entry)) total)) n (now (store .exit)) (now (out .exit)) ⌝ }
 {
-    let mut state = made.state;
-    let mut total = made.answer as u64;
     let n = events.len() / EVENT_OCTETS;
-    let mut i: usize = 0;
-    while i < n {
+    for i in 0..n {
         let at = EVENT_OCTETS * i;
-        let code = events[at];
         let server = events[at + 1];
-        match code {
+        match events[at] {
             PUT => {
                 let left = exporter::put::put(state, store, table, id, r);
                 state = left.state;
@@ -104,6 +111,11 @@ fn play(
                 state = left.state;
                 total = add(total, left.answer, left.written);
             }
+            BATCH => {
+                let left = exporter::batch::send_batch(state, store, out, server as usize);
+                state = left.state;
+                total = add_batch(total, left.answer, left.written, left.count);
+            }
             _ => {
                 let m = message_at(events, at);
                 let left = exporter::receive::receive(state, server, m, out);
@@ -111,13 +123,12 @@ fn play(
                 total = add(total, left.answer, left.written);
             }
         }
-        i += 1;
     }
     total
 }
 
-// Sets an exporter up over a store and makes the calls of all events, each put of the same record: the sum of the answers and of the
-// octets written, modulo 2 to the 64.
+// Sets an exporter up over a store and makes the calls of all events, each put of the same record: the sum of the answers, of the octets
+// written and of the counts of batches, modulo 2 to the 64.
 #[no_mangle]
 pub extern "C" fn crane_session(
     servers: u8,
@@ -136,5 +147,14 @@ pub extern "C" fn crane_session(
         (now (store .entry)) (now (out .entry))) n (now (store .exit)) (now (out .exit)) ⌝ }
 {
     let made = exporter::set_up::set_up(settings(servers, threshold, duration, initial), store);
-    play(made, store, table, id, r, events, out)
+    play(
+        made.state,
+        made.answer as u64,
+        store,
+        table,
+        id,
+        r,
+        events,
+        out,
+    )
 }
