@@ -5,6 +5,7 @@
 
 pub mod answer;
 pub mod append;
+pub mod batch;
 pub mod exporter;
 pub mod ipdr;
 pub mod message;
@@ -14,6 +15,8 @@ pub mod replay;
 pub mod table;
 pub mod walk;
 
+#[cfg(test)]
+mod tests_batch;
 #[cfg(test)]
 mod tests_exporter;
 #[cfg(test)]
