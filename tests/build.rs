@@ -1,12 +1,12 @@
-//! Links the static libraries `exports`, `edition_exports` and `ipdr_exports` if they have been built. Without them
-//! everything builds too, but the runner then refuses to compare the libraries' functions.
+//! Links the static libraries `exports`, `edition_exports`, `ipdr_exports` and `batch_exports` if all have been built.
+//! Without one of them everything builds too, but the runner then refuses to compare the libraries' functions.
 //!
 //! They are looked for in `target/staticlib` of the repository, or in the directory that `EXPORTS_DIR` names.
 
 use std::env;
 use std::path::PathBuf;
 
-const LIBRARIES: [&str; 3] = ["exports", "edition_exports", "ipdr_exports"];
+const LIBRARIES: [&str; 4] = ["exports", "edition_exports", "ipdr_exports", "batch_exports"];
 
 fn main() {
     let package = PathBuf::from(env::var("CARGO_MANIFEST_DIR").expect("cargo sets CARGO_MANIFEST_DIR"));

@@ -1,5 +1,6 @@
 //! Counts of what a comparison has seen, by the model's answers.
 
+use crate::batches;
 use crate::generate::PROFILES;
 use crate::inputs::{EDITION, FUNCTIONS};
 use crate::library::END;
@@ -46,7 +47,12 @@ pub struct Coverage {
     calls: BTreeMap<(usize, u8), u64>,
     /// How often each function got each answer.
     inputs: BTreeMap<(usize, u8), u64>,
+    /// How often a batch got each answer.
+    batches: BTreeMap<(usize, u8), u64>,
 }
+
+/// The number that all batches are counted under, and their name in reports.
+const BATCH: (usize, &str) = (0, "batch");
 
 impl Coverage {
     /// Counts a tape of a profile by the model's output.
@@ -74,6 +80,10 @@ impl Coverage {
         *self.inputs.entry((function, answer)).or_default() += 1;
     }
 
+    pub fn add_batch(&mut self, answer: u8) {
+        *self.batches.entry((BATCH.0, answer)).or_default() += 1;
+    }
+
     pub fn tapes(&self) -> u64 {
         self.tapes.values().sum()
     }
@@ -86,6 +96,10 @@ impl Coverage {
     /// The messages of editions.
     pub fn editions(&self) -> u64 {
         self.inputs.iter().filter(|((function, _), _)| *function == EDITION).map(|(_, count)| count).sum()
+    }
+
+    pub fn batches(&self) -> u64 {
+        self.batches.values().sum()
     }
 
     /// The counts as lines, then warnings that name the allowed answers that were not seen.
@@ -108,6 +122,10 @@ impl Coverage {
                 report += &counts_line(function.name, number, &self.inputs);
             }
         }
+        if self.batches() > 0 {
+            report += &format!("batches: {} (answer: times)\n", self.batches());
+            report += &counts_line(BATCH.1, BATCH.0, &self.batches);
+        }
         report + &self.warnings()
     }
 
@@ -126,6 +144,9 @@ impl Coverage {
             for (number, function) in FUNCTIONS.iter().enumerate() {
                 warnings += &unseen(function.name, number, function.answers, &self.inputs);
             }
+        }
+        if self.batches() > 0 {
+            warnings += &unseen(BATCH.1, BATCH.0, &batches::ANSWERS, &self.batches);
         }
         warnings
     }

@@ -2,9 +2,10 @@
 //! two.
 //!
 //! The model (`model`) rests on 01, 02, source document 002 and docs/DECISIONS.md, and shares no code with the
-//! crates. `generate` makes tapes and `inputs` makes arguments for the libraries' functions; `program` and `library`
-//! run what is tested. `tape` and `text` are the two forms of a tape.
+//! crates. `generate` makes tapes, `inputs` makes arguments for the libraries' functions and `batches` makes batches;
+//! `program` and `library` run what is tested. `tape` and `text` are the two forms of a tape.
 
+pub mod batches;
 pub mod coverage;
 pub mod difference;
 pub mod examples;

@@ -1,4 +1,5 @@
-//! The static libraries `exports`, `edition_exports` and `ipdr_exports`, called through safe functions.
+//! The static libraries `exports`, `edition_exports`, `ipdr_exports` and `batch_exports`, called through safe
+//! functions.
 //!
 //! They are linked if all were there when this package was built (see `build.rs`); `is_linked` tells. Without them
 //! the functions here must not be called.
@@ -77,6 +78,21 @@ mod linked {
             out_length: usize,
         ) -> u64;
         pub fn ipdr_read_part(message: *const u8, message_length: usize, part: u8) -> u64;
+        pub fn crane_batch(
+            tape: *const u8,
+            tape_length: usize,
+            place: u16,
+            end: u16,
+            number: usize,
+            lent: usize,
+            store: *mut u8,
+            store_length: usize,
+            out: *mut u8,
+            out_length: usize,
+            batch_out: *mut u8,
+            batch_out_length: usize,
+            part: u8,
+        ) -> u64;
     }
 }
 
@@ -145,6 +161,25 @@ mod linked {
     pub unsafe fn ipdr_read_part(_: *const u8, _: usize, _: u8) -> u64 {
         panic!("{ABSENT}")
     }
+
+    #[allow(clippy::too_many_arguments)]
+    pub unsafe fn crane_batch(
+        _: *const u8,
+        _: usize,
+        _: u16,
+        _: u16,
+        _: usize,
+        _: usize,
+        _: *mut u8,
+        _: usize,
+        _: *mut u8,
+        _: usize,
+        _: *mut u8,
+        _: usize,
+        _: u8,
+    ) -> u64 {
+        panic!("{ABSENT}")
+    }
 }
 
 /// The libraries were there when this package was built.
@@ -203,4 +238,38 @@ pub fn edition_read_again(version: u8, message: &[u8], out: &mut [u8]) -> u64 {
 /// Reads an IPDR/SP message alone; one part of what was read.
 pub fn ipdr_read_part(message: &[u8], part: u8) -> u64 {
     unsafe { linked::ipdr_read_part(message.as_ptr(), message.len(), part) }
+}
+
+/// The arguments of a batch that no call writes to: the tape, the place of the batch and the end of the calls that are
+/// made, the given number, how many octets of the store the batch is lent, and which part of what comes back is asked
+/// for.
+pub struct BatchCall<'a> {
+    pub tape: &'a [u8],
+    pub place: u16,
+    pub end: u16,
+    pub number: usize,
+    pub lent: usize,
+    pub part: u8,
+}
+
+/// Sets up an exporter by the tape's settings over the store and makes the calls of its events before the place, then
+/// one batch, then the calls from the place to the end. The calls write to `out`, the batch to `batch_out`.
+pub fn batch(call: &BatchCall, store: &mut [u8], out: &mut [u8], batch_out: &mut [u8]) -> u64 {
+    unsafe {
+        linked::crane_batch(
+            call.tape.as_ptr(),
+            call.tape.len(),
+            call.place,
+            call.end,
+            call.number,
+            call.lent,
+            store.as_mut_ptr(),
+            store.len(),
+            out.as_mut_ptr(),
+            out.len(),
+            batch_out.as_mut_ptr(),
+            batch_out.len(),
+            call.part,
+        )
+    }
 }

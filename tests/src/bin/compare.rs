@@ -1,11 +1,13 @@
-//! Compares the replay program and the static libraries with the model, on seeded tapes and inputs.
+//! Compares the replay program and the static libraries with the model, on seeded tapes, inputs and batches.
 
+use outside::batches::{self, Batch, DEFAULT_BATCHES, ON_A_TAPE};
 use outside::coverage::Coverage;
 use outside::difference::first_difference;
 use outside::generate::{self, DEFAULT_TAPES, PROFILES, SEEDS_APART};
 use outside::inputs::{self, EDITION, FUNCTIONS};
 use outside::model::replay::replay;
 use outside::program::Program;
+use outside::text::words::hex;
 use outside::{examples, library, tape, text};
 use std::fs;
 use std::path::{Path, PathBuf};
@@ -18,13 +20,15 @@ const USAGE: &str = "usage: compare --program PATH [options]
   --program PATH        the replay program: a tape on standard input, lines on standard output
   --tapes N             how many tapes (2800)
   --inputs N            how many inputs for the static library's functions, and how many messages of editions (120000)
+  --batches N           how many batches, rounded up to a multiple of 16 (50000); none where there are no inputs
   --many N              N times as many of all
-  --seed S              the first seed (1); each seed gives other tapes and inputs
+  --seed S              the first seed (1); each seed gives other tapes, inputs and batches
   --profile NAME        tapes of this profile only
   --examples DIR        check the example sessions of a directory too
   --save DIR            write the tapes on which there is a difference to a directory
   --one PROFILE SEED    run one tape only; print it and both outputs
   --input FUNCTION SEED run one input only; print it and both outcomes
+  --batch SEED          run one batch only; print it and what both sides give back
 profiles:";
 
 /// How many inputs a run has if it is not told.
@@ -37,6 +41,7 @@ struct Options {
     program: Option<PathBuf>,
     tapes: u64,
     inputs: u64,
+    batches: u64,
     many: u64,
     seed: u64,
     profile: Option<usize>,
@@ -44,13 +49,24 @@ struct Options {
     save: Option<PathBuf>,
     one: Option<(usize, u64)>,
     input: Option<(usize, u64)>,
+    batch: Option<u64>,
 }
 
 impl Options {
-    /// The run has the tapes of every profile and at least as many tapes and inputs as a default run, so that every
-    /// answer is due.
+    /// The run has the tapes of every profile and at least as many tapes, inputs and batches as a default run, so that
+    /// every answer is due.
     fn is_whole(&self) -> bool {
-        self.profile.is_none() && self.tapes * self.many >= DEFAULT_TAPES && self.inputs * self.many >= DEFAULT_INPUTS
+        let asked = [(self.tapes, DEFAULT_TAPES), (self.inputs, DEFAULT_INPUTS), (self.batches, DEFAULT_BATCHES)];
+        self.profile.is_none() && asked.iter().all(|(count, default)| count * self.many >= *default)
+    }
+
+    /// The tapes that batches are made on.
+    fn tapes_of_batches(&self) -> u64 {
+        if self.inputs == 0 {
+            0
+        } else {
+            (self.batches * self.many).div_ceil(ON_A_TAPE)
+        }
     }
 }
 
@@ -83,6 +99,7 @@ fn options(arguments: &[String]) -> Result<Options, String> {
         program: None,
         tapes: DEFAULT_TAPES,
         inputs: DEFAULT_INPUTS,
+        batches: DEFAULT_BATCHES,
         many: 1,
         seed: 1,
         profile: None,
@@ -90,6 +107,7 @@ fn options(arguments: &[String]) -> Result<Options, String> {
         save: None,
         one: None,
         input: None,
+        batch: None,
     };
     let mut words = arguments.iter();
     while let Some(name) = words.next() {
@@ -98,6 +116,7 @@ fn options(arguments: &[String]) -> Result<Options, String> {
             "--program" => options.program = Some(value()?.into()),
             "--tapes" => options.tapes = number(value()?)?,
             "--inputs" => options.inputs = number(value()?)?,
+            "--batches" => options.batches = number(value()?)?,
             "--many" => options.many = number(value()?)?,
             "--seed" => options.seed = number(value()?)?,
             "--profile" => options.profile = Some(profile(value()?)?),
@@ -105,6 +124,7 @@ fn options(arguments: &[String]) -> Result<Options, String> {
             "--save" => options.save = Some(value()?.into()),
             "--one" => options.one = Some((profile(value()?)?, number(value()?)?)),
             "--input" => options.input = Some((function(value()?)?, number(value()?)?)),
+            "--batch" => options.batch = Some(number(value()?)?),
             _ => return Err(format!("no option {name}\n{}", usage())),
         }
     }
@@ -127,6 +147,9 @@ fn function(name: &String) -> Result<usize, String> {
 fn run(options: &Options) -> Result<bool, String> {
     if let Some((function, seed)) = options.input {
         return one_input(function, seed);
+    }
+    if let Some(seed) = options.batch {
+        return one_batch(seed);
     }
     let comparison = Comparison {
         program: Program::new(program_path(options)?),
@@ -158,6 +181,9 @@ fn run(options: &Options) -> Result<bool, String> {
     });
     comparison.many("messages of editions", options.inputs * options.many, |index| {
         comparison.input(EDITION, first_seed.wrapping_add(index));
+    });
+    comparison.many("tapes with 16 batches each", options.tapes_of_batches(), |index| {
+        comparison.batches(first_seed / ON_A_TAPE + index);
     });
     Ok(comparison.finish(options.is_whole()))
 }
@@ -287,6 +313,19 @@ impl Comparison {
         }
     }
 
+    /// Gives the batches on a tape to the model and to the library and reports differences.
+    fn batches(&self, tape_seed: u64) {
+        for (seed, batch) in (tape_seed * ON_A_TAPE..).zip(batches::on_tape(tape_seed)) {
+            let expected = batch.of_model();
+            self.coverage().add_batch(batches::answer(&expected));
+            let outcome = batch.of_library();
+            if outcome != expected {
+                let differences = batch.differences(&outcome, &expected);
+                self.mismatch(&format!("batch {seed} (again with --batch {seed})\n  {differences}"));
+            }
+        }
+    }
+
     fn examples(&self, directory: &Path) -> Result<(), String> {
         let (names, faults) =
             examples::check(directory, &self.program).map_err(|error| format!("{}: {error}", directory.display()))?;
@@ -326,9 +365,10 @@ impl Comparison {
         let unseen = whole && !coverage.warnings().is_empty();
         let ending = if unseen { ", not every answer seen" } else { "" };
         let (tapes, inputs, editions) = (coverage.tapes(), coverage.inputs(), coverage.editions());
-        let mismatches = self.count();
+        let (batches, mismatches) = (coverage.batches(), self.count());
         println!(
-            "outside: {tapes} tapes, {inputs} inputs, {editions} messages of editions, {mismatches} mismatches{ending}"
+            "outside: {tapes} tapes, {inputs} inputs, {editions} messages of editions, {batches} batches, \
+             {mismatches} mismatches{ending}"
         );
         mismatches == 0 && !unseen
     }
@@ -355,4 +395,30 @@ fn one_input(function: usize, seed: u64) -> Result<bool, String> {
         println!("the values:  {}", values.describe());
     }
     Ok(outcome == expected && values.is_none_or(|values| values == expected))
+}
+
+/// Runs one batch and prints it with what both sides give back; true if that is the same.
+fn one_batch(seed: u64) -> Result<bool, String> {
+    let batch = batches::of_seed(seed);
+    println!("{}", batch.describe());
+    let expected = batch.of_model();
+    print_runs("the model", &batch, &expected);
+    if !library::is_linked() {
+        return Err("a static library was not there when this was built".to_string());
+    }
+    let outcome = batch.of_library();
+    print_runs("the library", &batch, &outcome);
+    let same = outcome == expected;
+    println!("{}", if same { "they are the same".to_string() } else { batch.differences(&outcome, &expected) });
+    Ok(same)
+}
+
+/// What each run of a batch gave back.
+fn print_runs(side: &str, batch: &Batch, all: &[batches::Given]) {
+    for (run, given) in batch.runs.iter().zip(all) {
+        println!("{side}: part {}, calls up to event {}: {}", run.part, run.end, given.part);
+    }
+    if let Some(given) = all.first() {
+        println!("{side}: the batch's output {}", hex(&given.batch_out));
+    }
 }

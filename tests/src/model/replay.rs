@@ -152,15 +152,19 @@ pub struct Replay {
 }
 
 impl Replay {
-    /// Event 0: set-up over a store of the length that the settings name, or its refusal, which is 20
-    /// too for more servers than the form has priorities.
+    /// Event 0: set-up over a store of the length that the settings name, or its refusal.
     pub fn set_up(body: &[u8]) -> Result<Replay, u8> {
+        let (_, store_length) = read_settings(body).ok_or(answer::UNSOUND_TAPE)?;
+        Replay::set_up_over(body, vec![0; store_length])
+    }
+
+    /// Set-up over any store, or its refusal, which is 20 too for more servers than the form has priorities.
+    pub fn set_up_over(body: &[u8], store: Vec<u8>) -> Result<Replay, u8> {
         let form = Form::of_length(body.len()).ok_or(answer::UNSOUND_TAPE)?;
-        let (settings, store_length) = read_settings(body).ok_or(answer::UNSOUND_TAPE)?;
+        let (settings, _) = read_settings(body).ok_or(answer::UNSOUND_TAPE)?;
         if usize::from(settings.servers) > form.priorities() {
             return Err(answer::SETTINGS_OUTSIDE_LIMITS);
         }
-        let store = vec![0; store_length];
         let exporter = Exporter::set_up(settings, &store)?;
         Ok(Replay { exporter, store, table: Vec::new(), output: vec![0; OUTPUT_OCTETS] })
     }
