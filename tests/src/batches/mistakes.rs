@@ -1,7 +1,7 @@
 //! A test that the batches of a default run tell programs with one mistake in the batch call from the right one.
 
 use super::make::FRONT_OCTETS;
-use super::situations::batches;
+use super::situations::{batches, SOME};
 use super::{Batch, Given};
 use crate::model::answer::{DONE, NOTHING_TO_SEND, NO_ACTIVE_SERVER, OUTPUT_TOO_SHORT};
 use crate::model::batch::BatchReply;
@@ -53,9 +53,11 @@ struct Single<'a> {
     out: &'a mut [u8],
     /// How many messages stand before it.
     count: usize,
+    /// The octets of the whole output.
+    whole: usize,
 }
 
-const MISTAKES: [(&str, Mistake); 66] = [
+const MISTAKES: [(&str, Mistake); 67] = [
     ("it stops one before the number", Number(|number| number.saturating_sub(1))),
     ("it stops one after the number", Number(|number| number.saturating_add(1))),
     ("a number of 0 is 1", Number(|number| number.max(1))),
@@ -216,6 +218,7 @@ const MISTAKES: [(&str, Mistake); 66] = [
             it.exporter.next_data(it.store, &mut it.out[..room])
         }),
     ),
+    ("each message needs the room of the whole output", Call(|it| it.fits_the_whole())),
     ("a message that does not fit is passed over", Call(|it| it.passes_over())),
     (
         "it begins at reached",
@@ -378,6 +381,15 @@ impl Single<'_> {
         Reply { answer, written: 0 }
     }
 
+    /// A message that fits the whole output is written as far as there is room.
+    fn fits_the_whole(&mut self) -> Reply {
+        let mut own = vec![0; self.whole];
+        let reply = self.exporter.next_data(self.store, &mut own);
+        let written = reply.written.min(self.out.len());
+        self.out[..written].copy_from_slice(&own[..written]);
+        Reply { written, ..reply }
+    }
+
     /// The first record from here on whose message fits is sent.
     fn passes_over(&mut self) -> Reply {
         let before = self.exporter.clone();
@@ -447,8 +459,8 @@ fn one_by_one(
     let mut reply = exporter.batch(store, &mut [], 0);
     while reply.count < number && reply.answer == DONE {
         let place = begin(reply.written).min(out.len());
-        let out = &mut out[place..];
-        let single = call(&mut Single { first: &first, exporter, store, out, count: reply.count });
+        let (whole, out) = (out.len(), &mut out[place..]);
+        let single = call(&mut Single { first: &first, exporter, store, out, count: reply.count, whole });
         reply.answer = single.answer;
         reply.count += usize::from(single.answer == DONE);
         reply.written = if single.answer == DONE { place + single.written } else { reply.written };
@@ -483,7 +495,7 @@ fn every_mistake_is_told() {
 
 #[test]
 fn a_program_without_a_mistake_is_not_told() {
-    for batch in batches().step_by(100) {
+    for batch in batches().take(SOME) {
         let right = batch.of_model();
         assert_eq!(given(&batch, &Number(|number| number)), right);
         assert_eq!(given(&batch, &Left(|_| {})), right);

@@ -8,12 +8,15 @@ use crate::model::answer::*;
 use crate::model::batch::BatchReply;
 use crate::model::exporter::{Exporter, MOST_RECORDS};
 use crate::model::message::MAX_RECORD_OCTETS;
-use crate::model::replay::{read_tape, Replay};
+use crate::model::replay::{read_settings, read_tape, Replay};
 use crate::tape::MESSAGE;
 use std::collections::BTreeMap;
 
 /// How often each situation must be met.
 const LEAST: u64 = 20;
+
+/// How many batches are enough for what holds of all.
+pub const SOME: usize = 5_000;
 
 /// The batches of a default run.
 pub fn batches() -> impl Iterator<Item = Batch> {
@@ -136,7 +139,7 @@ impl Made<'_> {
 /// A situation: its name, and whether a batch is in it.
 type Situation = (&'static str, fn(&Made) -> bool);
 
-const SITUATIONS: [Situation; 57] = [
+const SITUATIONS: [Situation; 60] = [
     ("the number is reached as the output is full, more wait", |it| {
         it.stops(DONE, true) && it.is_full() && it.next_message().is_some()
     }),
@@ -229,6 +232,15 @@ const SITUATIONS: [Situation; 57] = [
         it.batch.number > 0 && it.is_lent_too_little() && it.before.active.is_some() && it.waiting() == 0
     }),
     ("no active server", |it| it.stops(NO_ACTIVE_SERVER, false) && !it.before.queue.is_empty()),
+    ("a store of another length than the settings name", |it| {
+        let events = read_tape(&it.batch.tape).expect("a sound tape");
+        it.reply.count > 0 && read_settings(&events[0].body).is_some_and(|(_, named)| named != it.batch.store)
+    }),
+    ("no call comes after it", |it| it.batch.later.is_empty()),
+    ("its place is past the last event", |it| {
+        let count = u16::from_be_bytes([it.batch.tape[0], it.batch.tape[1]]);
+        it.batch.place > count
+    }),
     ("all that was sent is acknowledged after it", |it| {
         it.reply.count > 0 && it.is_acknowledged(DONE, |count, reached| count == reached)
     }),
@@ -270,7 +282,7 @@ fn every_situation_is_met() {
 
 #[test]
 fn every_tape_is_sound_and_as_the_model_has_it() {
-    for batch in batches().step_by(50) {
+    for batch in batches().take(SOME) {
         let events = read_tape(&batch.tape).expect("a sound tape");
         let place = usize::from(batch.place).min(events.len());
         assert_eq!(events[place..], batch.later);
@@ -312,7 +324,7 @@ fn one_by_one(exporter: &mut Exporter, store: &[u8], out: &mut [u8], number: usi
 
 #[test]
 fn the_model_is_as_messages_written_one_by_one() {
-    for batch in batches().step_by(10) {
+    for batch in batches().take(SOME) {
         assert_eq!(batch.of_program(&one_by_one), batch.of_model(), "{}", batch.describe());
     }
 }

@@ -182,7 +182,7 @@ fn run(options: &Options) -> Result<bool, String> {
     comparison.many("messages of editions", options.inputs * options.many, |index| {
         comparison.input(EDITION, first_seed.wrapping_add(index));
     });
-    comparison.many("tapes with 16 batches each", options.tapes_of_batches(), |index| {
+    comparison.many(&format!("tapes with {ON_A_TAPE} batches each"), options.tapes_of_batches(), |index| {
         comparison.batches(first_seed / ON_A_TAPE + index);
     });
     Ok(comparison.finish(options.is_whole()))
