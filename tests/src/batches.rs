@@ -42,6 +42,13 @@ pub struct Run {
     pub end: u16,
 }
 
+impl Run {
+    /// The arguments in words.
+    pub fn describe(self) -> String {
+        format!("part {}, calls before event {}", self.part, self.end)
+    }
+}
+
 /// A batch at a place of a tape.
 #[derive(Clone, Debug)]
 pub struct Batch {
@@ -134,7 +141,8 @@ impl Batch {
     pub fn differences(&self, library: &[Given], model: &[Given]) -> String {
         let pairs = self.runs.iter().zip(library.iter().zip(model));
         let lines = pairs.filter(|(_, (own, other))| own != other).map(|(run, (own, other))| {
-            format!("run {run:?}: the library {}, the model {}{}", own.part, other.part, own.octets_that_differ(other))
+            let octets = own.octets_that_differ(other);
+            format!("{}: the library {}, the model {}{octets}", run.describe(), own.part, other.part)
         });
         lines.collect::<Vec<String>>().join("\n  ")
     }

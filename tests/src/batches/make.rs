@@ -3,7 +3,7 @@
 
 use super::{later, Batch, Run, ANSWER, COUNT, LAST_ANSWER, LAST_WRITTEN, WRITTEN};
 use crate::generate;
-use crate::model::exporter::{Exporter, MOST_RECORDS};
+use crate::model::exporter::{Exporter, Settings, MAX_SERVERS, MOST_RECORDS, SMALLEST_STORE};
 use crate::model::message::MAX_RECORD_OCTETS;
 use crate::model::replay::{read_settings, Replay};
 use crate::random::Random;
@@ -93,7 +93,7 @@ fn fill(random: &mut Random, events: &mut Vec<Event>) {
 /// the store is not of the length that the settings name. If the settings are refused the exporter is unsound.
 fn begin(random: &mut Random, events: &[Event]) -> Replay {
     let (_, named) = read_settings(&events[0].body).expect("settings of a sound tape");
-    let others = [named + 1, named - 1, 1_024, 1_023, 0];
+    let others = [named + 1, named - 1, SMALLEST_STORE, SMALLEST_STORE - 1, 0];
     let length = if random.once_in(24) { *random.pick(&others) } else { named };
     let store = vec![0; length];
     let table = events[1].body.clone();
@@ -104,11 +104,19 @@ fn begin(random: &mut Random, events: &[Event]) -> Replay {
     Replay { exporter, store, table, output }
 }
 
-/// An exporter that answers 1 to every call.
+/// An exporter that answers 1 to every call: it has no server.
 fn unsound() -> Exporter {
-    let mut body = vec![0; tape::Form::Short.octets()];
-    body[2..8].copy_from_slice(&[1, 1, 0, 1, 255, 255]);
-    let mut exporter = Replay::set_up(&body).expect("settings in their limits").exporter;
+    let settings = Settings {
+        session: 0,
+        configuration_id: 0,
+        boot_time: 0,
+        first_dsn: 0,
+        servers: 1,
+        priorities: [0; MAX_SERVERS],
+        threshold: 1,
+        duration: 1,
+    };
+    let mut exporter = Exporter::set_up(settings, &[0; SMALLEST_STORE]).expect("settings in their limits");
     exporter.settings.servers = 0;
     exporter
 }

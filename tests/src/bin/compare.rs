@@ -416,7 +416,7 @@ fn one_batch(seed: u64) -> Result<bool, String> {
 /// What each run of a batch gave back.
 fn print_runs(side: &str, batch: &Batch, all: &[batches::Given]) {
     for (run, given) in batch.runs.iter().zip(all) {
-        println!("{side}: part {}, calls up to event {}: {}", run.part, run.end, given.part);
+        println!("{side}: {}: {}", run.describe(), given.part);
     }
     if let Some(given) = all.first() {
         println!("{side}: the batch's output {}", hex(&given.batch_out));
