@@ -9,7 +9,7 @@ use Prim.Native.Nat.{ℕ, zero, suc, _+_, _-_, _/_, _%_, _^_, _≤_, _<_}
 use native.Mathlib.Nat.{add-zero, div-self, div-eq-of-lt, zero-div, mul-div-cancel, mul-mod-left, pow-suc}
 use native.Mathlib.Decide.{decLt, ℕ-discrete}
 use native.Mathlib.Omega.{arith}
-use lib.Bits.{bitOr, or-shr, or-mod, or-zero-r}
+use lib.Bits.{bitOr, or-shr, or-mod, or-zero-r, or-lt}
 use lib.Dec.{eqb}
 use lib.ListN.{length, getD, set, take, drop, replicate, length-append, length-drop, length-replicate, List·getD-append}
 use lib.Pow.{pow-pos, pow-lt, pow-add}
@@ -20,7 +20,7 @@ use Rattle.session.specs.Queue.{Entry, sumOf, has, with, hasOther, shift
 use Rattle.session.specs.History.{Writing, anyWriting}
 use Rattle.session.specs.Claim.{writtenToOther, octetsTogether}
 use Rattle.session.specs.declared.state.State.{State}
-use Rattle.session.proofs.Arrays.{sum-append, sum-more}
+use Rattle.session.proofs.Arrays.{sum-append, sum-more, other-only}
 use Rattle.session.proofs.Rings.{read-length}
 
 -- ---- bools
@@ -126,6 +126,31 @@ has-with m v j =
 pub has-zero : (j : ℕ) → has 0 j ≡ false
 unfolding has
 has-zero j = rw (zero-div (2 ^ j))
+
+-- a set with v is not empty
+with-some : (m v : ℕ) → with m v ≢ 0
+with-some m v e =
+    false≢true (sym (has-zero v) ∙ ap (λ (x : ℕ). has x v) (sym e) ∙ has-with m v v ∙ rw (eq-eqb v v refl) refl)
+
+-- a server other than v is in a set with v exactly where it is in the set
+other-with : (k v m : ℕ) → hasOther k v m ≡ hasOther k v (with m v)
+unfolding hasOther
+other-with zero v m = refl
+other-with (suc k) v m = rw (has-with m v k, ← other-with k v m) (go (ℕ-discrete k v))
+  where
+    go : Dec (k ≡ v)
+        → (not (eqb k v) && has m k) || hasOther k v m ≡ (not (eqb k v) && (eqb v k || has m k)) || hasOther k v m
+    go (yes e) = rw (eq-eqb k v e)
+    go (no n) = rw (ne-eqb k v n, ne-eqb v k (λ y. n (sym y)))
+
+-- a set of the first n servers has another one than v exactly where the set with v is not v alone; it has k bits, that of v among them
+pub other-beside : (n k v m : ℕ) → m < 2 ^ n → m < 2 ^ k → v < k → hasOther n v m ≡ not (eqb (with m v) (2 ^ v))
+other-beside n k v m h l b =
+    other-only n v m h
+    ∙ sym (other-only k v m l)
+    ∙ other-with k v m
+    ∙ other-only k v (with m v) (or-lt k m (2 ^ v) l (pow-lt {j = k} b))
+    ∙ rw (ne-eqb (with m v) 0 (with-some m v)) refl
 
 -- a server other than v that is in the set
 other-some : (n v m : ℕ) → hasOther n v m ≡ true → (u : ℕ) × (u ≢ v) × (has m u ≡ true)

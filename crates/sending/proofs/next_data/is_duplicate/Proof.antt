@@ -1,8 +1,9 @@
--- `is_duplicate` meets its contract. While nobody is active there is no duplicate; else another server is in the set where it is neither
--- empty nor the active server alone, since it names existing servers only.
+-- `is_duplicate` meets its contract. While nobody is active there is no duplicate; else another server is in the set where, with the
+-- active server, it is not that server alone, since it names existing servers only.
 use mathlib.Core.Path.{sym, subst, _∙_}
+use Prim.Native.Nat.{_^_, _<_}
 use Rattle.session.specs.Limits.{maxServers}
-use Rattle.session.proofs.Arrays.{other-only}
+use Rattle.session.proofs.QueueLaws.{other-beside}
 use Rattle.soundness.specs.Parts.{Below}
 use borrow.Author.Needs.{needs}
 use Rattle.sending.proofs.next_data.is_duplicate.Statement.{statement}
@@ -24,7 +25,10 @@ returns-2 : tie.Need-returns-2
 returns-2 c =
     let v = c .before .before .active .given in
     let z = c .before .before .before .before in
-    rw (v .1) (c .has-other .ensures ∙ sym (other-only (z .args .p .servers) (v .0 .0) (z .args .set) (z .pre .1)))
+    let m = z .args .set in
+    let low : m < 2 ^ maxServers = search needs in
+    let below : v .0 .0 < maxServers = subst (Below maxServers) (v .1) (z .pre .0) in
+    rw (v .1) (c .has-other .ensures ∙ sym (other-beside (z .args .p .servers) maxServers (v .0 .0) m (z .pre .1) low below))
 
 pub is-duplicate-spec : {M : Type 1} → statement M
 is-duplicate-spec =
