@@ -1,5 +1,6 @@
-// Runs the boundary examples of stores and queues, and prints what each call answers.
+// Runs the boundary examples of stores, queues and batches, and prints what each call answers.
 use exporter::limits::SERVER_ENTRIES;
+use exporter::state::Batch;
 use exporter::state::Settings;
 use exporter::state::State;
 use libc::STDOUT_FILENO;
@@ -19,6 +20,9 @@ const FINAL_TMPL_DATA_ACK: [u8; 12] = [1, 0x13, 7, 0, 0, 0, 0, 12, 1, 0, 0, 0];
 
 // DATA ACK of DSN 0 under configuration 1.
 const ACK_OF_FIRST: [u8; 16] = [1, 0x21, 7, 0, 0, 0, 0, 16, 0, 0, 0, 0, 1, 0, 0, 0];
+
+// How many octets the DATA of a record of two octets has.
+const DATA_OCTETS: usize = 18;
 
 // Session 7, configuration 1, one server, the first DSN 0.
 fn settings() -> Settings {
@@ -100,14 +104,45 @@ fn release_one(s: State, store: &[u8]) -> State {
     released.state
 }
 
-// Holds 64 records and tries record 65, releases one, tries record 65 again and then record 66.
+// Prints a batch's answer, how many messages it wrote and how many octets.
+fn print_batch(label: &[u8], batch: Batch) {
+    print(label, batch.answer);
+    io::write_all(STDOUT_FILENO, b"  messages: ");
+    io::print_decimal(STDOUT_FILENO, batch.count as u64);
+    io::write_all(STDOUT_FILENO, b", octets: ");
+    io::print_decimal(STDOUT_FILENO, batch.written as u64);
+    io::write_all(STDOUT_FILENO, b"\n");
+}
+
+// Sends 64 records of two octets in batches: none, one, one more than there is room for, and more than are left.
+fn batches(s: State, store: &[u8]) {
+    let mut short = [0u8; 2 * DATA_OCTETS - 1];
+    let mut out = [0u8; 64 * DATA_OCTETS];
+    let none = exporter::batch::send_batch(s, store, &mut short, 0);
+    print_batch(b"batch of 0, room for 1: ", none);
+    let at_first = none.state;
+    let one = exporter::batch::send_batch(at_first, store, &mut short, 1);
+    print_batch(b"batch of 1, room for 1: ", one);
+    let after_one = one.state;
+    let two = exporter::batch::send_batch(after_one, store, &mut short, 2);
+    print_batch(b"batch of 2, room for 1: ", two);
+    let after_two = two.state;
+    let rest = exporter::batch::send_batch(after_two, store, &mut out, 64);
+    print_batch(b"batch of 64, room for 64: ", rest);
+    let all_sent = rest.state;
+    let nothing = exporter::batch::send_batch(all_sent, store, &mut out, 1);
+    print_batch(b"batch of 1, all sent: ", nothing);
+}
+
+// Holds 64 records and tries record 65, releases one, tries record 65 again and then record 66; then sends what is held in batches.
 fn fullest_queue() {
     let mut store = [0u8; 1024];
     let made = exporter::set_up::set_up(settings(), &store);
     let fresh = made.state;
     let full = put_many(fresh, &mut store, 65);
     let freed = release_one(full, &store);
-    put_many(freed, &mut store, 2);
+    let refilled = put_many(freed, &mut store, 2);
+    batches(refilled, &store);
 }
 
 fn main() {

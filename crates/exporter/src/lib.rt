@@ -9,7 +9,9 @@
 // 4. `offer_templates::offer_templates` writes the table for a server that has started (its START was received). When its FINAL TMPL DATA
 //    ACK is received the server is agreed, and the agreed server of highest priority is the active one.
 // 5. `next_data::next_data` writes the next record as DATA for the active server, again and again until it answers 14 (nothing to send).
-//    The DATA ACKs that `receive` takes release the records.
+//    `batch::send_batch` does so up to a given number of times in one call, the messages back to back in one output (02, ask 5): its answer
+//    is 0 where the number was reached, or that of the call that stopped it (14: all is sent; 12: the next message did not fit), and what
+//    was written before stays. The DATA ACKs that `receive` takes release the records.
 // 6. `line_down::line_down` says that the line to a server is down, `tick::tick` that a tick has passed; when an active server is too slow
 //    another one takes over, or all that was not acknowledged is sent again.
 // Each call may be made at any time, in any state: one that is out of turn is refused. specs/Driving.antt goes through a whole session.
@@ -21,14 +23,16 @@
 // held is then sent with S. A duration that is long beside the time that a server takes to answer makes this rare.
 // examples/late-release-after-a-resend.txt goes through such a session; docs/DECISIONS.md names two hazards more, of repeats.
 //
-// What is lent: the store, the same octets each time and of the length that set-up saw, to `put` and `next_data`, which keep the records'
-// octets there as a ring; the session's template table to `put` and `offer_templates` (`session_table::is_sessions` says whether a table is
-// the session's); an output to every call that writes, from its first octet on, and no octet after the message changes. The caller sends
-// what was written to the server that the call was about: the one that it names, or for `next_data` the active one.
+// What is lent: the store, the same octets each time and of the length that set-up saw, to `put`, `next_data` and `send_batch`, which keep
+// the records' octets there as a ring; the session's template table to `put` and `offer_templates` (`session_table::is_sessions` says
+// whether a table is the session's); an output to every call that writes, from its first octet on, and no octet after the message, or after
+// a batch's last one, changes. The caller sends what was written to the server that the call was about: the one that it names, or for
+// `next_data` and `send_batch` the active one.
 //
 // What comes back: the answer, how many octets were written, and the state, which is passed by value; the next call gets that state. An
-// answer other than 0 is a refusal (`octets::Answer` names each number) and changes nothing: not the state, the store or the output. So a
-// driver may try a call and go on. 1 says that state or store are not what the last call left.
+// answer other than 0 is a refusal (`octets::Answer` names each number) and changes nothing: not the state, the store or the output; of a
+// batch this holds of the single call that stopped it. So a driver may try a call and go on. 1 says that state or store are not what the
+// last call left.
 //
 // What it does not do: it opens no line, waits for nothing, and reads and writes no octet of a message or table by itself; `wire` does.
 //
