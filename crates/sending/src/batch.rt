@@ -50,6 +50,19 @@ fn place_behind(at: usize, n: usize, capacity: usize) -> usize
     next - capacity
 }
 
+// A batch that ends with an answer, after messages that have so many octets together and leave a delivery.
+fn ended(answer: u8, count: usize, written: usize, d: Delivery) -> Batching
+    ensures { λ r. ⌜ r ≡ record { answer = answer; count = count; written = written; sent = d .sent; reached = d .reached } ⌝ }
+{
+    Batching {
+        answer,
+        count,
+        written,
+        sent: d.sent,
+        reached: d.reached,
+    }
+}
+
 // The answer of a batch whose messages all fit: 0 where none is left of the given number, else there is nothing more to send.
 fn end_answer(left: usize) -> u8
     ensures { λ a. ⌜ a ≡ cond (eqb left 0) done nothingToSend ⌝ }
@@ -103,23 +116,11 @@ fn send_records<'a, 'b>(
                 left -= 1;
             }
             Written::Refused(a) => {
-                return Batching {
-                    answer: a,
-                    count: limit - left,
-                    written,
-                    sent: delivery.sent,
-                    reached: delivery.reached,
-                };
+                return ended(a, limit - left, written, delivery);
             }
         }
     }
-    Batching {
-        answer: end_answer(left),
-        count: limit - left,
-        written,
-        sent: delivery.sent,
-        reached: delivery.reached,
-    }
+    ended(end_answer(left), limit - left, written, delivery)
 }
 
 // The answer of a batch that sends nothing, by the answer before the output is looked at: at a given number of 0 only 1 counts.
@@ -160,13 +161,7 @@ fn batch_change<'a, 'b>(
     let stored = store.len();
     let early = send_answer(p, capacity, d, count, lengths, receivers, start, stored);
     if (limit == 0) | (early != Answer::DONE) {
-        return Batching {
-            answer: unsent_answer(early, limit),
-            count: 0,
-            written: 0,
-            sent: d.sent,
-            reached: d.reached,
-        };
+        return ended(unsent_answer(early, limit), 0, 0, d);
     }
     send_records(
         p,

@@ -276,8 +276,8 @@ loop-again c =
 enum-known-wrote-2 : tie.Need-enum-known-wrote-2 Inv-loop μ-loop
 enum-known-wrote-2 c = search needs
 
-sub-t44 : tie.Need-sub-t44 Inv-loop μ-loop
-sub-t44 c =
+sub-ended : tie.Need-sub-ended Inv-loop μ-loop
+sub-ended c =
     let a = c .before .before .before .before .before .before .before .before .before .before .before .before .before .before .before .before .before .args in
     let h = c .before .before .before .before .before .before .before .before .before .before .before .before .before .loop in
     let s : State =
@@ -285,47 +285,55 @@ sub-t44 c =
     (a .next) in
     omega (arith, h .inv .1 .under .few)
 
+ended-requires : tie.Need-ended-requires Inv-loop μ-loop
+ended-requires c κs = search needs
+
 same-length : tie.Need-same-length Inv-loop μ-loop
-same-length c = search needs
+same-length c =
+    let h = c .before .before .before .before .before .before .before .before .before .before .before .before .before .before .loop in
+    search (needs, c .before .before .before .before .before .out .given .1 ∙ h .inv .1 .under .long)
 
 returns : tie.Need-returns Inv-loop μ-loop
 returns c =
-    let a = c .before .before .before .before .before .before .before .before .before .before .before .before .before .before .before .before .before .args in
-    let h = c .before .before .before .before .before .before .before .before .before .before .before .before .before .loop in
+    let a = c .before .before .before .before .before .before .before .before .before .before .before .before .before .before .before .before .before .before .args in
+    let h = c .before .before .before .before .before .before .before .before .before .before .before .before .before .before .loop in
     let s : State =
     stateOf (a .p) (a .capacity) (h .delivery) (a .due) (a .count) (a .lengths .now) (a .templates .now) (h .receivers) (a .start)
     (a .next) in
-    let both = c .before .before .before .before .before .before .before .before .before .before .before .if1 .taken in
+    let both = c .before .before .before .before .before .before .before .before .before .before .before .before .if1 .taken in
     let more = ltb-true (s .delivery .sent) (s .queue .count) (and-right (ltb 0 (h .left)) _ both) in
     turned-refused (a .limit) (a .out .now) (a .store .now) _ (h .left) (h .written) s (h .out) (h .at) (h .inv .1) more
-    (c .before .before .before .before .before .before .before .next-head .result) (c .before .before .before .before .before .before .before .before .before .wide .result) (c .before .before .before .before .before .write-record .result) _ _
+    (c .before .before .before .before .before .before .before .before .next-head .result) (c .before .before .before .before .before .before .before .before .before .before .wide .result) (c .before .before .before .before .before .before .write-record .result) _ _
     (take-all (length (h .out) - h .written) (drop (h .written) (h .out)) (omega (arith, length-drop (h .written) (h .out))))
-    (c .before .before .before .before .before .before .before .next-head .ensures) (c .before .before .before .before .before .before .before .before .before .wide .ensures) (c .before .before .before .before .before .write-record .ensures)
-    _ _ _ (ltb-true 0 (h .left) (and-left (ltb 0 (h .left)) _ both)) (c .before .wrote2 .given .1) (part-back (h .written) (h .out) _) refl
+    (c .before .before .before .before .before .before .before .before .next-head .ensures) (c .before .before .before .before .before .before .before .before .before .before .wide .ensures) (c .before .before .before .before .before .before .write-record .ensures)
+    _ _ _ (ltb-true 0 (h .left) (and-left (ltb 0 (h .left)) _ both)) (c .before .before .wrote2 .given .1) (part-back (h .written) (h .out) _) (c .ended .ensures)
 
 end-answer-requires : tie.Need-end-answer-requires Inv-loop μ-loop
 end-answer-requires c κs = search needs
 
-sub-t46 : tie.Need-sub-t46 Inv-loop μ-loop
-sub-t46 c =
+sub-ended-2 : tie.Need-sub-ended-2 Inv-loop μ-loop
+sub-ended-2 c =
     let a = c .before .before .before .before .before .before .before .args in
     let h = c .before .before .before .loop in
     let s : State =
     stateOf (a .p) (a .capacity) (h .delivery) (a .due) (a .count) (a .lengths .now) (a .templates .now) (h .receivers) (a .start)
     (a .next) in
     omega (arith, h .inv .1 .under .few)
+
+ended-requires-2 : tie.Need-ended-requires-2 Inv-loop μ-loop
+ended-requires-2 c κs = search needs
 
 same-length-2 : tie.Need-same-length-2 Inv-loop μ-loop
 same-length-2 c = search needs
 
 returns-2 : tie.Need-returns-2 Inv-loop μ-loop
 returns-2 c =
-    let a = c .before .before .before .before .before .before .before .args in
-    let h = c .before .before .before .loop in
+    let a = c .before .before .before .before .before .before .before .before .args in
+    let h = c .before .before .before .before .loop in
     let s : State =
     stateOf (a .p) (a .capacity) (h .delivery) (a .due) (a .count) (a .lengths .now) (a .templates .now) (h .receivers) (a .start)
     (a .next) in
-    turned-ended (a .limit) (a .out .now) (a .store .now) _ (h .left) (h .written) s (h .out) (h .at) (h .inv .1) _ _ (c .before .if1 .left) (c .end-answer .ensures) refl
+    turned-ended (a .limit) (a .out .now) (a .store .now) _ (h .left) (h .written) s (h .out) (h .at) (h .inv .1) _ _ (c .before .before .if1 .left) (c .before .end-answer .ensures) (c .ended2 .ensures)
 
 pub send-records-spec : {M : Type 1} → statement M
 send-records-spec =
@@ -358,10 +366,12 @@ send-records-spec =
     loop-less
     loop-again
     enum-known-wrote-2
-    sub-t44
+    sub-ended
+    ended-requires
     same-length
     returns
     end-answer-requires
-    sub-t46
+    sub-ended-2
+    ended-requires-2
     same-length-2
     returns-2)
