@@ -1,7 +1,7 @@
 -- `play` meets its contract. The loop's invariant: the calls stand where the events passed have brought them, and store and output keep
 -- their lengths. At the end the events before both ends are passed.
 use mathlib.Core.Path.{_≡_, refl}
-use Prim.Native.Nat.{_+_, _-_, _≤_}
+use Prim.Native.Nat.{_-_, _≤_}
 use native.Mathlib.Omega.{arith}
 use lib.ListN.{length}
 use Rattle.batch_exports.specs.Calls.{progress, played}

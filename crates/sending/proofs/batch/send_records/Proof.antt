@@ -2,11 +2,11 @@
 -- the whole. A turn writes the single call's message to the octets left, or finds that it does not fit; then, or where no message or no
 -- record is left, the batch ends as the definition does.
 use mathlib.Core.Path.{_≡_, refl, sym, ap, _∙_, subst}
-use Prim.Native.Nat.{_+_, _-_}
+use Prim.Native.Nat.{_-_}
 use native.Mathlib.Omega.{arith}
 use lib.Dec.{ltb}
 use lib.ListN.{length, getD, drop, length-drop}
-use lib.Seq.{take-length, take-all}
+use lib.Seq.{take-all}
 use borrow.Author.Tests.{ltb-true}
 use Rattle.octets.proofs.Each.{and-left, and-right}
 use Rattle.session.specs.Limits.{maxServers}
