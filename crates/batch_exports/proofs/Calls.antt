@@ -4,7 +4,7 @@ use mathlib.Core.List.{List}
 use Prim.Native.Nat.{ℕ, suc, _+_, _-_, _≤_, max}
 use native.Mathlib.Omega.{arith}
 use lib.ListN.{length, take}
-use Rattle.session.specs.Batches.{BatchOutcome, batch, batchOf, outputAfterBatch}
+use Rattle.batches.specs.Batches.{BatchOutcome, batch, batchOf, outputAfterBatch}
 use Rattle.session.specs.declared.state.Batch.{Batch}
 use Rattle.session.specs.declared.state.Made.{Made}
 use Rattle.session.specs.declared.state.State.{State}

@@ -8,7 +8,7 @@ use lib.ListN.{length, take}
 use Rattle.octets.specs.Answers.{done}
 use Rattle.exporter.specs.Steps.{wroteOf, outputAfter}
 use Rattle.exporter.specs.InOctets.{Event}
-use Rattle.session.specs.Batches.{BatchOutcome, batch, batchOf, outputAfterBatch}
+use Rattle.batches.specs.Batches.{BatchOutcome, batch, batchOf, outputAfterBatch}
 use Rattle.session.specs.declared.state.Batch.{Batch}
 use Rattle.session.specs.declared.state.State.{State}
 use Rattle.session.specs.declared.state.Wrote.{Wrote}

@@ -3,7 +3,7 @@
 ghost use mathlib.Core.Path.{_≡_};
 ghost use Prim.Native.Nat.{min, max};
 ghost use lib.ListN.{length, take};
-ghost use Rattle.session.specs.Batches.{batch, batchOf, outputAfterBatch};
+ghost use Rattle.batches.specs.Batches.{batch, batchOf, outputAfterBatch};
 ghost use Rattle.contents.specs.Tape.{kindAt, serverAt, bodyOf};
 ghost use Rattle.events.specs.Events.{eventCall, Called};
 ghost use Rattle.batch_exports.specs.Calls.{progress, playedTo, uncalled, asked, endOf, HandedBack};

@@ -10,7 +10,7 @@ pub use Rattle.session.specs.Steps
 pub use Rattle.session.specs.History
 pub use Rattle.session.specs.Claim
 pub use Rattle.session.specs.InOctets
-pub use Rattle.session.specs.Batches
+pub use Rattle.batches.specs.Batches
 pub use Rattle.session.specs.Examples
 pub use Rattle.session.specs.Rules
 pub use Rattle.session.specs.Order

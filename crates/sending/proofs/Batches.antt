@@ -23,7 +23,7 @@ use Rattle.session.specs.Servers.{isNobody}
 use Rattle.session.specs.Queue.{sumOf, ringRead, markedSet}
 use Rattle.session.specs.Sound.{sound}
 use Rattle.session.specs.Steps.{headOf, nextData, answer, checks, Outcome, step, octetsWritten, outputAfter}
-use Rattle.session.specs.Batches.{BatchOutcome, batch, batchOf, outputAfterBatch}
+use Rattle.batches.specs.Batches.{BatchOutcome, batch, batchOf, outputAfterBatch}
 use Rattle.session.specs.declared.state.State.{State}
 use Rattle.session.specs.declared.state.Batch.{Batch}
 use Rattle.session.specs.declared.state.Wrote.{Wrote}

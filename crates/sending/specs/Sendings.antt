@@ -11,7 +11,7 @@ use Rattle.session.specs.Servers.{isNobody, withCounts}
 use Rattle.session.specs.Queue.{markedSet}
 use Rattle.session.specs.Sound.{sound}
 use Rattle.session.specs.Steps.{Outcome, octetsWritten}
-use Rattle.session.specs.Batches.{BatchOutcome}
+use Rattle.batches.specs.Batches.{BatchOutcome}
 use Rattle.sending.specs.declared.next_data.Sending.{Sending}
 use Rattle.sending.specs.declared.batch.Batching.{Batching}
 use Rattle.session.specs.declared.state.State.{State}

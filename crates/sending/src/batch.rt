@@ -6,7 +6,7 @@ ghost use lib.Dec.{eqb};
 ghost use lib.ListN.{length};
 ghost use Rattle.octets.specs.Answers.{done, unsoundState, nothingToSend};
 ghost use Rattle.session.specs.Limits.{maxStoreOctets};
-ghost use Rattle.session.specs.Batches.{batch, batchOf, outputAfterBatch};
+ghost use Rattle.batches.specs.Batches.{batch, batchOf, outputAfterBatch};
 ghost use Rattle.sending.specs.Sendings.{SendFacts, Entries, Sent};
 ghost use Rattle.soundness.specs.Parts.{stateOf};
 use crate::next_data::larger;

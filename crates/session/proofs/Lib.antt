@@ -14,7 +14,6 @@ pub mod Keeps
 pub mod Calls
 pub mod Demand
 pub mod Examples
-pub mod BatchRows
 pub mod Written
 pub mod Rules
 pub mod Order
@@ -23,5 +22,4 @@ pub mod Refusals
 pub mod Counters
 pub mod Resends
 pub mod InOctets
-pub mod Batches
 pub mod Unused

@@ -8,7 +8,7 @@ use borrow.Author.Tests.{ne-eqb}
 use lib.ListN.{length, getD}
 use Rattle.exporter.specs.Replies.{silent, crane}
 use Rattle.session.proofs.Written.{writes-nothing}
-use Rattle.session.specs.Batches.{ListedCall, Single, SendBatch, batch, batchOf, outputAfterBatch}
+use Rattle.batches.specs.Batches.{ListedCall, Single, SendBatch, batch, batchOf, outputAfterBatch}
 use Rattle.session.specs.Steps.{put, tick, written, step, steppedOf, wroteOf, outputAfter}
 use Rattle.session.specs.InOctets.{Event, Put, NextData, Receive, OfferTemplates, Tick, eventStep, storeLeft}
 use Rattle.session.specs.declared.state.Batch.{Batch}

@@ -8,7 +8,7 @@ use lib.ListN.{length, getD, take, drop, replicate}
 use Rattle.exporter.specs.Steps.{setUp, octetsWritten, outputAfter}
 use Rattle.exporter.specs.Claim.{Exporter}
 use Rattle.exporter.specs.InOctets.{Put, NextData, Receive, OfferTemplates, Tick, eventStep, storeLeft}
-use Rattle.session.specs.Batches.{ListedCall, Single, SendBatch, batch, outputAfterBatch}
+use Rattle.batches.specs.Batches.{ListedCall, Single, SendBatch, batch, outputAfterBatch}
 use Rattle.session.specs.Limits.{maxServers}
 use Rattle.session.specs.declared.state.Settings.{Settings}
 use Rattle.session.specs.declared.state.State.{State}

@@ -5,7 +5,7 @@ use mathlib.Core.Logic.{⊎-elim}
 use Prim.Native.Nat.{_+_, _-_, _*_, _≤_}
 use native.Mathlib.Omega.{arith}
 use lib.ListN.{length, getD}
-use Rattle.session.specs.Batches.{Single, SendBatch}
+use Rattle.batches.specs.Batches.{Single, SendBatch}
 use Rattle.session.specs.InOctets.{Event, Put, NextData, Receive, OfferTemplates, Tick}
 use borrow.Author.Needs.{needs}
 use Rattle.sessions.specs.Sessions.{Lent, messageAt, Progress, progress, played}

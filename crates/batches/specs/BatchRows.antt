@@ -4,12 +4,12 @@ use mathlib.Core.List.{List, [], _∷_, _++_}
 use Prim.Native.Nat.{ℕ}
 use lib.ListN.{replicate}
 use Rattle.octets.specs.Answers.{done, unsoundState, outputTooShort, noActiveServer, nothingToSend}
 use Rattle.session.specs.Limits.{maxHeld}
-use Rattle.session.specs.Batches.{batch, batchOf}
+use Rattle.batches.specs.Batches.{batch, batchOf}
 use Rattle.session.specs.Examples.{alone}
 use Rattle.session.specs.declared.state.Phase.{Phase}
 use Rattle.session.specs.declared.state.Phase.the-variants.{Closed, Agreed}
 use Rattle.session.specs.declared.state.State.{State}
 
 -- One server, in a phase, and three records of 2 octets each, all once sent to it, of which the first `sent` in this activation; a store's
 -- length; a given number and an output's length. Then what the batch answers, how many messages and octets it writes, and how many of the

@@ -6,13 +6,13 @@ use Rattle.octets.specs.Answers.{nothingToSend}
 use Rattle.octets.specs.Numbers.{octetsIn}
 use Rattle.octets.specs.Each.{every}
 use Rattle.wire.specs.Messages.{messageOf, layoutOf}
 use Rattle.session.specs.Servers.{choose, changed, settle, sentOne}
 use Rattle.session.specs.Queue.{ringRead, sumOf, recordAt, has, hasOther, marked}
 use Rattle.session.specs.Sound.{settingsSound, numbersSound, sound}
 use Rattle.session.specs.Steps.{headOf, written, checks, answer, after, settled, storeAfter, step}
-use Rattle.session.specs.Batches.{batch}
-use Rattle.session.specs.BatchRows.{row, Holds, BatchRows}
+use Rattle.batches.specs.Batches.{batch}
+use Rattle.batches.specs.BatchRows.{row, Holds, BatchRows}
 use Rattle.session.specs.declared.state.Phase.the-variants.{Agreed}
 
 -- two records are left, and the given number is 3 or more
 records-end : (n : ℕ) → Holds (row Agreed 1 1024 (suc (suc (suc n))) 1000 nothingToSend 2 36 3)

@@ -22,29 +22,29 @@ use Rattle.wire.specs.Replies.{silent, crane, layout}
 use Rattle.messages.specs.declared.message.DataHead.{DataHead}
 use Rattle.messages.specs.declared.message.Message.the-variants.{Data}
 use Rattle.messages.proofs.Messages.{readable, reads, data-length}
 use Rattle.session.specs.Queue.{recordAt, marked}
 use Rattle.session.specs.Sound.{sound}
 use Rattle.session.specs.Steps.{nextData, headOf, written, checks, soundFor, answer, after, settled, storeAfter, Outcome, step}
 use Rattle.session.specs.Steps.{nextDataStep, octetsWritten}
 use Rattle.session.specs.History.{History, freshHistory}
 use Rattle.session.specs.Claim.{Exporter, transcript, historyFrom, Premises}
 use Rattle.session.specs.InOctets.{Event, Put, NextData, Receive, OfferTemplates, LineDown, Tick, eventStep, afterEvent, afterEvents}
 use Rattle.session.specs.InOctets.{invocationOf, craneSession, freshOver, AllOctets}
-use Rattle.session.specs.Batches.{BatchOutcome, answerAtNumber, batch, batchInto, singleCalls, outcomes, lastAnswer, messagesOf}
-use Rattle.session.specs.Batches.{joined, messagesIn, AllData, EveryBatch, ListedCall, Single, SendBatch, callsFor, afterListed}
-use Rattle.session.specs.Batches.{afterList, singlesOf, BatchInList, BatchesInList, AllOctetsListed, Demand3WithBatches}
+use Rattle.batches.specs.Batches.{BatchOutcome, answerAtNumber, batch, batchInto, singleCalls, outcomes, lastAnswer, messagesOf}
+use Rattle.batches.specs.Batches.{joined, messagesIn, AllData, EveryBatch, ListedCall, Single, SendBatch, callsFor, afterListed}
+use Rattle.batches.specs.Batches.{afterList, singlesOf, BatchInList, BatchesInList, AllOctetsListed, Demand3WithBatches}
 use Rattle.session.specs.declared.state.Settings.{Settings}
 use Rattle.session.specs.declared.state.State.{State}
 use Rattle.session.proofs.Rings.{read-length}
 use Rattle.session.proofs.SoundFacts.{sound-facts}
 use Rattle.session.proofs.SoundKept.{Sized, kept-sound}
 use Rattle.session.proofs.Places.{wide-modulus}
 use Rattle.session.proofs.Calls.{sound-for}
 use Rattle.session.proofs.Demand.{Kept, run-keeps, begin-kept}
 use Rattle.session.proofs.InOctets.{run-means, all-in-range, demand3-in-octets}
 use Rattle.session.proofs.StepLaws.{step-done, step-answer}
 use Rattle.session.proofs.Written.{octets-fit}
 use Rattle.session.proofs.Refusals.{refusals}
 
 -- ---- a DATA message
 
