@@ -1,5 +1,7 @@
 // A batch among the calls of a tape, for tests in Rust, which call `crane_batch`. A state does not cross the boundary to C, so one call
 // sets an exporter up and makes the calls before the batch, the batch and the calls after it.
+#![tactic(auto)]
+
 ghost use Rattle.std.specs.Prelude.{◌≡◌, min, max, length, take};
 ghost use Rattle.batches.specs.Batches.{batch, batch_of, output_after_batch};
 ghost use Rattle.contents.specs.Tape.{kind_at, server_at, body_of};

@@ -1,4 +1,6 @@
 // Runs the boundary examples of stores, queues and batches, and prints what each call answers.
+#![tactic(auto)]
+
 use exporter::limits::SERVER_ENTRIES;
 use exporter::state::{Batch, Settings, State};
 use libc::STDOUT_FILENO;

@@ -1,6 +1,8 @@
 // The contents of a tape: how many events there are, and of each its kind, server and body; whether a tape is sound (`tape_answer`).
 // A tape is borrowed octets, and nothing is copied: a body is a part of it. Every function answers any octets and any event's number; past
 // the end octets read as 0 and parts are empty. `tape` calls these functions to replay a tape, and `replay` takes the size of its input.
+#![tactic(auto)]
+
 ghost use Rattle.std.specs.Prelude.{◌≡◌};
 ghost use Rattle.octets.specs.Each.{every};
 ghost use Rattle.contents.specs.Tape.{event_count, contents_at, kind_at, server_at, body_length, body_at, octets_at, body_of, kind_fits};

@@ -3,4 +3,6 @@
 //
 // A crate that makes or matches a message lists beside this one the crates that declare the editions' messages: `headers` and `messages`
 // for CRANE, `ipdr` for IPDR/SP.
+#![tactic(auto)]
+
 pub mod edition;

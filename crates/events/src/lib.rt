@@ -1,5 +1,7 @@
 // The events of a tape: its settings, the answer to its table, and the call that an event makes of an exporter. `tape` takes them in turn.
 // Every function answers any octets.
+#![tactic(auto)]
+
 ghost use Rattle.std.specs.Prelude.{◌≡◌, length, drop};
 ghost use Rattle.contents.specs.Tape.{body_of, template_id_octets};
 ghost use Rattle.events.specs.Events.{priorities_of, settings_of, set_up_by, store_length, table_answer, event_call, Called};

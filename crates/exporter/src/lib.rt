@@ -42,6 +42,8 @@
 //
 // Nothing is declared here: the types stand in `session`, the calls in the crates named below. A crate that makes a `Settings` or holds a
 // `State` lists `session` beside this crate: the checker asks for it.
+#![tactic(auto)]
+
 pub use putting::put;
 pub use receiving::receive;
 pub use sending::{batch, next_data};

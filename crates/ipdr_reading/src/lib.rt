@@ -1,2 +1,4 @@
 // Reading IPDR/SP's messages.
+#![tactic(auto)]
+
 pub mod read;

@@ -1,2 +1,4 @@
 // Writing IPDR/SP's messages.
+#![tactic(auto)]
+
 pub mod write;

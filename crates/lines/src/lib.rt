@@ -1,6 +1,8 @@
 // A line of the replay program's output: the place of an event, its answer, and the octets that it wrote in hex.
 //
 // Every function that is seen is total: where the text has no room for any line of as many octets nothing is written, and 0 answered.
+#![tactic(auto)]
+
 ghost use Rattle.std.specs.Prelude.{◌≡◌, ◌+◌, ◌≤◌, ◌<◌, length};
 ghost use Rattle.std.proofs.lemmas.List.Edits.{sets};
 ghost use Rattle.lines.specs.Lines.{digit, decimal, hex, written_text, line_of, tape_refused, number_digits, hex_digits, line_octets};

@@ -2,6 +2,8 @@
 // and whether octets there are ASCII. `octets` passes these on, but for `place_in`, which `number_writing` uses.
 //
 // Every function is total: a read past the end reads 0.
+#![tactic(auto)]
+
 ghost use Rattle.std.specs.Prelude.{◌≡◌, [], ◌∷◌, ◌+◌, ◌-◌, ◌%◌, ◌^◌, get_or};
 ghost use Rattle.numbers.specs.Numbers.{place_in, uint_in, uint_at, smaller, all_ascii};
 

@@ -2,6 +2,8 @@
 // of a slice. `octets` passes these on.
 //
 // Every public function is total: a write that does not fit changes nothing.
+#![tactic(auto)]
+
 ghost use Rattle.std.specs.Prelude.{◌≡◌, ◌+◌, ◌≤◌, length};
 ghost use Rattle.std.proofs.lemmas.List.Edits.{sets};
 ghost use Rattle.numbers.specs.Numbers.{octets_in, octets_of, put_at};

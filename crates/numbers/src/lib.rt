@@ -2,7 +2,9 @@
 // number below a bound, and numbers and octets at a place; in proofs/ their laws. `octets` passes them on.
 
 // The order in which the octets of a number stand: the most significant first, or the least significant first.
-#[derive(Drop)]
+#![tactic(auto)]
+
+#[derive(Clone, Copy)]
 pub enum OctetOrder {
     BigEndian,
     LittleEndian,

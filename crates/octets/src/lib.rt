@@ -3,6 +3,8 @@
 // `number_writing`, the definitions and laws in `numbers`, which declares `OctetOrder` too: a crate that makes or matches one lists it.
 //
 // Every function is total: a read past the end reads 0, and a write that does not fit changes nothing.
+#![tactic(auto)]
+
 ghost use Rattle.std.specs.Prelude.{◌≡◌};
 ghost use Rattle.numbers.specs.Answers.{answer_numbers};
 

@@ -1,2 +1,4 @@
 // Put: a record into the queue.
+#![tactic(auto)]
+
 pub mod put;

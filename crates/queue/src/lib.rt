@@ -1,5 +1,7 @@
 // The queue of held records: how many octets they have, where one begins in the lent store, whether a server is in the set of those that
 // one was sent to, and in `ring` the octets of the records in the store.
+#![tactic(auto)]
+
 ghost use Rattle.std.specs.Prelude.{◌≡◌, min, take};
 ghost use Rattle.session.specs.Limits.{max_held};
 ghost use Rattle.session.specs.Queue.{sum_of, has};

@@ -1,2 +1,4 @@
 // Reading CRANE's messages.
+#![tactic(auto)]
+
 pub mod read;

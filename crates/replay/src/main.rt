@@ -1,4 +1,6 @@
 // The replay program: a tape from standard input, its lines to standard output.
+#![tactic(auto)]
+
 ghost use Rattle.std.specs.Prelude.{◌≡◌, replicate};
 ghost use Rattle.exporter.specs.Limits.{max_store_octets};
 ghost use Rattle.tape.specs.Replay.{tape_store};

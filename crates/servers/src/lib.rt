@@ -1,4 +1,6 @@
 // Servers: their phases, the choice of the active one, and the steps of a delivery.
+#![tactic(auto)]
+
 ghost use Rattle.std.specs.Prelude.{◌≡◌, cond, not, map, get_or, set};
 ghost use Rattle.session.specs.Servers.{server, phase_at, is_closed, is_offered, can_offer, is_agreed, restart};
 ghost use Rattle.session.specs.Servers.{beats, preferred, choose, same_active, is_nobody, activated};

@@ -1,6 +1,8 @@
 // A session, for benchmarks in Rust, which call `crane_session`: an exporter is set up and makes one call after the other, as lent events
 // ask for, since a state does not cross the boundary to C. Each call that it makes stands here once, as in a program that uses the
 // exporter: the compiler then puts it in its caller's place. So nothing else stands in this crate.
+#![tactic(auto)]
+
 ghost use Rattle.std.specs.Prelude.{◌≡◌, ◌+◌, ◌≤◌, length};
 ghost use Rattle.sessions.specs.Sessions.{settings_of, event_octets, message_at, added, added_batch, event_count, progress, played};
 ghost use Rattle.sessions.specs.Sessions.{session_end, PlayedTo};

@@ -12,4 +12,6 @@
 //   output holds does not matter.
 //
 // `events` reads settings, table and calls from the events' bodies, `replay` takes the turns. Every function answers any octets.
+#![tactic(auto)]
+
 pub mod replay;

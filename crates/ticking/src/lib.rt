@@ -1,2 +1,4 @@
 // Tick: the timer of the active server.
+#![tactic(auto)]
+
 pub mod tick;

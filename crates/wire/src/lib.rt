@@ -27,6 +27,8 @@
 // Nothing else is declared here. A crate that makes, matches or passes on a struct or enum lists, beside this one, the crate that declares
 // it (`numbers`, `field_types`, `tables`, `records`, `readers`, `appending`, `headers`, `messages`): the checker asks for it. Its text
 // names `wire` alone, and `octets` for the octet order and the answer numbers.
+#![tactic(auto)]
+
 pub use appending::append;
 pub use field_types::field_type;
 pub use headers::header;

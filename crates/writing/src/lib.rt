@@ -1,2 +1,4 @@
 // Writing CRANE's messages.
+#![tactic(auto)]
+
 pub mod write;

@@ -4,20 +4,12 @@ use mathlib.Core.Path.{◌≡◌, refl}
 use mathlib.Core.List.{List, [], ◌∷◌}
 use Prim.Native.Nat.{ℕ, ◌-◌, ◌^◌, ◌<◌}
 use native.Mathlib.Omega.{arith}
-use borrow.Author.Rules.{rules}
 use borrow.Author.Tests.{eqb-true, le-leb, lt-leb}
 use lib.Dec.{eqb}
 use lib.ListN.{get_or}
 use Rattle.numbers.specs.Each.{every}
 use Rattle.numbers.proofs.Each.{every_at}
-use Rattle.number_reading.proofs.greatest.Statement.{statement}
-use Rattle.number_reading.proofs.greatest.Tie as tie
-
-mul-result : tie.Need-overflow-mul-result
-mul-result c = search rules
-
-array-read-result : tie.Need-array-read-result
-array-read-result c = search rules
+use Rattle.number_reading.proofs.greatest.Goals as goal
 
 abbrev table : List ℕ
 table =
@@ -36,14 +28,8 @@ entry : (w : ℕ) → w < 9 → get_or table w 0 ≡ 256 ^ w - 1
 unfolding every
 entry w h = eqb-true (get_or table w 0) (256 ^ w - 1) (every_at 9 (λ w. eqb (get_or table w 0) (256 ^ w - 1)) refl w h)
 
-array-read-result-2 : tie.Need-array-read-result-2
-array-read-result-2 c = search rules
+pub returns-then-w-le8 : goal.returns-then-w-le8
+returns-then-w-le8 c = rw (le-leb c.args.w 8 c.if-w-le8.true) (entry c.args.w (omega arith))
 
-returns : tie.Need-returns
-returns c = rw (le-leb c.before.args.w 8 c.if1.true) (entry c.before.args.w (omega arith))
-
-returns-2 : tie.Need-returns-2
-returns-2 c = rw (lt-leb c.before.args.w 8 (omega arith)) refl
-
-pub greatest-spec : {M : Type 1} → statement M
-greatest-spec = tie.close (tie.spec mul-result array-read-result array-read-result-2 returns returns-2)
+pub returns-else-w-le8 : goal.returns-else-w-le8
+returns-else-w-le8 c = rw (lt-leb c.args.w 8 (omega arith)) refl

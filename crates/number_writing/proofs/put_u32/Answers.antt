@@ -1,0 +1,16 @@
+-- `put_u32` meets its contract: where the number does not fit nothing changes, and otherwise its two halves are written.
+use mathlib.Core.Path.{sym}
+use native.Mathlib.Omega.{arith}
+use Rattle.numbers.specs.declared.OctetOrder.TheVariants.{BigEndian}
+use Rattle.numbers.proofs.Numbers.{octets_length}
+use Rattle.numbers.proofs.Stores.{put_short, put_twice}
+use Rattle.number_writing.proofs.put_u32.Goals as goal
+
+pub returns-then-saturating_sub-lt4 : goal.returns-then-saturating_sub-lt4
+returns-then-saturating_sub-lt4 c = sym (put_short _ _ _ (omega (arith, octets_length 4 c.args.v)))
+
+pub returns : goal.returns
+returns c =
+    let first = c in
+    let a = first.args in
+    put_twice BigEndian a.out.now _ _ a.at 2 2 a.v first.put_u16.ensures c.put_u16-2.ensures (omega arith)
