@@ -13,7 +13,7 @@ use records::record::LENGTH_OCTETS;
 use records::walk::Value;
 
 // What appending answers: the place after the field, or the refusal.
-#[derive(Drop)]
+#[derive(Clone, Copy)]
 pub enum Appended {
     Next(usize),
     Refused(u8),

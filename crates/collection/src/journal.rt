@@ -4,7 +4,7 @@
 pub const ENTRY_HEAD_OCTETS: usize = 9;
 
 // An entry: its DSN, its duplicate mark D, its template ID, and where its record lies in the journal. The next entry follows the record.
-#[derive(Drop)]
+#[derive(Clone, Copy)]
 pub struct Entry {
     pub dsn: u32,
     pub duplicate: bool,
@@ -14,7 +14,7 @@ pub struct Entry {
 }
 
 // What reading at a place answers: an entry, the end where no octet is left, or 8 where what is left is no entry.
-#[derive(Drop)]
+#[derive(Clone, Copy)]
 pub enum EntryReading {
     Entry(Entry),
     End,

@@ -1,14 +1,14 @@
 // A collector's state, passed and returned by value.
 
 // The last DSN that was processed in sequence, if one was since START.
-#[derive(Drop)]
+#[derive(Clone, Copy)]
 pub enum Last {
     Nothing,
     Dsn(u32),
 }
 
 // A collector. The journal's octets and the table's are not in it: the caller lends them to every call.
-#[derive(Drop)]
+#[derive(Clone, Copy)]
 pub struct Collector {
     // the session that every message names
     pub session: u8,
@@ -25,7 +25,7 @@ pub struct Collector {
 }
 
 // What a call answers: 0 or the number of the refusal, how many octets it wrote, and the state that it leaves.
-#[derive(Drop)]
+#[derive(Clone, Copy)]
 pub struct Collected {
     pub answer: u8,
     pub written: usize,

@@ -48,7 +48,7 @@ const SHORT_FORM_OCTETS: u16 = (PRIORITIES_AT + SHORT_FORM_PRIORITIES) as u16;
 const LONG_FORM_OCTETS: u16 = (PRIORITIES_AT + SERVER_ENTRIES) as u16;
 
 // The kind of an event; the constants name the numbers.
-#[derive(Drop)]
+#[derive(Clone, Copy)]
 pub struct Kind {
     pub number: u8,
 }

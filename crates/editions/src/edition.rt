@@ -10,21 +10,21 @@ use headers::header::HeaderReading;
 use messages::message::Written;
 
 // The editions.
-#[derive(Drop)]
+#[derive(Clone, Copy)]
 pub enum Edition {
     Crane,
     Ipdr,
 }
 
 // What a message of either edition says.
-#[derive(Drop)]
+#[derive(Clone, Copy)]
 pub enum Message {
     Crane(messages::message::Message),
     Ipdr(ipdr::message::Message),
 }
 
 // What reading a message answers.
-#[derive(Drop)]
+#[derive(Clone, Copy)]
 pub enum Reading {
     Message(Message),
     Refused(u8),

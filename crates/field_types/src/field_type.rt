@@ -5,7 +5,7 @@ ghost use Rattle.field_types.specs.FieldTypes.{type_numbers, width_of, is_type, 
 use octets::OctetOrder;
 
 // A field type, by its number.
-#[derive(Drop)]
+#[derive(Clone, Copy)]
 pub struct FieldType {
     pub number: u16,
 }

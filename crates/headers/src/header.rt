@@ -10,14 +10,14 @@ use octets::Answer;
 pub const HEADER_OCTETS: usize = 8;
 
 // What a message's header says.
-#[derive(Drop)]
+#[derive(Clone, Copy)]
 pub struct Header {
     pub session: u8,
     pub number: u8,
 }
 
 // What reading a header answers.
-#[derive(Drop)]
+#[derive(Clone, Copy)]
 pub enum HeaderReading {
     Header(Header),
     Refused(u8),

@@ -38,7 +38,7 @@ pub const S_FLAG: u8 = 1;
 pub const D_FLAG: u8 = 2;
 
 // What a DATA message says in front of its record; `first` is its S flag, `duplicate` its D flag.
-#[derive(Drop)]
+#[derive(Clone, Copy)]
 pub struct DataHead {
     pub session: u8,
     pub template: u16,
@@ -50,7 +50,7 @@ pub struct DataHead {
 
 // What a message says. A TMPL DATA's table and a DATA's record are not in it: reading hands them back as a part of the message, writing
 // takes them beside it.
-#[derive(Drop)]
+#[derive(Clone, Copy)]
 pub enum Message {
     Start { session: u8 },
     StartAck { session: u8, boot_time: u32 },
@@ -98,14 +98,14 @@ impl Message {
 }
 
 // What reading a message answers.
-#[derive(Drop)]
+#[derive(Clone, Copy)]
 pub enum Reading {
     Message(Message),
     Refused(u8),
 }
 
 // What writing answers: how many octets the message has, or the refusal.
-#[derive(Drop)]
+#[derive(Clone, Copy)]
 pub enum Written {
     Octets(usize),
     Refused(u8),

@@ -16,7 +16,7 @@ pub use number_writing::{copy, copy_blocks, put_u8, put_u16, put_u32, put_u64, p
 pub use numbers::OctetOrder;
 
 // A name for the constants below, the answer numbers of every call; answers themselves are `u8`.
-#[derive(Drop)]
+#[derive(Clone, Copy)]
 pub struct Answer {
     pub number: u8,
 }

@@ -11,7 +11,7 @@ use session::state::{Delivery, Queue, Settings, State, Stepped};
 use wire::message::MAX_RECORD_OCTETS;
 
 // A put's answer, the place of its entries and what stands there, and what it leaves of the count and the next DSN.
-#[derive(Drop)]
+#[derive(Clone, Copy)]
 pub struct Putting {
     // 0, or the number of the refusal
     pub answer: u8,

@@ -13,14 +13,14 @@ use tables::table::MAX_KEYS;
 const MAX_FIELDS: usize = MAX_KEYS as usize;
 
 // The record, and where the walk over it stands: at a cursor, or refused when it was opened.
-#[derive(Drop)]
+#[derive(Clone, Copy)]
 pub struct Reader<'a> {
     pub record: &'a [u8],
     pub place: Opened,
 }
 
 // What counting the fields of a record answers.
-#[derive(Drop)]
+#[derive(Clone, Copy)]
 pub enum Counted {
     Fields(usize),
     Refused(u8),

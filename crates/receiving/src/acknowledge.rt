@@ -14,7 +14,7 @@ use session::limits::MAX_HELD;
 use session::state::{Active, Delivery, Settings, State, Wrote};
 
 // A DATA ACK's answer, how many records it releases, and what it leaves of the ring's start and of the delivery's counters.
-#[derive(Drop)]
+#[derive(Clone, Copy)]
 pub struct AckChange {
     // 0, or the number of the refusal
     pub answer: u8,

@@ -11,7 +11,7 @@ use wire::header::HeaderReading;
 use wire::message::{Message, Reading};
 
 // A DATA ACK with its DSN and Configuration ID, or a transition.
-#[derive(Drop)]
+#[derive(Clone, Copy)]
 pub enum Request {
     Ack(u32, u8),
     Move(Move),

@@ -60,7 +60,7 @@ fn string_length(order: OctetOrder, r: &[u8], at: usize) -> usize
 
 // The place of the first zero from a place on; the record's length or more where there is none.
 fn first_zero(r: &[u8], at: usize) -> usize
-    ensures* { λ p. ⌜ p ≡ first_from at (length r.now - at) (λ p. eqb (get_or r.now p 0) 0) ⌝ }
+    ensures { result ≡ first_from at (length r.now - at) (λ p. eqb (get_or r.now p 0) 0) }
 {
     let mut p = at;
     while p < r.len() {

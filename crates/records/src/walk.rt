@@ -11,7 +11,7 @@ use octets::{Answer, OctetOrder};
 use tables::table::{Found, Template};
 
 // The value of a field: octets where it is no number, a number, or a number below 0 by its size.
-#[derive(Drop)]
+#[derive(Clone, Copy)]
 pub enum Value {
     Octets,
     Number(u64),
@@ -19,7 +19,7 @@ pub enum Value {
 }
 
 // A field of a record: the number of its type, the place of its first octet, how many octets it has with its length or zero, its value.
-#[derive(Drop)]
+#[derive(Clone, Copy)]
 pub struct Field {
     pub kind: u16,
     pub at: usize,
@@ -28,21 +28,21 @@ pub struct Field {
 }
 
 // Where a walk stands: the next key of the template, and the place in the record where the next field begins.
-#[derive(Drop)]
+#[derive(Clone, Copy)]
 pub struct Cursor {
     pub index: usize,
     pub at: usize,
 }
 
 // What opening a walk answers.
-#[derive(Drop)]
+#[derive(Clone, Copy)]
 pub enum Opened {
     At(Cursor),
     Refused(u8),
 }
 
 // What a step answers.
-#[derive(Drop)]
+#[derive(Clone, Copy)]
 pub enum Step {
     Next(Field, Cursor),
     End,

@@ -13,7 +13,7 @@ use session::state::{Batch, Delivery, Queue, Settings, State};
 use wire::message::Written;
 
 // A batch's answer, how many messages and octets it wrote, and what it leaves of the delivery's counters.
-#[derive(Drop)]
+#[derive(Clone, Copy)]
 pub struct Batching {
     // 0 where the given number was reached, or the number of the refusal that stopped the batch
     pub answer: u8,

@@ -17,7 +17,7 @@ use wire::message::{DataHead, Written};
 
 // A sending's answer, how many octets it wrote, the place of its record with the set of servers that this was sent to, and what it leaves
 // of the delivery's counters.
-#[derive(Drop)]
+#[derive(Clone, Copy)]
 pub struct Sending {
     // 0, or the number of the refusal
     pub answer: u8,

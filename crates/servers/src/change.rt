@@ -6,7 +6,7 @@ use octets::Answer;
 use session::state::{Delivery, Settings, State};
 
 // A call's answer, how many octets it wrote, and the delivery and whether S is due, as it leaves them.
-#[derive(Drop)]
+#[derive(Clone, Copy)]
 pub struct Change {
     // 0, or the number of the refusal
     pub answer: u8,

@@ -2,7 +2,7 @@
 use crate::limits;
 
 // A server's phase: closed at first; late after it was too slow.
-#[derive(Drop)]
+#[derive(Clone, Copy)]
 pub enum Phase {
     Closed,
     Started,
@@ -12,21 +12,21 @@ pub enum Phase {
 }
 
 // A server, by its phase.
-#[derive(Drop)]
+#[derive(Clone, Copy)]
 pub struct Server {
     // its server state, as 01 calls it
     pub phase: Phase,
 }
 
 // The active server, if there is one.
-#[derive(Drop)]
+#[derive(Clone, Copy)]
 pub enum Active {
     Nobody,
     Server(u8),
 }
 
 // What an exporter is set up with.
-#[derive(Drop)]
+#[derive(Clone, Copy)]
 pub struct Settings {
     // the session that every message names
     pub session: u8,
@@ -47,7 +47,7 @@ pub struct Settings {
 }
 
 // The servers, and how far the active one was sent the queue.
-#[derive(Drop)]
+#[derive(Clone, Copy)]
 pub struct Delivery {
     // each server's phase; entries from the server count on count in no choice and no answer
     pub servers: [Server; limits::SERVER_ENTRIES],
@@ -62,7 +62,7 @@ pub struct Delivery {
 }
 
 // The records held: entry i is the record at place i of the queue, and entries from `count` on are unused.
-#[derive(Drop)]
+#[derive(Clone, Copy)]
 pub struct Queue {
     // how many records are held, at most 64
     pub count: usize,
@@ -75,7 +75,7 @@ pub struct Queue {
 }
 
 // An exporter. The octets of the held records lie in the lent store, one after the other from `start` on, modulo its length.
-#[derive(Drop)]
+#[derive(Clone, Copy)]
 pub struct State {
     // what it was set up with
     pub settings: Settings,
@@ -94,7 +94,7 @@ pub struct State {
 }
 
 // What set-up answers.
-#[derive(Drop)]
+#[derive(Clone, Copy)]
 pub struct Made {
     // the fresh exporter; after a refusal one that every call refuses
     pub state: State,
@@ -103,7 +103,7 @@ pub struct Made {
 }
 
 // What a call answers that writes no message.
-#[derive(Drop)]
+#[derive(Clone, Copy)]
 pub struct Stepped {
     // the next state; after a refusal the one that came
     pub state: State,
@@ -112,7 +112,7 @@ pub struct Stepped {
 }
 
 // What a call answers that may write a message: how many octets it wrote.
-#[derive(Drop)]
+#[derive(Clone, Copy)]
 pub struct Wrote {
     // the next state; after a refusal the one that came
     pub state: State,
@@ -123,7 +123,7 @@ pub struct Wrote {
 }
 
 // What sending a batch answers: how many messages it wrote, and how many octets these have together.
-#[derive(Drop)]
+#[derive(Clone, Copy)]
 pub struct Batch {
     // the next state: what the messages that were written leave
     pub state: State,

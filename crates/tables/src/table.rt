@@ -41,14 +41,14 @@ pub const KEY_TYPE_AT: usize = 4;
 pub const KEY_ATTRIBUTES_AT: usize = 8;
 
 // The key blocks of a template in a table: where the first begins, and how many there are.
-#[derive(Drop)]
+#[derive(Clone, Copy)]
 pub struct Template {
     pub keys: usize,
     pub count: usize,
 }
 
 // What finding a template answers.
-#[derive(Drop)]
+#[derive(Clone, Copy)]
 pub enum Found {
     At(Template),
     Refused(u8),

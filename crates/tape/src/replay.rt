@@ -14,7 +14,7 @@ pub const OUTPUT_OCTETS: usize = 16392;
 pub const LINE_OCTETS: usize = lines::FRAME_OCTETS + 2 * OUTPUT_OCTETS;
 
 // How far a replay is, between two events.
-#[derive(Drop)]
+#[derive(Clone, Copy)]
 pub struct Progress {
     pub state: State,
     // how many events are left
@@ -24,7 +24,7 @@ pub struct Progress {
 }
 
 // What a turn answers: how many octets its line has, and the progress after it.
-#[derive(Drop)]
+#[derive(Clone, Copy)]
 pub struct Turn {
     pub len: usize,
     pub progress: Progress,

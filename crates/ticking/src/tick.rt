@@ -9,7 +9,7 @@ use session::limits::SERVER_ENTRIES;
 use session::state::{Active, Delivery, Phase, Server, Settings, State, Stepped};
 
 // The timer after a tick, and whether it has run out.
-#[derive(Drop)]
+#[derive(Clone, Copy)]
 pub struct Clock {
     // its ticks, 0 where it has run out
     pub timer: u16,

@@ -17,7 +17,7 @@ use wire::message::{Message, Written};
 
 // What can move a server: START, STOP, START NEGOTIATE, an offer of templates, a line that is down, and FINAL TMPL DATA ACK with its
 // Configuration ID. A message that its form refuses, with the number of that refusal, moves nothing.
-#[derive(Drop)]
+#[derive(Clone, Copy)]
 pub enum Move {
     Start,
     Stop,
@@ -29,7 +29,7 @@ pub enum Move {
 }
 
 // What a transition writes: a message, with the lent table for TMPL DATA, or nothing.
-#[derive(Drop)]
+#[derive(Clone, Copy)]
 pub enum Reply {
     Message(Message),
     Nothing,
