@@ -60,7 +60,7 @@ module _ (n s : ℕ) (body : List ℕ) where
 
   version_of_lem : uint_at (message_of n s body) 0 1 ≡ 1
   unfolding message_of
-  version_of_lem = shared.version_of protocol_version n s body
+  version_of_lem = shared.version_of_lem protocol_version n s body
 
   -- a message with a known number, a body that fits it and, if it is a table, a sound one, is not refused
   answered : 8 + length body < 2 ^ 32 → is_message n ≡ true → body_fits n (length body) ≡ true → (n ≡ tmpl_data → table_sound body ≡ true)
