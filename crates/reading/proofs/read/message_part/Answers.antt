@@ -16,7 +16,7 @@ returns-then-header_answer-ne-DONE c =
     let a = c.args.message in
     let h = c.header_answer.ensures in
     let p = part_of_refused a.now (λ e. c.if-header_answer-ne-DONE.true (h ∙ sym (header_refused _ (λ f. c.if-header_answer-ne-DONE.true (h ∙ f))) ∙ e)) in
-    (sym p.1, (refl, sym (zero-add _) ∙ ap (λ (k : ℕ). k + a.ptr.1) (sym p.0)))
+    (sym p.1, (refl, sym (zero-add _) ∙ ap (λ (k : ℕ). k + a.ref_ptr.1) (sym p.0)))
 
 pub bounds-message-1 : goal.bounds-message-1
 bounds-message-1 c =
@@ -29,7 +29,7 @@ returns-then-message-lt-DATA_HEAD_OCTETS c =
     let h = sym c.header_answer.ensures ∙ c.if-header_answer-ne-DONE.false in
     let p =
     part_of_refused a.now (short_refused a.now h (uint_one a.now 1 ∙ c.if-number-eq-DATA.true) c.if-message-lt-DATA_HEAD_OCTETS.true) in
-    (sym p.1, (refl, sym (zero-add _) ∙ ap (λ (k : ℕ). k + a.ptr.1) (sym p.0)))
+    (sym p.1, (refl, sym (zero-add _) ∙ ap (λ (k : ℕ). k + a.ref_ptr.1) (sym p.0)))
 
 pub returns-then-number-eq-DATA : goal.returns-then-number-eq-DATA
 returns-then-number-eq-DATA c =
@@ -44,7 +44,7 @@ returns-then-number-ne-TMPL_DATA c =
     let a = c.args.message in
     let number = sym (uint_one a.now 1) in
     let p = part_of_other a.now (λ e. c.if-number-eq-DATA.false (number ∙ e)) (λ e. c.if-number-ne-TMPL_DATA.true (number ∙ e)) in
-    (sym p.1, (refl, sym (zero-add _) ∙ ap (λ (k : ℕ). k + a.ptr.1) (sym p.0)))
+    (sym p.1, (refl, sym (zero-add _) ∙ ap (λ (k : ℕ). k + a.ref_ptr.1) (sym p.0)))
 
 pub slice_bounds-table_sound-count : goal.slice_bounds-table_sound-count
 slice_bounds-table_sound-count c =
@@ -90,4 +90,4 @@ returns c =
     let e = uint_one a.now 1 ∙ c.if-number-ne-TMPL_DATA.false in
     let t = sym (ap table_sound (take_rest a.now 8)) ∙ sym c.table_sound.ensures ∙ c.if-table_sound.false in
     let p = part_of_refused a.now (unsound_refused a.now h e t) in
-    (sym p.1, (refl, sym (zero-add _) ∙ ap (λ (k : ℕ). k + a.ptr.1) (sym p.0)))
+    (sym p.1, (refl, sym (zero-add _) ∙ ap (λ (k : ℕ). k + a.ref_ptr.1) (sym p.0)))

@@ -113,4 +113,4 @@ pub returns-in_default : goal.returns-in_default
 returns-in_default c =
     let s = c in
     let m = s.args.message.now in
-    sym (read_unknown m s.requires (rw (uint_one m 1) (no_message _ ((c.in_default.rest.0, c.if-number-eq-DATA.false), c.in_default.rest.1))))
+    sym (read_unknown m s.requires (rw (uint_one m 1) (no_message _ ((c.in_default.in_default-own.rest.0, c.if-number-eq-DATA.false), c.in_default.in_default-own.rest.1))))

@@ -18,5 +18,5 @@ returns c =
     let header = header_octets_of start_ack a.session 12 in
     placed _ _ _ 12 refl room
     (c.put_u32.ensures
-    ∙ put_then a.out.now header (octets_of 4 a.boot-time) _ 8
+    ∙ put_then a.out.now header (octets_of 4 a.boot_time) _ 8
     c.put_header.ensures refl room)

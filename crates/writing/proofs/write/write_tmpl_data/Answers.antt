@@ -20,7 +20,7 @@ pub returns-then-out-len : goal.returns-then-out-len
 unfolding layout_of
 returns-then-out-len c =
     let a = c.args in
-    let sound = ap not (sym c.table_sound.ensures) ∙ c.if-not-table_sound.false in
+    let sound = ap not (sym c.table_sound.ensures ∙ c.if-not-table_sound.false) in
     allowed _ _ _ _ _ sound refl (placed_short _ _ (omega (arith, message_length tmpl_data a.session a.part.now)))
 
 pub overflow_cast-len : goal.overflow_cast-len
@@ -35,8 +35,7 @@ returns c =
     let part = a.part.now in
     let room = c.if-out-len.false in
     let sound =
-    ap not (sym c.table_sound.ensures)
-    ∙ c.if-not-table_sound.false in
+    ap not (sym c.table_sound.ensures ∙ c.if-not-table_sound.false) in
     let header = header_octets_of tmpl_data a.session (8 + length part) in
     allowed _ _ _ _ _ sound refl
     (placed _ _ _ (8 + length part) (message_length tmpl_data a.session part) room
