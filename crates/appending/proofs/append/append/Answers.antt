@@ -22,10 +22,9 @@ returns-then-octets_fit c =
 pub returns-then-number_fits : goal.returns-then-number_fits
 returns-then-number_fits c =
     let f = c in
-    let v = f.value-1 in
     let o = f in
     answered_with_lem (append_answer_lem _ _ _ _ _ _)
-    (append_stored _ _ _ (Number v.given.0.0) _ _ _ _ _ v.given.1
+    (append_stored _ _ _ (Number f.in-Number.n) _ _ _ _ _ f.in-Number.is
     (sym f.number_fits.ensures ∙ c.if-number_fits.true)
     (rw (o.field_order-field_order.ensures, o.width-width.ensures) at c.store_number.ensures))
 
@@ -44,8 +43,7 @@ overflow_add-greatest c =
 pub returns-then-negative_fits : goal.returns-then-negative_fits
 returns-then-negative_fits c =
     let r = c in
-    let v = r.value-in-Negative-1 in
-    let n = v.given.0.0 in
+    let n = r.in-Negative.n in
     let o = r in
     let w = o.width-width in
     let f = sym r.negative_fits.ensures ∙ r.if-negative_fits.true in
@@ -53,7 +51,7 @@ returns-then-negative_fits c =
     let e : r.greatest.result - n + 1 ≡ 256 ^ w.result - n =
     omega (arith, negative_range _ _ f, ap (λ (w : ℕ). 256 ^ w) w.ensures, g) in
     answered_with_lem (append_answer_lem _ _ _ _ _ _)
-    (append_stored _ _ _ (Negative n) _ _ _ _ _ v.given.1 f
+    (append_stored _ _ _ (Negative n) _ _ _ _ _ r.in-Negative.is f
     (rw (o.field_order-field_order.ensures, w.ensures) at (rw e at c.store_number-then-negative_fits.ensures)))
 
 pub returns-else-octets_fit : goal.returns-else-octets_fit
