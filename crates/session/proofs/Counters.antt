@@ -1,7 +1,7 @@
 -- The rules about sent and reached hold: an accepted call found the state sound, so its choice is the servers', and as no phase changes it
 -- stays; the rest is what the step's definitions say.
 use mathlib.Core.Path.{◌≡◌, refl, sym, ap, ◌∙◌}
-use mathlib.Core.Bool.{Bool, true, false, not, ◌&&◌, cond, and-true, and_false}
+use mathlib.Core.Bool.{Bool, true, false, not, ◌&&◌, cond, and-true, and-false}
 use mathlib.Core.List.{List, ◌∷◌}
 use Prim.Native.Nat.{ℕ, ◌-◌, ◌≤◌, ◌<◌}
 use native.Mathlib.Omega.{arith}
@@ -121,7 +121,7 @@ released enc s room v dsn config store e =
     })
   where
     due_no_more : (n : ℕ) → 0 < n → s.due && eqb n 0 ≡ false
-    due_no_more n l = rw (ne_eqb n 0 (λ z. omega (arith, l, z))) (and_false s.due)
+    due_no_more n l = rw (ne_eqb n 0 (λ z. omega (arith, l, z))) (and-false s.due)
 
     due_still : (n : ℕ) → n ≡ 0 → s.due && eqb n 0 ≡ s.due
     due_still n z = rw (eq-eqb n 0 z) (and-true s.due)

@@ -2,7 +2,7 @@
 -- of them, and a set gains the server that the ledger notes of the same writing. That the state stays sound is shown for itself
 -- (`SoundKept`).
 use mathlib.Core.Path.{◌≡◌, refl, sym, ap, ◌∙◌}
-use mathlib.Core.Bool.{Bool, true, false, ◌&&◌, ◌||◌, cond, false≢true, and-true, and_false}
+use mathlib.Core.Bool.{Bool, true, false, ◌&&◌, ◌||◌, cond, false≢true, and-true, and-false}
 use mathlib.Core.List.{List, [], ◌∷◌, ◌++◌}
 use Prim.Native.Nat.{ℕ, zero, suc, ◌+◌, ◌-◌, ◌%◌, ◌≤◌, ◌<◌, max}
 use native.Mathlib.Nat.{add-zero, mod-lt}
@@ -53,7 +53,7 @@ written_released (Server v) q l = refl
 -- with n more, as many are released as before exactly where as many were, and n is 0
 pub none_more : (released n before : ℕ) → before ≤ released → eqb released before && eqb n 0 ≡ eqb (released + n) before
 none_more r zero b h = and-true (eqb r b) ∙ ap (λ (x : ℕ). eqb x b) (sym (add-zero r))
-none_more r (suc n) b h = rw (ne_eqb (suc n) 0 (omega arith), ne_eqb (r + suc n) b (omega arith)) (and_false (eqb r b))
+none_more r (suc n) b h = rw (ne_eqb (suc n) 0 (omega arith), ne_eqb (r + suc n) b (omega arith)) (and-false (eqb r b))
 
 -- what was written to a server in an activation was written in it
 in_during : (ws : List Writing) (q v k : ℕ) → written_in ws q v k ≡ true → written_during ws k ≡ true
