@@ -7,4 +7,4 @@ use Rattle.session.specs.Servers.{server}
 use Rattle.servers.proofs.phase_at.Goals as goal
 
 pub returns : goal.returns
-returns c = let a = c.args in rw (get_or-eq_default a.t1 (server Closed) {n = a.v} (omega arith))
+returns c = let a = c.args in rw (get_or-eq_default a.servers (server Closed) {n = a.v} (omega arith))

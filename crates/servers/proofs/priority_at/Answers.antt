@@ -6,4 +6,4 @@ use lib.ListN.{get_or-eq_default}
 use Rattle.servers.proofs.priority_at.Goals as goal
 
 pub returns-else-v-lt-MAX_SERVERS : goal.returns-else-v-lt-MAX_SERVERS
-returns-else-v-lt-MAX_SERVERS c = let a = c.args in sym (get_or-eq_default a.t1 0 {n = a.v} (omega arith))
+returns-else-v-lt-MAX_SERVERS c = let a = c.args in sym (get_or-eq_default a.priorities 0 {n = a.v} (omega arith))

@@ -14,7 +14,7 @@ loop-i-init c = (omega arith, refl)
 
 pub loop-i-preserved : goal.loop-i-preserved
 loop-i-preserved c =
-    let xs = c.args.t1 in
+    let xs = c.args.servers in
     let l : length xs ≡ max_servers = search rules in (
       omega arith,
       rw (c.loop-i.invariant.1, c.restart_server.ensures)
@@ -23,6 +23,6 @@ loop-i-preserved c =
 
 pub returns : goal.returns
 returns c =
-    let xs = c.args.t1 in
+    let xs = c.args.servers in
     let l : length xs ≡ max_servers = search rules in
     c.loop-i.invariant.1 ∙ map_all restart xs c.loop-i.i (omega arith)
