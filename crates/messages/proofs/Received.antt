@@ -1,7 +1,7 @@
 -- Laws of the form of a received message, for any session and any accepted numbers: it is judged in the order in which a side reads, the
 -- header, the session, the number, then the body; so a refusal on the way is the form's answer.
 use mathlib.Core.Path.{◌≡◌, refl, sym, ap, subst, ◌∙◌}
-use mathlib.Core.Bool.{Bool, true, false, cond, not, ◌||◌}
+use mathlib.Core.Bool.{Bool, true, false, cond, ◌||◌}
 use mathlib.Core.List.{List, ◌++◌}
 use Prim.Native.Nat.{ℕ, ◌-◌, ◌≤◌}
 use native.Mathlib.Omega.{arith}

@@ -1,7 +1,7 @@
 -- `negative_fits` meets its contract: half of 256 to the w is half of the greatest number of w octets plus 1.
 use mathlib.Core.Path.{◌≡◌, sym, ap, ◌∙◌}
 use mathlib.Core.Bool.{Bool, true, ◌&&◌}
-use Prim.Native.Nat.{◌-◌, ◌≤◌}
+use Prim.Native.Nat.{◌≤◌}
 use native.Mathlib.Omega.{arith}
 use lib.Dec.{leb}
 use Rattle.field_types.specs.FieldTypes.{is_signed}

@@ -2,7 +2,6 @@
 -- number of w octets, or half of it, is to be below 256 to the w, or half of it.
 use mathlib.Core.Path.{◌≡◌, sym, ◌∙◌}
 use mathlib.Core.Bool.{true, false}
-use Prim.Native.Nat.{◌-◌}
 use native.Mathlib.Omega.{arith}
 use borrow.Author.Tests.{eq-eqb, ne_eqb}
 use Rattle.field_types.specs.FieldTypes.{is_number, is_signed, boolean_type}

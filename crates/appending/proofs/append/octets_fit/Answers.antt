@@ -1,6 +1,5 @@
 -- `octets_fit` meets its contract: the three types whose width varies are tested in the definition's order, and any other type must be an
 -- address of as many octets.
-use Prim.Native.Nat.{◌-◌}
 use native.Mathlib.Nat.{zero-add}
 use borrow.Author.Tests.{eq-eqb, ne_eqb}
 use Rattle.field_types.specs.FieldTypes.{string_type, terminated_type, blob_type}

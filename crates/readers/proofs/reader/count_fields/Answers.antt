@@ -1,5 +1,4 @@
 use mathlib.Core.Path.{sym, ◌∙◌}
-use Prim.Native.Nat.{◌-◌}
 use borrow.Author.Rules.{rules}
 use Rattle.octets.proofs.Judging.{answered}
 use Rattle.readers.proofs.Counts.{count_opened, count_refused, count_number, count_next, count_end, count_full, count_goes}

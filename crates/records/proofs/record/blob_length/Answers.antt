@@ -1,7 +1,6 @@
 -- `blob_length` meets its contract: fewer than 4 octets left, or fewer than the length says, give 0; otherwise the length was read within
 -- the record.
 use mathlib.Core.Path.{◌≡◌}
-use Prim.Native.Nat.{◌-◌}
 use borrow.Author.Tests.{le-ltb, lt-ltb}
 use Rattle.octets.specs.Numbers.{uint_in}
 use Rattle.records.specs.Record.{blob_length}

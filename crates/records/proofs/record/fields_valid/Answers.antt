@@ -1,7 +1,5 @@
 use mathlib.Core.Path.{◌≡◌, refl, sym, ap, ◌∙◌}
 use native.Mathlib.Omega.{arith}
-use Prim.Native.Nat.{◌-◌}
-use mathlib.Core.Bool.{true}
 use Rattle.octets.specs.Each.{every}
 use Rattle.octets.proofs.Each.{every_false, every_step}
 use Rattle.tables.specs.Table.{key_at, is_enabled}

@@ -1,7 +1,7 @@
 -- `string_length` meets its contract: a string is a blob whose octets pass the test.
 use mathlib.Core.Path.{sym, ◌∙◌}
 use native.Mathlib.Omega.{arith}
-use Prim.Native.Nat.{◌-◌, ◌<◌}
+use Prim.Native.Nat.{◌<◌}
 use Rattle.octets.specs.Each.{every}
 use Rattle.records.specs.Record.{blob_length, string_length}
 use Rattle.records.proofs.FieldsWithin.{blob_within, blob_counts}

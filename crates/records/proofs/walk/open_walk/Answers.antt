@@ -1,5 +1,4 @@
 -- `open_walk` meets its contract: the whole record is judged first.
-use Prim.Native.Nat.{◌-◌}
 use borrow.Author.Tests.{eq-eqb, ne_eqb}
 use Rattle.octets.proofs.Judging.{answered}
 use Rattle.records.specs.Walk.{open_of}

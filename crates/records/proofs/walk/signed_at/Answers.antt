@@ -1,6 +1,6 @@
 -- `signed_at` meets its contract: `n <= most / 2` says that twice n is below 256 to the w, and 256 to the w minus n is `most - n + 1`.
 use mathlib.Core.Path.{◌≡◌, ap, ◌∙◌}
-use Prim.Native.Nat.{◌-◌, ◌*◌, ◌^◌}
+use Prim.Native.Nat.{◌*◌, ◌^◌}
 use native.Mathlib.Omega.{arith}
 use borrow.Author.Tests.{le-ltb, lt-ltb}
 use Rattle.octets.specs.Numbers.{uint_in}

@@ -1,7 +1,6 @@
 -- `step_under` meets its contract: no enabled key left is the end, a length of 0 is 16, and otherwise the field and the cursor after it are
 -- built from the same three numbers.
 use native.Mathlib.Omega.{arith}
-use Prim.Native.Nat.{◌-◌}
 use borrow.Author.Tests.{eq-eqb, ne_eqb, le-leb, lt-leb}
 use Rattle.octets.proofs.Numbers.{uint_one}
 use Rattle.records.specs.Walk.{step_under}

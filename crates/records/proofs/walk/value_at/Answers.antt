@@ -2,7 +2,7 @@
 -- octets, so `get_uint` reads it whole.
 use mathlib.Core.Path.{◌≡◌, sym, ◌∙◌}
 use mathlib.Core.Bool.{true, false}
-use Prim.Native.Nat.{◌-◌, ◌≤◌}
+use Prim.Native.Nat.{◌≤◌}
 use native.Mathlib.Omega.{arith}
 use Rattle.field_types.specs.FieldTypes.{is_number, is_signed}
 use Rattle.records.specs.Walk.{value_at}

@@ -2,7 +2,6 @@
 -- decides. A sound head says that the key blocks lie within the table.
 use mathlib.Core.Path.{sym, ◌∙◌}
 use native.Mathlib.Omega.{arith}
-use Prim.Native.Nat.{◌-◌}
 use Rattle.tables.specs.Table.{block_end, template_at, block_sound}
 use Rattle.octets.proofs.Each.{clause_last}
 use Rattle.tables.proofs.Tables.{head_facts}

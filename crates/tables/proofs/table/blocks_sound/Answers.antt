@@ -1,7 +1,6 @@
 use mathlib.Core.Path.{◌≡◌, refl, sym, ap, ◌∙◌}
 use native.Mathlib.Omega.{arith}
-use Prim.Native.Nat.{ℕ, ◌-◌}
-use mathlib.Core.Bool.{true}
+use Prim.Native.Nat.{ℕ}
 use Rattle.octets.specs.Numbers.{uint_at}
 use Rattle.octets.specs.Each.{every, absent}
 use Rattle.octets.proofs.Each.{clause_last, cond_same, every_false, every_step}

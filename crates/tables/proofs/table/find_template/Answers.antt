@@ -1,6 +1,5 @@
 -- `find_template` meets its contract: the table is judged first, then the template is located.
 use mathlib.Core.Path.{sym, ◌∙◌}
-use Prim.Native.Nat.{◌-◌}
 use Rattle.tables.specs.Table.{find_of}
 use Rattle.octets.proofs.Judging.{answered}
 use Rattle.tables.proofs.Tables.{find_located, found_number}

@@ -1,11 +1,9 @@
 use mathlib.Core.Path.{◌≡◌, refl, sym, ap, ◌∙◌}
 use native.Mathlib.Omega.{arith}
-use Prim.Native.Nat.{◌-◌}
-use mathlib.Core.Bool.{true, not}
+use mathlib.Core.Bool.{not}
 use borrow.Author.Tests.{eq-eqb, ne_eqb}
 use Rattle.octets.specs.Each.{every}
 use Rattle.octets.proofs.Each.{every_false, every_step}
-use Rattle.tables.specs.Table.{key_id}
 use borrow.Author.Rules.{rules}
 use Rattle.tables.proofs.table.key_is_new.Goals as goal
 

@@ -2,7 +2,7 @@
 use mathlib.Core.List.{[], ◌∷◌}
 use mathlib.Core.Path.{refl, ◌∙◌}
 use native.Mathlib.Omega.{arith}
-use Prim.Native.Nat.{◌+◌, ◌-◌}
+use Prim.Native.Nat.{◌+◌}
 use Rattle.octets.proofs.Numbers.{uint_read}
 use Rattle.tables.specs.Table.{key_sound}
 use Rattle.tables.proofs.table.key_sound.Goals as goal

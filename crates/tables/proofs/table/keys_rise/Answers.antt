@@ -1,6 +1,4 @@
 use native.Mathlib.Omega.{arith}
-use Prim.Native.Nat.{◌-◌}
-use mathlib.Core.Bool.{true, false}
 use Rattle.octets.proofs.Each.{every_fewer}
 use Rattle.tables.proofs.Tables.{rise_start, rise_step}
 use mathlib.Core.Bool.{false≢true}

@@ -1,5 +1,4 @@
 -- `padding_sound` meets its contract: the octets between the description's end and its padded end are those that the definition tests.
-use Prim.Native.Nat.{◌-◌}
 use Rattle.tables.specs.Table.{padding_sound}
 use Rattle.tables.proofs.table.padding_sound.Goals as goal
 

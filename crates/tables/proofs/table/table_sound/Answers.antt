@@ -2,7 +2,7 @@
 -- `blocks_sound` gives the last three clauses at once.
 use mathlib.Core.Path.{sym, ◌∙◌}
 use native.Mathlib.Omega.{arith}
-use Prim.Native.Nat.{◌-◌, ◌≤◌, ◌<◌}
+use Prim.Native.Nat.{◌≤◌, ◌<◌}
 use borrow.Author.Tests.{le-leb, lt-leb}
 use Rattle.tables.specs.Table.{max_table_octets, template_count, table_sound}
 use Rattle.tables.proofs.table.table_sound.Goals as goal
