@@ -1,0 +1,16 @@
+use Rattle.std.proofs.Common.{◌≡◌, ◌-◌, length, ◌∙◌, arith, rules}
+use Rattle.session.proofs.Arrays.{moved_more, moved_all}
+use Rattle.receiving.proofs.release.shift.Goals as goal
+
+pub loop-i-preserved : goal.loop-i-preserved
+loop-i-preserved c =
+    let xs = c.args.entries.now in
+    let l : length xs ≡ 64 = search rules in
+    (omega arith, moved_more xs _ 64 _ _ l (omega arith) c.loop-i.invariant.1)
+
+pub returns : goal.returns
+returns c =
+    let a = c.args in
+    let l : length a.entries.now ≡ 64 = search rules in
+    let e : c.loop-i.i ≡ 64 - a.n = omega arith in
+    rw e at c.loop-i.invariant.1 ∙ moved_all a.entries.now 64 a.n l c.requires
