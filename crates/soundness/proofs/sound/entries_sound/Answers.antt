@@ -1,7 +1,7 @@
 use mathlib.Core.Path.{◌≡◌, refl, ap}
 use mathlib.Core.Bool.{Bool, ◌&&◌}
 use native.Mathlib.Omega.{arith}
-use Prim.Native.Nat.{ℕ, ◌-◌}
+use Prim.Native.Nat.{ℕ}
 use Rattle.octets.specs.Each.{every}
 use Rattle.session.specs.Sound.{entry_sound}
 use Rattle.octets.proofs.Each.{every_more}
