@@ -12,7 +12,7 @@ use Rattle.octets.specs.Answers.{◌when◌, judge, done, unsound_tape}
 use Rattle.octets.specs.Numbers.{Octets}
 use Rattle.octets.specs.Each.{every}
 use Rattle.octets.proofs.Stores.{take_rest}
-use Rattle.contents.specs.Tape.{event_count, body_length, body_at, octets_at, body_of, event_sound, max_tape_octets, min_events, max_events}
+use Rattle.contents.specs.Tape.{event_count, body_at, octets_at, event_sound, max_tape_octets, min_events, max_events}
 use Rattle.contents.specs.Tape.{tape_sound, tape_answer}
 
 -- from a place past the end on nothing is left

@@ -1,5 +1,4 @@
 use mathlib.Core.Path.{◌≡◌, sym}
-use Prim.Native.Nat.{◌-◌}
 use native.Mathlib.Omega.{arith}
 use Rattle.octets.specs.Each.{every}
 use Rattle.octets.proofs.Each.{every_more}

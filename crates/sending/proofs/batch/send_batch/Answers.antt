@@ -1,6 +1,5 @@
 -- `send_batch` meets its contract. What a batch changes was computed of the parts of the state, and is stored into the state once.
 use Rattle.sending.proofs.Batches.{batch_applied}
-use Rattle.std.proofs.Common.{rules}
 use Rattle.sending.proofs.batch.send_batch.Goals as goal
 
 pub returns : goal.returns

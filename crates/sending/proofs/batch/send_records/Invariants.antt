@@ -1,7 +1,7 @@
 -- `send_records` meets its contract. The loop's invariant: the batch is under way, so that what is left of it behind the messages written is
 -- the whole. A turn writes the single call's message to the octets left, or finds that it does not fit; then, or where no message or no
 -- record is left, the batch ends as the definition does.
-use Rattle.std.proofs.Common.{◌≡◌, ◌-◌}
+use Rattle.std.proofs.Common.{◌≡◌}
 use Rattle.soundness.specs.Parts.{state_of}
 use Rattle.sending.proofs.Batches.{Turned}
 use Rattle.sending.proofs.batch.send_records.Given as goal
