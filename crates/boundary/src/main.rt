@@ -3,7 +3,7 @@
 
 use exporter::limits::SERVER_ENTRIES;
 use exporter::state::{Batch, Settings, State};
-use libc::STDOUT_FILENO;
+use std::io;
 
 // A table with one template, ID 3, of one enabled key: a number of 16 bits.
 const NUMBER_TABLE: [u8; 28] =
@@ -40,14 +40,13 @@ fn settings() -> Settings {
 }
 
 // Prints what was asked and its answer.
-fn print(label: &[u8], answer: u8) {
-    io::write_all(STDOUT_FILENO, label);
-    io::print_decimal(STDOUT_FILENO, answer as u64);
-    io::write_all(STDOUT_FILENO, b"\n");
+fn print(rt: &impl Print, label: &[u8], answer: u8) -> io::Result<()> {
+    rt.write_all(label)?;
+    rt.println(answer)
 }
 
 // Puts a blob record of 1,024 octets, then the same with one octet more, into an empty store of 1,024.
-fn longest_record() {
+fn longest_record(rt: &impl Print) -> io::Result<()> {
     let mut store = [0u8; 1024];
     let table = BLOB_TABLE;
     let mut record = [0u8; 1025];
@@ -56,96 +55,94 @@ fn longest_record() {
     let made = exporter::set_up::set_up(settings(), &store);
     let fresh = made.state;
     let fits = exporter::put::put(fresh, &mut store, &table, 4, &record[..1024]);
-    print(b"1,024 octets, empty store of 1,024: ", fits.answer);
+    print(rt, b"1,024 octets, empty store of 1,024: ", fits.answer)?;
     let full = fits.state;
     let again = exporter::put::put(full, &mut store, &table, 4, &record[..1024]);
-    print(b"1,024 octets, full store: ", again.answer);
+    print(rt, b"1,024 octets, full store: ", again.answer)?;
     record[3] = 253;
     let longer = exporter::put::put(fresh, &mut store, &table, 4, &record);
-    print(b"1,025 octets, empty store: ", longer.answer);
+    print(rt, b"1,025 octets, empty store: ", longer.answer)
 }
 
 // Puts a record of two octets n times, and prints each answer.
-fn put_many(s: State, store: &mut [u8], n: u8) -> State {
+fn put_many(rt: &impl Print, s: State, store: &mut [u8], n: u8) -> io::Result<State> {
     let table = NUMBER_TABLE;
     let record = [0u8, 5];
     let mut state = s;
     let mut left = n;
     while 0 < left {
         let put = exporter::put::put(state, store, &table, 3, &record);
-        print(b"put: ", put.answer);
+        print(rt, b"put: ", put.answer)?;
         state = put.state;
         left -= 1;
     }
-    state
+    Ok(state)
 }
 
 // Server 0 starts, is offered the table, agrees, is sent one record and acknowledges it.
-fn release_one(s: State, store: &[u8]) -> State {
+fn release_one(rt: &impl Print, s: State, store: &[u8]) -> io::Result<State> {
     let mut out = [0u8; 64];
     let table = NUMBER_TABLE;
     let start = START;
     let agreement = FINAL_TMPL_DATA_ACK;
     let ack = ACK_OF_FIRST;
     let started = exporter::receive::receive(s, 0, &start, &mut out);
-    print(b"START: ", started.answer);
+    print(rt, b"START: ", started.answer)?;
     let began = started.state;
     let offered = exporter::offer_templates::offer_templates(began, 0, &table, &mut out);
-    print(b"offer templates: ", offered.answer);
+    print(rt, b"offer templates: ", offered.answer)?;
     let offering = offered.state;
     let agreed = exporter::receive::receive(offering, 0, &agreement, &mut out);
-    print(b"FINAL TMPL DATA ACK: ", agreed.answer);
+    print(rt, b"FINAL TMPL DATA ACK: ", agreed.answer)?;
     let active = agreed.state;
     let sent = exporter::next_data::next_data(active, store, &mut out);
-    print(b"next data: ", sent.answer);
+    print(rt, b"next data: ", sent.answer)?;
     let sending = sent.state;
     let released = exporter::receive::receive(sending, 0, &ack, &mut out);
-    print(b"DATA ACK of one record: ", released.answer);
-    released.state
+    print(rt, b"DATA ACK of one record: ", released.answer)?;
+    Ok(released.state)
 }
 
 // Prints a batch's answer, how many messages it wrote and how many octets.
-fn print_batch(label: &[u8], batch: Batch) {
-    print(label, batch.answer);
-    io::write_all(STDOUT_FILENO, b"  messages: ");
-    io::print_decimal(STDOUT_FILENO, batch.count as u64);
-    io::write_all(STDOUT_FILENO, b", octets: ");
-    io::print_decimal(STDOUT_FILENO, batch.written as u64);
-    io::write_all(STDOUT_FILENO, b"\n");
+fn print_batch(rt: &impl Print, label: &[u8], batch: Batch) -> io::Result<()> {
+    print(rt, label, batch.answer)?;
+    let count = batch.count;
+    let written = batch.written;
+    println!(rt; "  messages: {count}, octets: {written}")
 }
 
 // Sends 64 records of two octets in batches: none, one, one more than there is room for, and more than are left.
-fn batches(s: State, store: &[u8]) {
+fn batches(rt: &impl Print, s: State, store: &[u8]) -> io::Result<()> {
     let mut short = [0u8; 2 * DATA_OCTETS - 1];
     let mut out = [0u8; 64 * DATA_OCTETS];
     let none = exporter::batch::send_batch(s, store, &mut short, 0);
-    print_batch(b"batch of 0, room for 1: ", none);
+    print_batch(rt, b"batch of 0, room for 1: ", none)?;
     let at_first = none.state;
     let one = exporter::batch::send_batch(at_first, store, &mut short, 1);
-    print_batch(b"batch of 1, room for 1: ", one);
+    print_batch(rt, b"batch of 1, room for 1: ", one)?;
     let after_one = one.state;
     let two = exporter::batch::send_batch(after_one, store, &mut short, 2);
-    print_batch(b"batch of 2, room for 1: ", two);
+    print_batch(rt, b"batch of 2, room for 1: ", two)?;
     let after_two = two.state;
     let rest = exporter::batch::send_batch(after_two, store, &mut out, 64);
-    print_batch(b"batch of 64, room for 64: ", rest);
+    print_batch(rt, b"batch of 64, room for 64: ", rest)?;
     let all_sent = rest.state;
     let nothing = exporter::batch::send_batch(all_sent, store, &mut out, 1);
-    print_batch(b"batch of 1, all sent: ", nothing);
+    print_batch(rt, b"batch of 1, all sent: ", nothing)
 }
 
 // Holds 64 records and tries record 65, releases one, tries record 65 again and then record 66; then sends what is held in batches.
-fn fullest_queue() {
+fn fullest_queue(rt: &impl Print) -> io::Result<()> {
     let mut store = [0u8; 1024];
     let made = exporter::set_up::set_up(settings(), &store);
     let fresh = made.state;
-    let full = put_many(fresh, &mut store, 65);
-    let freed = release_one(full, &store);
-    let refilled = put_many(freed, &mut store, 2);
-    batches(refilled, &store);
+    let full = put_many(rt, fresh, &mut store, 65)?;
+    let freed = release_one(rt, full, &store)?;
+    let refilled = put_many(rt, freed, &mut store, 2)?;
+    batches(rt, refilled, &store)
 }
 
-fn main() {
-    longest_record();
-    fullest_queue();
+fn main(rt: HostRuntime) -> io::Result<()> {
+    longest_record(&rt)?;
+    fullest_queue(&rt)
 }

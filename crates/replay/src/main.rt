@@ -1,52 +1,75 @@
 // The replay program: a tape from standard input, its lines to standard output.
 #![tactic(auto)]
 
-ghost use Rattle.std.specs.Prelude.{◌≡◌, replicate};
+ghost use Rattle.std.specs.Prelude.{◌≡◌, ◌<◌, ◌≤◌, length, take, replicate, IfOk};
+ghost use Rattle.std.specs.Io.KnownBytes.{Consumes, IsAtEnd};
 ghost use Rattle.exporter.specs.Limits.{max_store_octets};
 ghost use Rattle.tape.specs.Replay.{tape_store};
 
 use contents::INPUT_OCTETS;
 use exporter::limits::MAX_STORE_OCTETS;
-use libc::{STDIN_FILENO, STDOUT_FILENO};
+use std::io;
+use std::io::Read;
 use tape::replay::{LINE_OCTETS, OUTPUT_OCTETS};
 
 // Writes the first len octets of a text.
-fn print(text: &[u8; LINE_OCTETS], len: usize) {
+fn print(rt: &impl Print, text: &[u8; LINE_OCTETS], len: usize) -> io::Result<()> {
     let whole = &text[..];
     if len <= whole.len() {
-        io::write_all(STDOUT_FILENO, &whole[..len]);
+        rt.write_all(&whole[..len])?;
     }
+    Ok(())
 }
 
 // Replays a tape over the store that its settings name, line by line. A refusal leaves no events, and a turn with none left has no line.
-fn replay(tape: &[u8], store: &mut [u8])
+fn replay(rt: &impl Print, tape: &[u8], store: &mut [u8]) -> io::Result<()>
     requires { store.old ≡ tape_store tape.now }
 {
     let mut out = [0u8; OUTPUT_OCTETS];
     let mut text = [0u8; LINE_OCTETS];
     let mut turn = tape::replay::open_tape(tape, store, &mut text);
-    print(&text, turn.len);
+    print(rt, &text, turn.len)?;
     let mut turns = turn.progress.left;
     while 0 < turns {
         let progress = turn.progress;
         turn = tape::replay::take_event(progress, tape, store, &mut out, &mut text);
-        print(&text, turn.len);
+        print(rt, &text, turn.len)?;
         turns -= 1;
     }
+    Ok(())
 }
 
 // Lends a replay the part of the largest store that the tape's settings name.
-fn lend(tape: &[u8], store: &mut [u8])
+fn lend(rt: &impl Print, tape: &[u8], store: &mut [u8]) -> io::Result<()>
     requires { store.old ≡ replicate max_store_octets 0 }
 {
     let len = events::store_length(tape);
-    replay(tape, &mut store[..len]);
+    replay(rt, tape, &mut store[..len])
+}
+
+// Reads until the input ends or a buffer is full, and gives how many octets it put at the buffer's start. A read that fails, also one that
+// a signal interrupts, ends it with that error.
+fn read_full<R: Read>(input: &mut R, buffer: &mut [u8]) -> io::Result<usize>
+    ensures within { IfOk result (λ n. n ≤ length buffer.new) }
+    ensures octets { IfOk result (λ n. Consumes (R.remaining input.old) (R.remaining input.new)
+        (take n buffer.new)) }
+    ensures end { IfOk result (λ n. n < length buffer.new → IsAtEnd (R.remaining input.new)) }
+{
+    let mut done = 0;
+    while done < buffer.len() {
+        let n = input.read(&mut buffer[done..])?;
+        if n == 0 {
+            break;
+        }
+        done += n;
+    }
+    Ok(done)
 }
 
 // Reads to the end of the input, or one octet more than a tape has, and replays it over a part of the largest store.
-fn main() {
+fn main(rt: HostRuntime) -> io::Result<()> {
     let mut input = [0u8; INPUT_OCTETS];
-    let n = io::read_full(STDIN_FILENO, &mut input);
+    let n = read_full(&mut rt.stdin(), &mut input)?;
     let mut store = [0u8; MAX_STORE_OCTETS];
-    lend(&input[..n], &mut store);
+    lend(&rt, &input[..n], &mut store)
 }
