@@ -32,7 +32,7 @@ played_more t first i p q w store out h here called =
     let f : first + (i - first) ≡ i = omega arith in
     rw (e, f, ← here, called.0, called.1.0, called.1.1) refl
 
--- what set_up_lem, the calls, the batch and the calls after it leave is what the definition has at the end
+-- what set-up, the calls, the batch and the calls after it leave is what the definition has at the end
 pub handed_back : (g : Given) (part : ℕ) (store out messages b : List ℕ) (made : Made) (before : Wrote) (store_then out_then : List ℕ)
     (x : Batch) (first : ℕ) (last : Wrote) (store_after out_after messages_after : List ℕ) (n : ℕ)
     → b ≡ body_of g.tape 0 → made ≡ set_up_by b (length store)

@@ -61,7 +61,7 @@ pub record Given : Type 0 where
 abbrev pub first_call : ℕ
 first_call = min_events
 
--- After set_up_lem by the body of event 0 and the calls before the batch.
+-- After set-up by the body of event 0 and the calls before the batch.
 abbrev pub reached : Given → List ℕ → List ℕ → Progress
 reached g store out =
     let made = set_up_by (body_of g.tape 0) (length store) in

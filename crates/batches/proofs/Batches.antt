@@ -361,7 +361,7 @@ list_octets x (l ∷ ls) o =
 
 -- ---- batches in a list
 
--- an exporter that calls from set_up_lem on left, with their history
+-- an exporter that calls from set-up on left, with their history
 record Reached (p : Settings) (x : Exporter) : Type 0 where
   history : History
   kept : Kept (crane_session p) history x

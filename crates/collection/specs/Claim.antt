@@ -1,4 +1,4 @@
--- What is claimed of every list of a collector's calls from set_up_lem on, each given the state and the memory that the last one left, which
+-- What is claimed of every list of a collector's calls from set-up on, each given the state and the memory that the last one left, which
 -- nobody else writes (02, ask 4): no call is answered 1, and the journal's used octets walk back as exactly the records taken in sequence,
 -- in order. The list of records is kept from the messages and the answers alone. Beside it, of one call on any state: a refusal changes
 -- nothing, and no octet changes but those of the entry or the table that the call stores.
@@ -90,7 +90,7 @@ after_call k p =
       taken = taken_after (command_of p.collector.session k) o.answer p.taken;
     }
 
--- After set_up_lem with a journal and a memory for tables.
+-- After set-up with a journal and a memory for tables.
 abbrev pub set_up_with : ℕ → Memory → Progress
 set_up_with session m =
     record { collector = fresh_collector session (length m.journal); memory = m; taken = nothing_taken }
@@ -109,7 +109,7 @@ abbrev pub EachCall : Progress → List CollectorCall → Type 0
 EachCall p [] = Unit {0}
 EachCall p (k ∷ ks) = ((outcome_of k p).answer ≡ unsound_state → ⊥) × (Journaled (after_call k p) × EachCall (after_call k p) ks)
 
--- From set_up_lem on, with any journal and 16,384 octets for tables.
+-- From set-up on, with any journal and 16,384 octets for tables.
 abbrev pub CollectorClaim : Type 0
 CollectorClaim =
     (session : ℕ) (m : Memory) → length m.table ≡ max_table_octets → (ks : List CollectorCall) → AllOctets ks

@@ -22,7 +22,7 @@ use Rattle.collection.specs.declared.state.Last.TheVariants as last
 use Rattle.collection.specs.declared.state.Collector.{Collector}
 use Rattle.collection.specs.declared.state.Collected.{Collected}
 
--- ---- the lent memory, and set_up_lem
+-- ---- the lent memory, and set-up
 
 -- What a collector is lent: its journal, and the octets in which it keeps the agreed table.
 pub record Memory : Type 0 where

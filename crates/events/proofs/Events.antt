@@ -93,7 +93,7 @@ settings_same b c h =
 pub store_same : (b c : List ℕ) → ((i : ℕ) → i < priorities_at → get_or b i 0 ≡ get_or c i 0) → store_length b ≡ store_length c
 store_same b c h = ap (λ (n : ℕ). n + 1) (number_same_at b c h 6 2 (omega arith))
 
--- an event 0 with fewer priorities than servers is refused, and one with a priority for every server does what set_up_lem does
+-- an event 0 with fewer priorities than servers is refused, and one with a priority for every server does what set-up does
 pub set_up_fewer : (b : List ℕ) (capacity : ℕ) → length b - priorities_at < (settings_of b).servers → refused_set_up ≡ set_up_by b capacity
 unfolding set_up_by
 set_up_fewer b capacity h =
@@ -107,7 +107,7 @@ set_up_enough b capacity h =
     let p = settings_of b in
     sym (ap (λ (x : Bool). cond x refused_set_up (set_up p capacity)) (le-ltb (length b - priorities_at) p.servers h))
 
--- an event 0 that is answered 0 did what set_up_lem does with its settings
+-- an event 0 that is answered 0 did what set-up does with its settings
 pub set_up_accepted : (b : List ℕ) (room : ℕ) → (set_up_by b room).answer ≡ done → set_up_by b room ≡ set_up (settings_of b) room
 unfolding set_up_by
 set_up_accepted b room e = go (ltb (length b - priorities_at) (settings_of b).servers) e

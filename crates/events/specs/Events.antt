@@ -38,7 +38,7 @@ abbrev pub store_length : List ℕ → ℕ
 store_length b = uint_at b 6 2 + 1
 
 -- Event 0 sets an exporter up, over a store of a length. It is refused with 20 where it names more servers than it has priorities, more
--- than 8 with 24 octets and more than 16 with 32 (02, ask 7); else it is judged as set_up_lem judges its settings.
+-- than 8 with 24 octets and more than 16 with 32 (02, ask 7); else it is judged as set-up judges its settings.
 unfoldable pub set_up_by : List ℕ → ℕ → Made
 set_up_by b capacity = cond (ltb (length b - priorities_at) (settings_of b).servers) refused_set_up (set_up (settings_of b) capacity)
 

@@ -52,7 +52,7 @@ session_start = 0x08
 abbrev pub session_stop : ℕ
 session_stop = 0x09
 
--- DATA (4.5.1): template_id 16, configId 16, flags 8, sequenceNum 64; dataRecord.
+-- DATA (4.5.1): templateId 16, configId 16, flags 8, sequenceNum 64; dataRecord.
 abbrev pub data_number : ℕ
 data_number = 0x20
 

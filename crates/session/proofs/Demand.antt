@@ -1,4 +1,4 @@
--- Demand 3: what is claimed of every list of calls holds. History and exporter agree after set_up_lem, each call keeps that (`Calls`), and what
+-- Demand 3: what is claimed of every list of calls holds. History and exporter agree after set-up, each call keeps that (`Calls`), and what
 -- is claimed of a call or of the list follows from it.
 use mathlib.Core.Path.{◌≡◌, refl, sym, ap, ◌∙◌, subst}
 use mathlib.Core.Bool.{Bool, true, false, cond, false≢true}
@@ -99,7 +99,7 @@ last_named_lem w p h r (k ∷ ks) e =
     last_named_lem w p (after_call w p k.call k.answer h) (named_by w p h.ledger k.call k.answer r) ks
     (released_by w p k.call k.answer h ∙ ap (named_by w p h.ledger k.call k.answer) e)
 
--- ---- set_up_lem
+-- ---- set-up
 
 record Accepted (p : Settings) (room : ℕ) : Type 0 where
   limits : settings_sound p room ≡ true

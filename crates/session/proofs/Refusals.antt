@@ -50,7 +50,7 @@ event_unchanged x (OfferTemplates v table out) h =
 event_unchanged x (LineDown v) h = ap (with_state x) (step_unchanged crane 0 (move v down) x.state [] h).state
 event_unchanged x Tick h = ap (with_state x) (step_unchanged crane 0 tick x.state [] h).state
 
--- no call finds the state of a refused set_up_lem sound
+-- no call finds the state of a refused set-up sound
 never_sound : (c : Call) (store : List ℕ) → sound_for c refused_state store ≡ false
 unfolding sound numbers_sound settings_sound fresh
 never_sound (put table id r) store = refl
@@ -71,7 +71,7 @@ each_refused store (OfferTemplates v table out) = refused_set_up_lem crane (leng
 each_refused store (LineDown v) = refused_set_up_lem crane 0 (move v down) []
 each_refused store Tick = refused_set_up_lem crane 0 tick []
 
--- what set_up_lem leaves where it is refused
+-- what set-up leaves where it is refused
 refused_state_lem : (p : Settings) (capacity : ℕ) → (set_up p capacity).answer ≢ done → (set_up p capacity).state ≡ refused_state
 unfolding set_up
 refused_state_lem p capacity h = go (settings_sound p capacity) refl

@@ -40,7 +40,7 @@ use Rattle.session.proofs.Choice.{chosen_below, settle_choice, all_closed}
 use Rattle.session.proofs.StepLaws.{step_done, step_refused}
 use Rattle.session.proofs.QueueLaws.{set_cases, shifted_length, shifted_at, sum_set, sum_shifted, has_with}
 
--- ---- set_up_lem
+-- ---- set-up
 
 -- a state of which nothing was sent is sound by its limits, its records and its choice
 unsent_facts : (s : State) → IdleFacts s.delivery → SettingsFacts s.settings s.capacity → s.queue.count ≤ max_held
@@ -76,7 +76,7 @@ fresh_sound p capacity e =
     (λ i l. let no : ⊥ = omega arith in absurd no) (λ i l. let no : ⊥ = omega arith in absurd no) (omega arith)
     (sym (all_closed p.priorities max_servers p.servers)))
 
--- an accepted set_up_lem gives a sound state
+-- an accepted set-up gives a sound state
 pub set_up_sound : (p : Settings) (capacity : ℕ) → (set_up p capacity).answer ≡ 0 → sound (set_up p capacity).state ≡ true
 unfolding set_up
 set_up_sound p capacity = go (settings_sound p capacity) refl

@@ -300,9 +300,9 @@ module _ (q : List ℕ) (n : ℕ) where
       let g : Enough q n (after_event x e).state.settings = rw (settings_stay x.state.settings x e refl) h in
       rw (after_event_lem x e h, event_same x e h, responses_same (after_event x e) es g) refl
 
--- ---- from set_up_lem on
+-- ---- from set-up on
 
--- what set_up_lem hands back, where it takes the settings and where it does not
+-- what set-up hands back, where it takes the settings and where it does not
 abbrev made : Bool → Settings → ℕ → Made
 made b p octets = cond b (record { answer = done; state = fresh p octets }) refused_set_up
 

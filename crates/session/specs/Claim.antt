@@ -58,7 +58,7 @@ unfoldable pub run : Session → Exporter → List Invocation → Exporter
 run z x [] = x
 run z x (i ∷ is) = run z (advance z x i) is
 
--- What set_up_lem leaves, with the store as it was lent.
+-- What set-up leaves, with the store as it was lent.
 unfoldable pub begin : Session → List ℕ → Exporter
 begin z store = record { state = (set_up z.settings (length store)).state; store = store }
 
@@ -81,7 +81,7 @@ history_from w p h (k ∷ ks) = history_from w p (after_call w p k.call k.answer
 
 -- ---- the premises
 
--- A width of 7 bits or more, settings that set_up_lem accepts, and a first DSN of that width.
+-- A width of 7 bits or more, settings that set-up accepts, and a first DSN of that width.
 pub record Premises (z : Session) (store : List ℕ) : Type 0 where
   pub wide : 7 ≤ dsn_bits z
   pub accepted : (set_up z.settings (length store)).answer ≡ done

@@ -60,7 +60,7 @@ unfoldable pub numbers_where : (ℕ → Bool) → ℕ → List ℕ
 numbers_where test zero = []
 numbers_where test (suc n) = numbers_where test n ++ cond (test n) (n ∷ []) []
 
--- ---- set_up_lem
+-- ---- set-up
 
 -- 20 outside the limits, and 0 at them: 1 to 16 servers, a threshold of 1 to 64, a duration of 1 to 65,535, a store of 1,024 to 65,536.
 abbrev pub SetUpLimits : Type 0

@@ -29,7 +29,7 @@ CallRefused = (z : Session) (x : Exporter) (i : Invocation) → (outcome z x i).
 abbrev pub CallRefusedInOctets : Type 0
 CallRefusedInOctets = (x : Exporter) (e : Event) → (event_step x e).answer ≢ done → after_event x e ≡ x
 
--- What a refused set_up_lem hands back, every call refuses with 1.
+-- What a refused set-up hands back, every call refuses with 1.
 abbrev pub SetUpRefused : Type 0
 SetUpRefused =
     (p : Settings) (capacity : ℕ) (z : Session) (store : List ℕ) (i : Invocation) → (set_up p capacity).answer ≢ done

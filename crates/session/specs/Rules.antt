@@ -214,7 +214,7 @@ pub record Fresh (p : Settings) (octets : ℕ) (s : State) : Type 0 where
   pub due : s.due ≡ true
   pub next : s.next ≡ p.initial
 
--- So is what an accepted set_up_lem over a store of so many octets leaves.
+-- So is what an accepted set-up over a store of so many octets leaves.
 abbrev pub FreshHolds : Type 0
 FreshHolds = (p : Settings) (octets : ℕ) → (set_up p octets).answer ≡ done → Fresh p octets (set_up p octets).state
 

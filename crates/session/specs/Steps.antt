@@ -359,7 +359,7 @@ stepped_of o = record { answer = o.answer; state = o.state }
 abbrev pub wrote_of : Outcome → Wrote
 wrote_of o = record { answer = o.answer; written = length (octets_written o); state = o.state }
 
--- ---- set_up_lem (01, "Exporter")
+-- ---- set-up (01, "Exporter")
 
 -- A state that holds nothing: every server closed, all counters 0, S due, and the first record to take the initial DSN.
 unfoldable pub fresh : Settings → ℕ → State
@@ -374,16 +374,16 @@ fresh p capacity =
       next = p.initial;
     }
 
--- Settings of 0, which no set_up_lem accepts.
+-- Settings of 0, which no set-up accepts.
 abbrev pub no_settings : Settings
 no_settings =
     record { session = 0; config = 0; boot = 0; initial = 0; servers = 0; priorities = replicate max_servers 0; threshold = 0; duration = 0 }
 
--- What set_up_lem hands back with a refusal: a state without servers or store, which every call refuses.
+-- What set-up hands back with a refusal: a state without servers or store, which every call refuses.
 abbrev pub refused_state : State
 refused_state = fresh no_settings 0
 
--- What set_up_lem answers where it refuses.
+-- What set-up answers where it refuses.
 abbrev pub refused_set_up : Made
 refused_set_up = record { answer = settings_outside_limits; state = refused_state }
 

@@ -60,7 +60,7 @@ responses x (e ∷ es) =
 
 -- The claim, of all settings, stores and exporters.
 pub record UnusedEntries : Type 0 where
-  -- set_up_lem answers the same whatever the priorities are
+  -- set-up answers the same whatever the priorities are
   pub set_ups : (p : Settings) (priorities : List ℕ) (octets : ℕ)
       → (set_up (with_priorities priorities p) octets).answer ≡ (set_up p octets).answer
   -- every list of calls from the fresh exporter answers and writes the same whatever the unused priorities are

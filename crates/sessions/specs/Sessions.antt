@@ -100,7 +100,7 @@ unfoldable pub played : Lent → ℕ → Progress → Progress
 played l zero p = p
 played l (suc n) p = let q = played l n p in after (call_at l (event_octets * n) q.out) q
 
--- What set_up_lem leaves and answers, before the first event.
+-- What set-up leaves and answers, before the first event.
 abbrev pub opened : Settings → List ℕ → List ℕ → Progress
 opened p store out = let made = set_up p (length store) in progress made.state store out made.answer
 

@@ -1,4 +1,4 @@
--- Unused priorities change no line: the settings of both tapes differ in them alone, so set_up_lem and every call answer and write the same,
+-- Unused priorities change no line: the settings of both tapes differ in them alone, so set-up and every call answer and write the same,
 -- and the lines say nothing else.
 use mathlib.Core.Path.{◌≡◌, refl, sym, ap, ◌∙◌}
 use mathlib.Core.List.{List, [], ◌∷◌}

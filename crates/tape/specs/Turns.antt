@@ -145,7 +145,7 @@ turns t store = (opened t store).line ∷ turns_from t (event_count t) (opened t
 abbrev pub TurnByTurn : Type 0
 TurnByTurn = (t : List ℕ) → turns t (tape_store t) ≡ replay t
 
--- Of any octets whose settings set_up_lem accepts, the calls are a list of calls from a fresh exporter, and the exporter's claim (demand
+-- Of any octets whose settings set-up accepts, the calls are a list of calls from a fresh exporter, and the exporter's claim (demand
 -- 3) holds of it, whatever the table is.
 abbrev pub CallsClaimed : Type 0
 CallsClaimed =

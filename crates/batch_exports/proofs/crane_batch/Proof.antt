@@ -1,4 +1,4 @@
--- `crane_batch` meets its contract: set_up_lem, the calls before the batch, the batch and the calls after it are the definition's, each with
+-- `crane_batch` meets its contract: set-up, the calls before the batch, the batch and the calls after it are the definition's, each with
 -- the state, the store and the output that the one before left.
 use mathlib.Core.Path.{◌∙◌}
 use Rattle.batch_exports.specs.Calls.{Given}

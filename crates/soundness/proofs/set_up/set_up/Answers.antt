@@ -1,5 +1,5 @@
 -- `set_up` meets its contract. The settings are judged once. Where they are in their limits the fresh state is handed back, else what a
--- refused set_up_lem answers.
+-- refused set-up answers.
 use mathlib.Core.Path.{sym, ◌∙◌}
 use Rattle.session.specs.Steps.{set_up}
 use Rattle.soundness.proofs.set_up.set_up.Goals as goal
