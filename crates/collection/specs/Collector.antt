@@ -75,7 +75,8 @@ command_of_message m (DataAck s dsn config) = malformed message_not_accepted
 
 -- The call that receiving octets makes.
 unfoldable pub collected : ℕ → List ℕ → Command
-collected session m = cond (eqb (collected_form session m) done) (command_of_message m (meaning_of m)) (malformed (collected_form session m))
+collected session m =
+    cond (eqb (collected_form session m) done) (command_of_message m (meaning_of m)) (malformed (collected_form session m))
 
 -- ---- in sequence or not
 

@@ -50,7 +50,8 @@ stated_length j at = uint_at j (at + 7) 2
 
 -- An entry stands at a place: its head and its record are within the octets, and its D is 0 or 1.
 unfoldable pub is_entry : List ℕ → ℕ → Bool
-is_entry j at = leb entry_head_octets (left j at) && leb (uint_at j (at + 4) 1) 1 && leb (stated_length j at) (left j at - entry_head_octets)
+is_entry j at =
+    leb entry_head_octets (left j at) && leb (uint_at j (at + 4) 1) 1 && leb (stated_length j at) (left j at - entry_head_octets)
 
 -- The entry at a place, by its DSN, D, template ID, and the place and length of its record.
 unfoldable pub entry_at : List ℕ → ℕ → Entry

@@ -61,7 +61,8 @@ pub record EditionsClaim : Type 0 where
       (read_in (edition_of m) octets ≡ reading.Message m)
       × ((part_in (edition_of m) octets ≡ carried_in m part) × (part_at_in (edition_of m) octets ≡ carried_at_in m))
   -- a message that reads without refusal, with flags and reserved octets 0, is the layout of its meaning and its part
-  pub is_layout : (e : Edition) (m : List ℕ) → Octets m → read_answer_in e m ≡ done → PlainIn e m → m ≡ layout_in (meaning_in e m) (part_in e m)
+  pub is_layout : (e : Edition) (m : List ℕ) → Octets m → read_answer_in e m ≡ done → PlainIn e m
+      → m ≡ layout_in (meaning_in e m) (part_in e m)
   -- a message of the other edition, and its header alone, is refused with 4, and no part is handed back
   pub other_edition : (e : Edition) (m : List ℕ) → header_octets ≤ length m → version_of m ≡ version_for (other e) → OtherVersion e m
   -- a refused writing answers its number and leaves the output as it was

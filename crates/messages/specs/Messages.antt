@@ -283,7 +283,8 @@ write_out m part out = cond (eqb (write_answer m part (length out)) done) (sets 
 -- A DATA's octets in front of a record of n octets that the caller writes behind them: judged 17, 12 as the whole message is (law
 -- `head_answer`).
 unfoldable pub head_write_answer : ℕ → ℕ → ℕ
-head_write_answer n room = judge ((record_too_long when ltb max_record_octets n) ∷ (output_too_short when ltb room (data_head_length + n)) ∷ [])
+head_write_answer n room =
+    judge ((record_too_long when ltb max_record_octets n) ∷ (output_too_short when ltb room (data_head_length + n)) ∷ [])
 
 -- It answers the whole message's octets, or the refusal.
 unfoldable pub head_write_of : ℕ → ℕ → Written

@@ -243,7 +243,8 @@ ReadNumbers =
 -- Writing a TMPL DATA: 21, 12.
 abbrev pub TmplDataOrder : Type 0
 TmplDataOrder =
-    write_answer (TmplData 7) no_table 0 ∷ write_answer (TmplData 7) a_table 35 ∷ write_answer (TmplData 7) a_table 36 ∷ [] ≡ 21 ∷ 12 ∷ 0 ∷ []
+    write_answer (TmplData 7) no_table 0 ∷ write_answer (TmplData 7) a_table 35 ∷ write_answer (TmplData 7) a_table 36 ∷ []
+    ≡ 21 ∷ 12 ∷ 0 ∷ []
 
 -- Writing a DATA, or its head alone: 17, 12.
 abbrev pub DataOrder : Type 0

@@ -377,7 +377,16 @@ fresh p capacity =
 -- Settings of 0, which no set-up accepts.
 abbrev pub no_settings : Settings
 no_settings =
-    record { session = 0; config = 0; boot = 0; initial = 0; servers = 0; priorities = replicate max_servers 0; threshold = 0; duration = 0 }
+    record {
+      session = 0;
+      config = 0;
+      boot = 0;
+      initial = 0;
+      servers = 0;
+      priorities = replicate max_servers 0;
+      threshold = 0;
+      duration = 0;
+    }
 
 -- What set-up hands back with a refusal: a state without servers or store, which every call refuses.
 abbrev pub refused_state : State

@@ -22,8 +22,8 @@ pub record Played : Type 0 where
   pub progress : Progress
   pub store : List ℕ
 
--- Opening a tape over a store, which is to have the length that the settings name (`store_length`): the tape is judged 22, then its settings
--- 20 (`set_up_by`), by the store's own length. After a refusal no event is left, and the state counts for nothing.
+-- Opening a tape over a store, which is to have the length that the settings name (`store_length`): the tape is judged 22, then its
+-- settings 20 (`set_up_by`), by the store's own length. After a refusal no event is left, and the state counts for nothing.
 unfoldable pub opened : List ℕ → List ℕ → Played
 opened t store =
     let made = set_up_by (body_of t 0) (length store) in

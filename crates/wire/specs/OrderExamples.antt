@@ -79,7 +79,8 @@ Holds (number type value integer big little) =
     HandledAs big_endian_flags type value [] (some integer) big × HandledAs 0 type value [] (some integer) little
 Holds (octets_held type given big little) =
     HandledAs big_endian_flags type Octets given none big × HandledAs 0 type Octets given none little
-Holds (lengths type r big little) = (field_length (order_of big_endian_flags) type r 0 ≡ big) × (field_length (order_of 0) type r 0 ≡ little)
+Holds (lengths type r big little) =
+    (field_length (order_of big_endian_flags) type r 0 ≡ big) × (field_length (order_of 0) type r 0 ≡ little)
 Holds (sound t so) = table_sound t ≡ so
 Holds (judged flags id r answer) = record_answer (table_of flags 0 1) id r ≡ answer
 Holds (walked flags r n) =

@@ -26,8 +26,8 @@ pub record WireRefusals : Type 0 where
       → KeptOrWritten (write_answer m part (length out)) written.Refused (written.Octets (length (layout_of m part))) (write_of m part out)
       0 (layout_of m part) out (write_out m part out)
   pub head : (h : DataHead) (n : ℕ) (out : List ℕ)
-      → KeptOrWritten (head_write_answer n (length out)) written.Refused (written.Octets (data_head_length + n)) (head_write_of n (length out))
-      0 (data_head_octets h n) out (head_write_out h n out)
+      → KeptOrWritten (head_write_answer n (length out)) written.Refused (written.Octets (data_head_length + n))
+      (head_write_of n (length out)) 0 (data_head_octets h n) out (head_write_out h n out)
   pub field : (order : OctetOrder) (type : ℕ) (value : Value) (octets out : List ℕ) (at : ℕ)
       → let stored = field_octets order type value octets in
       KeptOrWritten (append_answer order type value octets out at) appended.Refused (appended.Next (at + length stored))

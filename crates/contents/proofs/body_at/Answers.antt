@@ -1,3 +1,4 @@
+-- `body_at`: the answers to what its invariant leaves.
 use mathlib.Core.Path.{◌≡◌, refl}
 use native.Mathlib.Numerals.{add-one}
 use native.Mathlib.Omega.{arith}

@@ -1,3 +1,4 @@
+-- `events_sound`: the answers to what its invariant leaves.
 use mathlib.Core.Path.{◌≡◌, sym}
 use native.Mathlib.Omega.{arith}
 use Rattle.octets.specs.Each.{every}

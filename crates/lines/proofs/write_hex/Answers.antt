@@ -1,3 +1,4 @@
+-- `write_hex`: the answers to what its invariant leaves.
 use mathlib.Core.Path.{refl, sym, ◌∙◌}
 use Prim.Native.Nat.{◌+◌, ◌*◌}
 use native.Mathlib.Nat.{add-zero}

@@ -1,3 +1,4 @@
+-- `all_ascii`: the answers to what its invariant leaves.
 use mathlib.Core.Path.{◌≡◌, refl, sym, ◌∙◌}
 use mathlib.Core.Bool.{true}
 use native.Mathlib.Omega.{arith}

@@ -1,3 +1,4 @@
+-- `get_uint`: the answers to what its invariant leaves.
 use mathlib.Core.Path.{◌≡◌, ap, ◌∙◌}
 use lib.ListN.{get_or}
 use Prim.Native.Nat.{ℕ, ◌+◌}

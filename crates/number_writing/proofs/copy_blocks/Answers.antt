@@ -1,3 +1,4 @@
+-- `copy_blocks`: the answers to what its invariant leaves.
 use mathlib.Core.Path.{◌≡◌, sym, ap, ◌∙◌}
 use mathlib.Core.List.{List}
 use Prim.Native.Nat.{ℕ, ◌+◌, ◌-◌}

@@ -1,3 +1,4 @@
+-- `put_fitting`: the answers to what its invariant leaves.
 use mathlib.Core.Path.{sym, ◌∙◌}
 use Prim.Native.Nat.{◌+◌}
 use native.Mathlib.Omega.{arith}

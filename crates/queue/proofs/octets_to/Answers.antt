@@ -1,3 +1,4 @@
+-- `octets_to`: the answers to what its invariant leaves.
 use mathlib.Core.Path.{◌≡◌, ◌∙◌, ap}
 use Prim.Native.Nat.{◌<◌}
 use native.Mathlib.Omega.{arith}

@@ -1,3 +1,4 @@
+-- `choose_server`: the answers to what its invariant leaves.
 use mathlib.Core.Path.{◌≡◌}
 use native.Mathlib.Omega.{arith}
 use Rattle.session.specs.Servers.{choose}

@@ -1,3 +1,4 @@
+-- `restart_servers`: the answers to what its invariant leaves.
 use mathlib.Core.Path.{◌≡◌, refl, ◌∙◌}
 use native.Mathlib.Omega.{arith}
 use lib.ListN.{length}

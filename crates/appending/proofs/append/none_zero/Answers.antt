@@ -1,3 +1,4 @@
+-- `none_zero`: the answers to what its invariant leaves.
 use mathlib.Core.Path.{◌≡◌, refl}
 use native.Mathlib.Omega.{arith}
 use lib.ListN.{length}

@@ -1,3 +1,4 @@
+-- `count_fields`: the answers to what its invariant leaves.
 use mathlib.Core.Path.{sym, ◌∙◌}
 use borrow.Author.Rules.{rules}
 use Rattle.octets.proofs.Judging.{answered}

@@ -1,3 +1,4 @@
+-- `shift`: the answers to what its invariant leaves.
 use Rattle.std.proofs.Common.{◌≡◌, ◌-◌, length, ◌∙◌, arith, rules}
 use Rattle.session.proofs.Arrays.{moved_more, moved_all}
 use Rattle.receiving.proofs.release.shift.Goals as goal

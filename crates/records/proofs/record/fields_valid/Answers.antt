@@ -1,3 +1,4 @@
+-- `fields_valid`: the answers to what its invariant leaves.
 use mathlib.Core.Path.{◌≡◌, refl, sym, ap, ◌∙◌}
 use native.Mathlib.Omega.{arith}
 use Rattle.octets.specs.Each.{every}

@@ -1,3 +1,4 @@
+-- `next_key`: the answers to what its invariant leaves.
 use mathlib.Core.Path.{◌≡◌, refl, sym, ◌∙◌}
 use native.Mathlib.Omega.{arith}
 use Prim.Native.Nat.{◌+◌, ◌-◌}

@@ -1,3 +1,4 @@
+-- `send_records`: the answers to what its invariant leaves.
 use Rattle.std.proofs.Common.{◌-◌, ltb, length, get_or, drop, sym, refl, ap, ◌∙◌, subst, arith, length-drop, take_all, rules, ltb-true}
 use Rattle.octets.proofs.Each.{and_left, and_right}
 use Rattle.session.specs.Limits.{max_servers}

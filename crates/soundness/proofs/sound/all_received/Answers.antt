@@ -1,3 +1,4 @@
+-- `all_received`: the answers to what its invariant leaves.
 use mathlib.Core.Path.{◌≡◌, ap, ◌∙◌}
 use mathlib.Core.Bool.{Bool, ◌&&◌}
 use native.Mathlib.Omega.{arith}

@@ -1,3 +1,4 @@
+-- `entries_sound`: the answers to what its invariant leaves.
 use mathlib.Core.Path.{◌≡◌, refl, ap}
 use mathlib.Core.Bool.{Bool, ◌&&◌}
 use native.Mathlib.Omega.{arith}

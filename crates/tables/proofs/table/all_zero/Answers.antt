@@ -1,3 +1,4 @@
+-- `all_zero`: the answers to what its invariant leaves.
 use mathlib.Core.Path.{◌≡◌, refl, sym}
 use native.Mathlib.Omega.{arith}
 use Prim.Native.Nat.{◌+◌, ◌≤◌, ◌<◌}

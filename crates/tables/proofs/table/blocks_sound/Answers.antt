@@ -1,3 +1,4 @@
+-- `blocks_sound`: the answers to what its invariant leaves.
 use mathlib.Core.Path.{◌≡◌, refl, sym, ap, ◌∙◌}
 use native.Mathlib.Omega.{arith}
 use Prim.Native.Nat.{ℕ}

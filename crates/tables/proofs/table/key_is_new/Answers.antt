@@ -1,3 +1,4 @@
+-- `key_is_new`: the answers to what its invariant leaves.
 use mathlib.Core.Path.{◌≡◌, refl, sym, ap, ◌∙◌}
 use native.Mathlib.Omega.{arith}
 use mathlib.Core.Bool.{not}

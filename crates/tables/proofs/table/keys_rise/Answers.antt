@@ -1,3 +1,4 @@
+-- `keys_rise`: the answers to what its invariant leaves.
 use native.Mathlib.Omega.{arith}
 use Rattle.octets.proofs.Each.{every_fewer}
 use Rattle.tables.proofs.Tables.{rise_start, rise_step}

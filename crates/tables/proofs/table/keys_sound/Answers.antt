@@ -1,3 +1,4 @@
+-- `keys_sound`: the answers to what its invariant leaves.
 use mathlib.Core.Path.{◌≡◌, refl, sym, ◌∙◌}
 use native.Mathlib.Omega.{arith}
 use borrow.Author.Rules.{rules}
