@@ -66,7 +66,8 @@ entry_at j at =
 
 -- Reading at a place: the end where no octet is left, an entry where one stands, else 8, as lengths that disagree are.
 unfoldable pub read_entry : List ℕ → ℕ → EntryReading
-read_entry j at = cond (leb (length j) at) reading.End (cond (is_entry j at) (reading.Entry (entry_at j at)) (reading.Refused body_length_wrong))
+read_entry j at =
+    cond (leb (length j) at) reading.End (cond (is_entry j at) (reading.Entry (entry_at j at)) (reading.Refused body_length_wrong))
 
 -- The answer number of reading an entry: 0, at the end too, or the refusal's.
 abbrev pub entry_answer : EntryReading → ℕ
