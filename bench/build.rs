@@ -1,5 +1,5 @@
-// Links the static libraries that `rt staticlib` writes of the crates exports, sessions and edition_exports; LIBRARIES_DIR names another
-// folder that has them.
+// Links the static libraries exports, sessions and edition_exports, which tools/build makes; LIBRARIES_DIR names another folder that has
+// them.
 use std::path::PathBuf;
 
 fn main() {
