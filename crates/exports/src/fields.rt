@@ -22,8 +22,7 @@ pub const NUMBER: u8 = 1;
 pub const NEGATIVE: u8 = 2;
 
 // 0 where a walk over a record can begin, else 21, 15 or 16.
-#[unsafe(no_mangle)]
-pub extern "C" fn crane_open_answer(table: &[u8], id: u16, r: &[u8]) -> u8
+pub fn crane_open_answer(table: &[u8], id: u16, r: &[u8]) -> u8
     ensures { result ≡ open_answer (open_of table.now id r.now) }
 {
     let opened = wire::walk::open_walk(table, id, r);
@@ -34,8 +33,7 @@ pub extern "C" fn crane_open_answer(table: &[u8], id: u16, r: &[u8]) -> u8
 }
 
 // How many fields a record has plus 256, counted through a reader, or 21, 15 or 16.
-#[unsafe(no_mangle)]
-pub extern "C" fn crane_count_fields(table: &[u8], id: u16, r: &[u8]) -> u64
+pub fn crane_count_fields(table: &[u8], id: u16, r: &[u8]) -> u64
     ensures { result ≡ counted_number (count_of table.now id r.now) }
 {
     let counted = wire::reader::count_fields(table, id, r);
@@ -88,15 +86,7 @@ fn field_part(part: u8, f: Field, c: Cursor) -> u64
 
 // A part of what a step of the field walk answers, by its number: 0 the answer, and of a field 1 its type, 2 its place, 3 its length, 4 and
 // 5 its value's sort and size, 6 and 7 the next cursor's index and place.
-#[unsafe(no_mangle)]
-pub extern "C" fn crane_step_part(
-    table: &[u8],
-    id: u16,
-    r: &[u8],
-    index: usize,
-    at: usize,
-    part: u8,
-) -> u64
+pub fn crane_step_part(table: &[u8], id: u16, r: &[u8], index: usize, at: usize, part: u8) -> u64
     ensures { result ≡ step_part part (step_of table.now id r.now (record { index = index; at = at })) }
 {
     let step = wire::walk::step_walk(table, id, r, Cursor { index, at });
@@ -132,8 +122,7 @@ fn appended_number(appended: Appended) -> u64
 
 // Appends the field of a type that holds a value, under a table of given flags, at a place of the output: the place after it plus 256, or
 // 21 for flags that no table has, 16 or 12.
-#[unsafe(no_mangle)]
-pub extern "C" fn crane_append(
+pub fn crane_append(
     flags: u8,
     kind: u16,
     sort: u8,

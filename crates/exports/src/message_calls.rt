@@ -139,8 +139,7 @@ pub fn written_number(written: Written) -> u64
 // written, by its number: 0 how many octets were written plus 256, or the reading's or else the writing's refusal; 1 and 2 the place and
 // the length of the part that the message carries, 3 its number, 4 its session, 5 its Configuration ID, 6 its boot time or DSN, 7 its
 // template ID, 8 and 9 its flags S and D; 0 for what it does not say, and for what could not be read.
-#[unsafe(no_mangle)]
-pub extern "C" fn crane_read_again(message: &[u8], out: &mut [u8], part: u8) -> u64
+pub fn crane_read_again(message: &[u8], out: &mut [u8], part: u8) -> u64
     ensures { (result ≡ again_part part (part_at message.now) (part_of message.now)
         out.old (read_of message.now))
         × (out.new ≡ again_out (part_of message.now) out.old (read_of message.now)) }

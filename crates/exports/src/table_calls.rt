@@ -8,8 +8,7 @@ use octets::Answer;
 use wire::table::{Found, Template};
 
 // 0 for a sound template table, else 21.
-#[unsafe(no_mangle)]
-pub extern "C" fn crane_table_answer(table: &[u8]) -> u8
+pub fn crane_table_answer(table: &[u8]) -> u8
     ensures { result ≡ table_form_answer table.now }
 {
     if wire::table::table_sound(table) {
@@ -19,8 +18,7 @@ pub extern "C" fn crane_table_answer(table: &[u8]) -> u8
 }
 
 // 0 for a valid record under the template with an ID, else 21, 15 or 16.
-#[unsafe(no_mangle)]
-pub extern "C" fn crane_record_answer(table: &[u8], id: u16, r: &[u8]) -> u8
+pub fn crane_record_answer(table: &[u8], id: u16, r: &[u8]) -> u8
     ensures { result ≡ record_answer table.now id r.now }
 {
     wire::record::record_answer(table, id, r)
@@ -37,8 +35,7 @@ fn template_part(part: u8, m: Template) -> u64
 
 // A part of what finding the template with an ID answers, by its number: 0 the answer, and of a template 1 the place of its first key
 // block, 2 how many key blocks it has.
-#[unsafe(no_mangle)]
-pub extern "C" fn crane_find_part(table: &[u8], id: u16, part: u8) -> u64
+pub fn crane_find_part(table: &[u8], id: u16, part: u8) -> u64
     ensures { result ≡ found_part part (find_of table.now id) }
 {
     let found = wire::table::find_template(table, id);
