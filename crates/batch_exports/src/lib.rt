@@ -116,7 +116,7 @@ pub extern "C" fn crane_batch(
     part: u8,
 ) -> u64
     ensures { HandedBack
-        (end_of (record { tape = tape.entry.now; place = place; end = end; number = number; lent = lent })
+        (end_of (record { tape = tape.now; place = place; end = end; number = number; lent = lent })
         store.old out.old (length messages.old))
         part messages.old result store.new out.new messages.new }
 {

@@ -82,7 +82,7 @@ fn play(
     out: &mut [u8],
 ) -> u64
     ensures { PlayedTo (played
-        (record { table = table.entry.now; template = id; octets = r.now; events = events.now })
+        (record { table = table.now; template = id; octets = r.now; events = events.now })
         (event_count events.now)
         (progress state store.old out.old total)) result store.new out.new }
 {
@@ -143,7 +143,7 @@ pub extern "C" fn crane_session(
     out: &mut [u8],
 ) -> u64
     ensures { PlayedTo (session_end (settings_of servers threshold duration initial)
-        (record { table = table.entry.now; template = id; octets = r.now; events = events.now })
+        (record { table = table.now; template = id; octets = r.now; events = events.now })
         store.old out.old) result store.new out.new }
 {
     let made = exporter::set_up::set_up(settings(servers, threshold, duration, initial), store);
