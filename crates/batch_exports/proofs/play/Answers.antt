@@ -1,3 +1,4 @@
+-- `play`: the answers to what its invariant leaves.
 use Rattle.std.proofs.Common.{◌≡◌, ◌-◌, refl, arith}
 use Rattle.batch_exports.specs.Calls.{progress, played}
 use Rattle.batch_exports.proofs.Calls.{played_more}

@@ -1,3 +1,4 @@
+-- `play`: the answers to what its invariant leaves.
 use Rattle.std.proofs.Common.{refl, arith, add-one}
 use Rattle.sessions.specs.Sessions.{played, after, call_at}
 use Rattle.sessions.proofs.Turns.{put_writes_nothing, tick_writes_nothing}
