@@ -1,6 +1,7 @@
 -- `write_session_start` meets its contract: header and fields are put one behind the other.
 use mathlib.Core.Path.{refl}
 use mathlib.Core.List.{[], ◌∷◌}
+use native.Mathlib.Omega.{arith}
 use Rattle.ipdr.specs.Messages.{session_start, session_start_values, numbers, widths_of, is_counted}
 use Rattle.ipdr.proofs.Messages.{bare_short, bare_done}
 use Rattle.ipdr_writing.proofs.write.write_session_start.Goals as goal
@@ -31,7 +32,7 @@ returns c =
     let a = b39.args in
     λ part.
     bare_done (numbers session_start a.session (session_start_values a.fields)) part a.out.now
-    (4 ∷ 8 ∷ 8 ∷ 1 ∷ 4 ∷ 4 ∷ 8 ∷ 8 ∷ []) refl refl _ _ b37.if-out-lt-SESSION_START_OCTETS.false
+    (4 ∷ 8 ∷ 8 ∷ 1 ∷ 4 ∷ 4 ∷ 8 ∷ 8 ∷ []) refl refl _ _ (omega arith)
     b34.put_header.ensures
     (rw (
       ← b36.octet_of-primary.ensures,

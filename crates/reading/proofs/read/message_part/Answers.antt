@@ -36,7 +36,7 @@ returns-then-number-eq-DATA c =
     let a = c.args.message in
     let h = sym c.header_answer.ensures ∙ c.if-header_answer-ne-DONE.false in
     let e = uint_one a.now 1 ∙ c.if-number-eq-DATA.true in
-    let p = part_of_data a.now (long_read a.now h e c.if-message-lt-DATA_HEAD_OCTETS.false) e in
+    let p = part_of_data a.now (long_read a.now h e (omega arith)) e in
     (take_rest a.now 16 ∙ sym p.1, (refl, ap (λ (k : ℕ). k + a.ref_ptr.1) (sym p.0)))
 
 pub returns-then-number-ne-TMPL_DATA : goal.returns-then-number-ne-TMPL_DATA

@@ -2,6 +2,7 @@
 -- front.
 use borrow.Author.Tests.{lt-ltb, le-ltb}
 use lib.ListN.{length}
+use native.Mathlib.Omega.{arith}
 use Rattle.octets.proofs.Judging.{answered_with_lem}
 use Rattle.messages.specs.Messages.{max_record_octets, head_write_answer, head_write_of, head_write_out}
 use Rattle.messages.proofs.RoundTrip.{head_number}
@@ -17,7 +18,7 @@ returns-then-len-gt-MAX_RECORD_OCTETS c =
 pub returns-then-out-total : goal.returns-then-out-total
 unfolding head_write_answer head_write_of head_write_out
 returns-then-out-total c =
-    let few = le-ltb max_record_octets _ c.if-len-gt-MAX_RECORD_OCTETS.false in
+    let few = le-ltb max_record_octets c.args.len (omega arith) in
     let short = lt-ltb _ _ c.if-out-total.true in
     let a = c.args in
     answered_with_lem (head_number a.len (length a.out.now)) (rw (few, short), rw (few, short))
@@ -25,7 +26,7 @@ returns-then-out-total c =
 pub returns : goal.returns
 unfolding head_write_answer head_write_of head_write_out
 returns c =
-    let few = le-ltb max_record_octets _ c.if-len-gt-MAX_RECORD_OCTETS.false in
+    let few = le-ltb max_record_octets c.args.len (omega arith) in
     let room = le-ltb _ _ c.if-out-total.false in
     let a = c.args in
     answered_with_lem (head_number a.len (length a.out.now)) (rw (few, room), rw (few, room) c.put_data_head.ensures)
