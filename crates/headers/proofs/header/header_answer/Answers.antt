@@ -1,6 +1,8 @@
 -- `header_answer` meets its contract: each way out is the first check that holds, and octets read one by one make the numbers tested.
 use mathlib.Core.List.{[], ◌∷◌}
 use mathlib.Core.Path.{refl, ◌∙◌}
+use native.Mathlib.Omega.{arith}
+use lib.ListN.{length}
 use borrow.Author.Tests.{lt-ltb, le-ltb, eq-eqb, ne_eqb}
 use Rattle.octets.proofs.Numbers.{uint_one, uint_read}
 use Rattle.headers.specs.Headers.{header_answer_for}
@@ -12,14 +14,14 @@ returns-then-message-lt-HEADER_OCTETS c = rw (lt-ltb _ _ c.if-message-lt-HEADER_
 
 pub returns-then-message-version : goal.returns-then-message-version
 unfolding header_answer_for
-returns-then-message-version c = rw (le-ltb _ _ c.if-message-lt-HEADER_OCTETS.false, uint_one _ 0, ne_eqb _ _ c.if-message-version.true)
+returns-then-message-version c = rw (le-ltb (length c.args.message.now) 8 (omega arith), uint_one _ 0, ne_eqb _ _ c.if-message-version.true)
 
 pub returns-then-len-message : goal.returns-then-len-message
 unfolding header_answer_for
 returns-then-len-message c =
     let m = c.args.message.now in
     rw (
-      le-ltb _ _ c.if-message-lt-HEADER_OCTETS.false,
+      le-ltb (length c.args.message.now) 8 (omega arith),
       uint_one m 0,
       eq-eqb _ _ c.if-message-version.false,
       ← (c.u32_of-len.ensures ∙ uint_read m 4 4 (4 ∷ 5 ∷ 6 ∷ 7 ∷ []) refl (refl, (refl, (refl, (refl, tt))))),
@@ -31,7 +33,7 @@ unfolding header_answer_for
 returns c =
     let m = c.args.message.now in
     rw (
-      le-ltb _ _ c.if-message-lt-HEADER_OCTETS.false,
+      le-ltb (length c.args.message.now) 8 (omega arith),
       uint_one m 0,
       eq-eqb _ _ c.if-message-version.false,
       ← (c.u32_of-len.ensures ∙ uint_read m 4 4 (4 ∷ 5 ∷ 6 ∷ 7 ∷ []) refl (refl, (refl, (refl, (refl, tt))))),

@@ -1,5 +1,5 @@
 -- `read_header` meets its contract: it answers what the header says where the header is not refused, and the refusal otherwise.
-use mathlib.Core.Path.{sym, ◌∙◌}
+use mathlib.Core.Path.{◌≡◌, sym, ◌∙◌}
 use native.Mathlib.Omega.{arith}
 use borrow.Author.Tests.{eq-eqb, ne_eqb}
 use Rattle.octets.proofs.Numbers.{uint_one}
@@ -10,12 +10,14 @@ use Rattle.headers.proofs.header.read_header.Goals as goal
 
 pub bounds-message-2 : goal.bounds-message-2
 bounds-message-2 c =
-    let long = header_long _ _ (sym c.header_answer-answer.ensures ∙ c.if-answer-eq-DONE.true) in
+    let told : c.header_answer-answer.result ≡ 0 = omega arith in
+    let long = header_long _ _ (sym c.header_answer-answer.ensures ∙ told) in
     omega arith
 
 pub bounds-message-1 : goal.bounds-message-1
 bounds-message-1 c =
-    let long = header_long _ _ (sym c.header_answer-answer.ensures ∙ c.if-answer-eq-DONE.true) in
+    let told : c.header_answer-answer.result ≡ 0 = omega arith in
+    let long = header_long _ _ (sym c.header_answer-answer.ensures ∙ told) in
     omega arith
 
 pub returns-then-answer-eq-DONE : goal.returns-then-answer-eq-DONE
