@@ -5,10 +5,12 @@ use mathlib.Core.Bool.{Bool, true, false, cond, not, ◌&&◌, false≢true}
 use mathlib.Core.List.{List, ◌++◌}
 use Prim.Native.Nat.{ℕ, ◌+◌, ◌*◌, ◌^◌, ◌≤◌, ◌<◌}
 use native.Mathlib.Omega.{arith}
+use borrow.Author.Rules.{rules}
 use borrow.Author.Tests.{le-leb, lt-leb, le-ltb, lt-ltb, leb-true, leb-false, ltb-true, eqb-true, eqb-false, not-true}
 use lib.Dec.{eqb, leb, ltb}
 use lib.ListN.{length, get_or, length-append}
-use Rattle.octets.specs.Answers.{record_invalid, output_too_short}
+use Rattle.std.specs.Prelude.{Result, Ok, Err}
+use Rattle.octets.specs.Answers.{judged, refusal_of}
 use Rattle.octets.specs.Numbers.{put_at}
 use Rattle.numbers.specs.declared.OctetOrder.{OctetOrder}
 use Rattle.octets.proofs.Stores.{put_short, put_join}
@@ -17,35 +19,53 @@ use Rattle.field_types.specs.FieldTypes.{width_of, is_number, is_signed, boolean
 use Rattle.appending.specs.Append.{value_fits, number_fits, negative_fits, octets_fit, field_octets, append_answer, append_of, append_out}
 use Rattle.appending.specs.Append.{stored_of, Stored}
 use Rattle.records.specs.declared.walk.Value.{Value}
-use Rattle.appending.specs.declared.append.Appended.{Appended}
-use Rattle.appending.specs.declared.append.Appended.TheVariants.{Next, Refused}
+use Rattle.numbers.specs.declared.refusal.Refusal.{Refusal}
+use Rattle.numbers.specs.declared.refusal.Refusal.TheVariants.{OutputTooShort, RecordInvalid}
 use Rattle.octets.proofs.Each.{and_left, and_right}
 use Rattle.field_types.proofs.TypeFacts.{number_width, signed_number, boolean_unsigned, boolean_width}
 
+-- what `place_after` says: there is room, and the place is the one behind; or there is none
+pub has_room : (end room : ℕ) {place : ℕ} → ◌≡◌ {A = Result ℕ Refusal} (cond (leb end room) (Ok end) (Err OutputTooShort)) (Ok place)
+    → (end ≤ room) × (place ≡ end)
+has_room end room {place = place} = go (leb end room) refl
+  where
+    go : (b : Bool) → leb end room ≡ b → ◌≡◌ {A = Result ℕ Refusal} (cond b (Ok end) (Err OutputTooShort)) (Ok place)
+        → (end ≤ room) × (place ≡ end)
+    go true e h = (leb-true end room e, cc)
+    go false e h = absurd (search rules)
+
+pub no_room : (end room : ℕ) {refusal : Refusal} → cond (leb end room) (Ok end) (Err OutputTooShort) ≡ Err refusal
+    → (room < end) × (refusal ≡ OutputTooShort)
+no_room end room {refusal = refusal} = go (leb end room) refl
+  where
+    go : (b : Bool) → leb end room ≡ b → cond b (Ok end) (Err OutputTooShort) ≡ Err refusal → (room < end) × (refusal ≡ OutputTooShort)
+    go true e h = absurd (search rules)
+    go false e h = (leb-false end room e, cc)
+
 -- a field that does not fit, and one that does
-pub stored_short : (field out : List ℕ) (at : ℕ) → length out < at + length field → Stored field out at (Refused output_too_short) out
+pub stored_short : (field out : List ℕ) (at : ℕ) → length out < at + length field → Stored field out at (Err OutputTooShort) out
 unfolding stored_of
 stored_short field out at h = (rw (lt-leb (at + length field) (length out) h), sym (put_short out at field h))
 
 pub stored_fits : (field out : List ℕ) (at place : ℕ) (after : List ℕ) → at + length field ≤ length out → place ≡ at + length field
-    → after ≡ put_at out at field → Stored field out at (Next place) after
+    → after ≡ put_at out at field → Stored field out at (Ok place) after
 unfolding stored_of
-stored_fits field out at place after h e f = (rw (le-leb (at + length field) (length out) h) (ap Next e), f)
+stored_fits field out at place after h e f = (rw (le-leb (at + length field) (length out) h) (ap Ok e), f)
 
 -- a field of two parts, one behind the other, and what does not fit of it
 pub joined_short : (a b out : List ℕ) (at : ℕ) → length out < at + (length a + length b)
-    → Stored (a ++ b) out at (Refused output_too_short) out
+    → Stored (a ++ b) out at (Err OutputTooShort) out
 joined_short a b out at h = stored_short (a ++ b) out at (rw length-append h)
 
 pub joined_fits : (a b out : List ℕ) (at place : ℕ) (after : List ℕ) → at + length a + length b ≤ length out
-    → place ≡ at + length a + length b → after ≡ put_at (put_at out at a) (at + length a) b → Stored (a ++ b) out at (Next place) after
+    → place ≡ at + length a + length b → after ≡ put_at (put_at out at a) (at + length a) b → Stored (a ++ b) out at (Ok place) after
 joined_fits a b out at place after h e f =
     let n = length-append a b in
     stored_fits (a ++ b) out at place after (omega arith) (omega arith) (f ∙ put_join out at a b h)
 
 -- ---- appending is storing the field of a value that fits, and refusing any other
 
-abbrev pub Appending : OctetOrder → ℕ → Value → List ℕ → List ℕ → ℕ → Appended → List ℕ → Type 0
+abbrev pub Appending : OctetOrder → ℕ → Value → List ℕ → List ℕ → ℕ → Result ℕ Refusal → List ℕ → Type 0
 Appending order type value octets out at answer after =
     (answer ≡ append_of order type value octets out at) × (after ≡ append_out order type value octets out at)
 
@@ -57,7 +77,7 @@ stored_answer field out at false e = lt-ltb (length out) (at + length field) (le
 pub append_stores : (order : OctetOrder) (type : ℕ) (value : Value) (octets out : List ℕ) (at : ℕ) → value_fits type value octets ≡ true
     → Appending order type value octets out at (stored_of (field_octets order type value octets) out at)
     (put_at out at (field_octets order type value octets))
-unfolding append_of append_out append_answer stored_of put_at
+unfolding append_of append_out append_answer stored_of put_at judged refusal_of
 append_stores order type value octets out at h = go (leb (at + length field) (length out)) refl
   where
     field : List ℕ
@@ -69,8 +89,8 @@ append_stores order type value octets out at h = go (leb (at + length field) (le
     go false e = (rw (h, stored_answer field out at false e, e), rw (h, stored_answer field out at false e, e))
 
 -- a value v that fits, whose field was stored
-pub append_stored : (order : OctetOrder) (type : ℕ) (value v : Value) (octets out : List ℕ) (at : ℕ) (answer : Appended) (after : List ℕ)
-    → value ≡ v → value_fits type v octets ≡ true → Stored (field_octets order type v octets) out at answer after
+pub append_stored : (order : OctetOrder) (type : ℕ) (value v : Value) (octets out : List ℕ) (at : ℕ) (answer : Result ℕ Refusal)
+    (after : List ℕ) → value ≡ v → value_fits type v octets ≡ true → Stored (field_octets order type v octets) out at answer after
     → Appending order type value octets out at answer after
 append_stored order type value v octets out at answer after e h s =
     let a = append_stores order type v octets out at h in
@@ -78,8 +98,8 @@ append_stored order type value v octets out at answer after e h s =
 
 -- a value v that does not fit
 pub append_refused : (order : OctetOrder) (type : ℕ) (value v : Value) (octets out : List ℕ) (at : ℕ) → value ≡ v
-    → value_fits type v octets ≡ false → Appending order type value octets out at (Refused record_invalid) out
-unfolding append_of append_out append_answer
+    → value_fits type v octets ≡ false → Appending order type value octets out at (Err RecordInvalid) out
+unfolding append_of append_out append_answer judged refusal_of
 append_refused order type value v octets out at e h = rw (e, h) (refl, refl)
 
 -- ---- the octets that fit a type, by the kind of type

@@ -7,14 +7,15 @@ use Prim.Native.Nat.{ℕ, zero, suc, ◌+◌, ◌-◌, ◌*◌, ◌^◌, ◌≤�
 use native.Mathlib.Nat.{add-zero, zero-add, add_assoc}
 use native.Mathlib.Omega.{arith}
 use borrow.Author.Tests.{lt-leb, lt-ltb, le-ltb, eq-eqb, ne_eqb, ltb-false, eqb-true, eqb-false, not-true}
-use lib.Dec.{eqb, ltb}
+use lib.Dec.{eqb, ltb, lit≤}
 use lib.ListN.{length, get_or, take, drop, length-append, length-drop, get_or-append}
 use lib.Seq.{sets, length-sets, length-take-le, get_or-append-add, get_or-append_seam, get_or-take, get_or-drop, ext_get_or}
-use Rattle.octets.specs.Answers.{done, record_invalid, output_too_short}
+use Rattle.std.specs.Prelude.{Ok, Some}
+use Rattle.octets.specs.Answers.{done, judged, answer_number, record_invalid, output_too_short}
 use Rattle.octets.specs.Numbers.{uint_in, octets_in}
 use Rattle.numbers.specs.declared.OctetOrder.{OctetOrder}
 use Rattle.octets.proofs.Numbers.{uint_in_same, uint_in_front, uint_in_one, octets_in_length, read_back_in}
-use Rattle.octets.proofs.Judging.{kept}
+use Rattle.octets.proofs.Judging.{judged_number}
 use Rattle.octets.proofs.Stores.{sets_at}
 use Rattle.octets.specs.Each.{every, first_from}
 use Rattle.field_types.specs.FieldTypes.{width_of, is_number, is_signed, field_order, boolean_type, string_type, terminated_type, blob_type}
@@ -22,13 +23,11 @@ use Rattle.tables.specs.Table.{table_order, key_at, key_type}
 use Rattle.records.specs.Record.{left, fixed_length, blob_length, string_length, terminated_length, field_length}
 use Rattle.records.specs.Walk.{signed_at, value_at, next_key, step_under}
 use Rattle.appending.specs.Append.{number_fits, negative_fits, value_fits, octets_field, field_octets, append_answer, append_of, append_out}
-use Rattle.appending.specs.Append.{appended_answer, prefix_octets}
+use Rattle.appending.specs.Append.{prefix_octets}
 use Rattle.tables.specs.declared.table.Template.{Template}
 use Rattle.records.specs.declared.walk.Value.{Value}
 use Rattle.records.specs.declared.walk.Value.TheVariants.{Octets, Number, Negative}
 use Rattle.records.specs.declared.walk.Cursor.{Cursor}
-use Rattle.records.specs.declared.walk.Step.TheVariants as step
-use Rattle.appending.specs.declared.append.Appended.TheVariants.{Next, Refused}
 use Rattle.octets.proofs.Each.{every_at, every_same}
 use Rattle.field_types.proofs.TypeFacts.{number_width, signed_number, boolean_unsigned, boolean_width, fixed_type, no_number}
 use Rattle.appending.proofs.Appends.{octets_cases, NumberRange, number_range, negative_range, negative_signed}
@@ -288,9 +287,16 @@ stored_reads_back order type value octets out at fits room =
 
 -- the answer number of appending is the number that it is judged by
 pub append_answer_lem : (order : OctetOrder) (type : ℕ) (value : Value) (octets out : List ℕ) (at : ℕ)
-    → appended_answer (append_of order type value octets out at) ≡ append_answer order type value octets out at
-unfolding append_of
-append_answer_lem order type value octets out at = kept appended_answer _ Refused refl (λ a. refl) (append_answer order type value octets out at)
+    → answer_number (append_of order type value octets out at) ≡ append_answer order type value octets out at
+unfolding append_of append_answer
+append_answer_lem order type value octets out at =
+    judged_number (append_answer order type value octets out at) _
+    (go (value_fits type value octets) (ltb (length out) (at + length (field_octets order type value octets))))
+  where
+    go : (v s : Bool) → cond (not v) record_invalid (cond s output_too_short done) ≤ 22
+    go false s = lit≤ tt
+    go true true = lit≤ tt
+    go true false = lit≤ tt
 
 -- appending that was done: the value fits and so does its field, and it is read back from the output
 pub append_done : (order : OctetOrder) (type : ℕ) (value : Value) (octets out : List ℕ) (at : ℕ)
@@ -318,9 +324,9 @@ append_reads_back order type value octets out at h =
 -- a value that fits and has room is appended
 pub append_accepts : (order : OctetOrder) (type : ℕ) (value : Value) (octets out : List ℕ) (at : ℕ) → value_fits type value octets ≡ true
     → at + length (field_octets order type value octets) ≤ length out
-    → (append_of order type value octets out at ≡ Next (at + length (field_octets order type value octets)))
+    → (append_of order type value octets out at ≡ Ok (at + length (field_octets order type value octets)))
     × (append_out order type value octets out at ≡ sets out at (field_octets order type value octets))
-unfolding append_answer append_of append_out
+unfolding append_answer append_of append_out judged
 append_accepts order type value octets out at h room =
     let e = le-ltb (length out) (at + length (field_octets order type value octets)) room in (rw (h, e), rw (h, e))
 
@@ -328,8 +334,10 @@ append_accepts order type value octets out at h room =
 pub step_reads_back : (t : List ℕ) (m : Template) (type : ℕ) (value : Value) (octets r : List ℕ) (c : Cursor)
     → next_key t m c.index < m.count → key_type t (key_at m.keys (next_key t m c.index)) ≡ type
     → ReadsBack (table_order t) type value octets r c.at → step_under t m r c
-    ≡ step.Next (record { kind = type; at = c.at; len = length (field_octets (table_order t) type value octets); value = value })
-    (record { index = next_key t m c.index + 1; at = c.at + length (field_octets (table_order t) type value octets) })
+    ≡ Ok (Some (
+      record { kind = type; at = c.at; len = length (field_octets (table_order t) type value octets); value = value },
+      record { index = next_key t m c.index + 1; at = c.at + length (field_octets (table_order t) type value octets) },
+    ))
 unfolding step_under
 step_reads_back t m type value octets r c more kind b =
     rw (

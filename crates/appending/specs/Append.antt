@@ -1,7 +1,8 @@
 -- Writing a single field into the caller's octets (01, "Template table"; 02, ask 6).
 use Rattle.std.specs.Prelude.{ℕ, ◌+◌, ◌-◌, ◌*◌, ◌^◌, ◌≡◌, Bool, cond, not, ◌&&◌, List, [], ◌∷◌, ◌++◌, eqb, leb, ltb, length, get_or}
+use Rattle.std.specs.Prelude.{Result, Ok, Err}
 use Rattle.std.proofs.lemmas.List.Edits.{sets}
-use Rattle.octets.specs.Answers.{done, ◌when◌, judge, record_invalid, output_too_short}
+use Rattle.octets.specs.Answers.{done, ◌when◌, judge, judged, record_invalid, output_too_short}
 use Rattle.octets.specs.Numbers.{octets_in, put_at, ascii_limit}
 use Rattle.octets.specs.Each.{every}
 use Rattle.numbers.specs.declared.OctetOrder.{OctetOrder}
@@ -9,8 +10,8 @@ use Rattle.field_types.specs.FieldTypes.{width_of, is_number, is_signed, field_o
 use Rattle.records.specs.Record.{length_octets}
 use Rattle.records.specs.declared.walk.Value.{Value}
 use Rattle.records.specs.declared.walk.Value.TheVariants.{Octets, Number, Negative}
-use Rattle.appending.specs.declared.append.Appended.{Appended}
-use Rattle.appending.specs.declared.append.Appended.TheVariants.{Next, Refused}
+use Rattle.numbers.specs.declared.refusal.Refusal.{Refusal}
+use Rattle.numbers.specs.declared.refusal.Refusal.TheVariants.{OutputTooShort}
 
 -- A number is of a type: a Boolean is 0 or 1; unsigned types of w octets hold the numbers below 256 to the w, signed ones those below
 -- half of it, and no other type holds a number.
@@ -70,27 +71,21 @@ append_answer order type value octets out at =
     ∷ [])
 
 -- It answers the place after the field, or the refusal.
-unfoldable pub append_of : OctetOrder → ℕ → Value → List ℕ → List ℕ → ℕ → Appended
+unfoldable pub append_of : OctetOrder → ℕ → Value → List ℕ → List ℕ → ℕ → Result ℕ Refusal
 append_of order type value octets out at =
-    let answer = append_answer order type value octets out at in
-    cond (eqb answer done) (Next (at + length (field_octets order type value octets))) (Refused answer)
+    judged (append_answer order type value octets out at) (at + length (field_octets order type value octets))
 
 -- The output afterwards: the field at its place and nothing else changed, or as it was.
 unfoldable pub append_out : OctetOrder → ℕ → Value → List ℕ → List ℕ → ℕ → List ℕ
 append_out order type value octets out at =
     cond (eqb (append_answer order type value octets out at) done) (sets out at (field_octets order type value octets)) out
 
--- The answer number of appending.
-abbrev pub appended_answer : Appended → ℕ
-appended_answer (Next place) = done
-appended_answer (Refused a) = a
-
 -- ---- a field stored where it fits
 
 -- 12 where a field does not fit at its place, and otherwise the place after it.
-unfoldable pub stored_of : List ℕ → List ℕ → ℕ → Appended
-stored_of field out at = cond (leb (at + length field) (length out)) (Next (at + length field)) (Refused output_too_short)
+unfoldable pub stored_of : List ℕ → List ℕ → ℕ → Result ℕ Refusal
+stored_of field out at = cond (leb (at + length field) (length out)) (Ok (at + length field)) (Err OutputTooShort)
 
 -- What storing a field at a place answers, and the output afterwards.
-abbrev pub Stored : List ℕ → List ℕ → ℕ → Appended → List ℕ → Type 0
+abbrev pub Stored : List ℕ → List ℕ → ℕ → Result ℕ Refusal → List ℕ → Type 0
 Stored field out at answer after = (answer ≡ stored_of field out at) × (after ≡ put_at out at field)

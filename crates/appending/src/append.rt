@@ -1,23 +1,16 @@
 // Appending one field to lent output.
-ghost use Rattle.std.specs.Prelude.{◌≡◌, [], ◌∷◌, ◌++◌, not, eqb, length, get_or};
-ghost use Rattle.octets.specs.Answers.{Answered};
+ghost use Rattle.std.specs.Prelude.{◌≡◌, [], ◌∷◌, ◌++◌, ◌+◌, not, cond, eqb, leb, length, get_or, Ok, Err};
+ghost use Rattle.octets.specs.Answers.{Answered, answer_number};
 ghost use Rattle.octets.specs.Numbers.{octets_in};
+ghost use Rattle.numbers.specs.declared.refusal.Refusal.TheVariants.{OutputTooShort};
 ghost use Rattle.octets.specs.Each.{every};
 ghost use Rattle.records.specs.Record.{length_octets};
 ghost use Rattle.appending.specs.Append.{number_fits, negative_fits, octets_fit, octets_field, Stored, append_answer, append_of, append_out};
-ghost use Rattle.appending.specs.Append.{appended_answer};
 
 use field_types::field_type::FieldType;
-use octets::{Answer, OctetOrder};
+use octets::{OctetOrder, Refusal};
 use records::record::LENGTH_OCTETS;
 use records::walk::Value;
-
-// What appending answers: the place after the field, or the refusal.
-#[derive(Clone, Copy)]
-pub enum Appended {
-    Next(usize),
-    Refused(u8),
-}
 
 // A 32-bit length is below this.
 const LENGTH_LIMIT: usize = 4294967296;
@@ -56,13 +49,7 @@ fn negative_fits(kind: u16, n: u64) -> bool
 fn none_zero(octets: &[u8]) -> bool
     ensures { result ≡ every (length octets.now) (λ i. not (eqb (get_or octets.now i 0) 0)) }
 {
-    let mut ok = true;
-    let mut i: usize = 0;
-    while i < octets.len() {
-        ok = ok & !(octets[i] == 0);
-        i += 1;
-    }
-    ok
+    octets.iter().all(|octet| *octet != 0)
 }
 
 // Whether octets are of a type.
@@ -84,67 +71,79 @@ fn octets_fit(kind: u16, octets: &[u8]) -> bool
     (0 < width) & (!field_type.is_number() & (octets.len() == width))
 }
 
+// The place after n octets at a place, or 12 where the output has less room.
+fn place_after(room: usize, at: usize, n: usize) -> Result<usize, Refusal>
+    ensures { result ≡ cond (leb (at + n) room) (Ok (at + n)) (Err OutputTooShort) }
+{
+    if at <= room {
+        if n <= room - at {
+            return Ok(at + n);
+        }
+    }
+    Err(Refusal::OutputTooShort)
+}
+
 // Stores a number in w octets at a place, in an order: the place after it, or 12 where it does not fit.
-fn store_number(order: OctetOrder, w: usize, n: u64, out: &mut [u8], at: usize) -> Appended
+fn store_number(
+    order: OctetOrder,
+    w: usize,
+    n: u64,
+    out: &mut [u8],
+    at: usize,
+) -> Result<usize, Refusal>
     ensures { Stored (octets_in order w n) out.old at result out.new }
 {
-    if out.len() < at {
-        return Appended::Refused(Answer::OUTPUT_TOO_SHORT);
-    }
-    if octets::saturating_sub(out.len(), at) < w {
-        return Appended::Refused(Answer::OUTPUT_TOO_SHORT);
-    }
+    let end = place_after(out.len(), at, w)?;
     octets::put_uint(order, out, at, w, n);
-    Appended::Next(at + w)
+    Ok(end)
 }
 
 // Stores octets at a place: the place after them, or 12 where they do not fit.
-fn store_plain(octets: &[u8], out: &mut [u8], at: usize) -> Appended
+fn store_plain(octets: &[u8], out: &mut [u8], at: usize) -> Result<usize, Refusal>
     ensures { Stored octets.now out.old at result out.new }
 {
-    if out.len() < at {
-        return Appended::Refused(Answer::OUTPUT_TOO_SHORT);
-    }
-    if octets::saturating_sub(out.len(), at) < octets.len() {
-        return Appended::Refused(Answer::OUTPUT_TOO_SHORT);
-    }
+    let end = place_after(out.len(), at, octets.len())?;
     octets::copy(out, at, octets);
-    Appended::Next(at + octets.len())
+    Ok(end)
 }
 
 // Stores octets and a zero behind them at a place: the place after the zero, or 12 where they do not fit.
-fn store_terminated(octets: &[u8], out: &mut [u8], at: usize) -> Appended
+fn store_terminated(octets: &[u8], out: &mut [u8], at: usize) -> Result<usize, Refusal>
     ensures { Stored (octets.now ++ (0 ∷ [])) out.old at result out.new }
 {
-    if octets::saturating_sub(out.len(), at) <= octets.len() {
-        return Appended::Refused(Answer::OUTPUT_TOO_SHORT);
-    }
-    let end = at + octets.len();
+    let zero_at = place_after(out.len(), at, octets.len())?;
+    let end = place_after(out.len(), zero_at, 1)?;
     octets::copy(out, at, octets);
-    octets::put_u8(out, end, 0);
-    Appended::Next(end + 1)
+    octets::put(out, zero_at, 0u8);
+    Ok(end)
 }
 
 // Stores octets behind their 32-bit length, which has an order, at a place: the place after them, or 12 where they do not fit.
-fn store_counted(order: OctetOrder, octets: &[u8], out: &mut [u8], at: usize) -> Appended
+fn store_counted(
+    order: OctetOrder,
+    octets: &[u8],
+    out: &mut [u8],
+    at: usize,
+) -> Result<usize, Refusal>
     ensures { Stored (octets_in order length_octets (length octets.now) ++ octets.now)
         out.old at result out.new }
 {
-    if octets::saturating_sub(out.len(), at) < LENGTH_OCTETS {
-        return Appended::Refused(Answer::OUTPUT_TOO_SHORT);
-    }
-    let start = at + LENGTH_OCTETS;
-    if octets::saturating_sub(out.len(), start) < octets.len() {
-        return Appended::Refused(Answer::OUTPUT_TOO_SHORT);
-    }
+    let start = place_after(out.len(), at, LENGTH_OCTETS)?;
+    let behind = place_after(out.len(), start, octets.len())?;
     octets::put_uint(order, out, at, LENGTH_OCTETS, octets.len() as u64);
     octets::copy(out, start, octets);
-    Appended::Next(start + octets.len())
+    Ok(behind)
 }
 
 // Stores the field that holds octets of a type at a place, a length in front in an octet order: the place after it, or 12 where it does
 // not fit.
-fn store_octets(order: OctetOrder, kind: u16, octets: &[u8], out: &mut [u8], at: usize) -> Appended
+fn store_octets(
+    order: OctetOrder,
+    kind: u16,
+    octets: &[u8],
+    out: &mut [u8],
+    at: usize,
+) -> Result<usize, Refusal>
     ensures { Stored (octets_field order kind octets.now) out.old at result out.new }
 {
     if kind == FieldType::NULL_TERMINATED_STRING {
@@ -166,8 +165,8 @@ pub fn append(
     octets: &[u8],
     out: &mut [u8],
     at: usize,
-) -> Appended
-    ensures { Answered appended_answer result (append_of order kind value octets.now out.old at)
+) -> Result<usize, Refusal>
+    ensures { Answered answer_number result (append_of order kind value octets.now out.old at)
         (append_answer order kind value octets.now out.old at)
         × (out.new ≡ append_out order kind value octets.now out.old at) }
 {
@@ -179,19 +178,19 @@ pub fn append(
             if octets_fit(kind, octets) {
                 return store_octets(field_order, kind, octets, out, at);
             }
-            Appended::Refused(Answer::RECORD_INVALID)
+            Err(Refusal::RecordInvalid)
         }
         Value::Number(n) => {
             if number_fits(kind, n) {
                 return store_number(field_order, width, n, out, at);
             }
-            Appended::Refused(Answer::RECORD_INVALID)
+            Err(Refusal::RecordInvalid)
         }
         Value::Negative(n) => {
             if negative_fits(kind, n) {
                 return store_number(field_order, width, octets::greatest(width) - n + 1, out, at);
             }
-            Appended::Refused(Answer::RECORD_INVALID)
+            Err(Refusal::RecordInvalid)
         }
     }
 }

@@ -1,29 +1,29 @@
 -- A batch among the calls of a tape: an exporter is set up, calls of the tape are made, then one batch, then further calls of the tape.
 use Rattle.std.specs.Prelude.{ℕ, zero, suc, ◌+◌, ◌-◌, min, max, ◌≡◌, cond, List, eqb, length, take}
-use Rattle.octets.specs.Answers.{done}
-use Rattle.exporter.specs.Steps.{wrote_of, output_after}
+use Rattle.octets.specs.Answers.{done, answer_number}
+use Rattle.exporter.specs.Steps.{output_after}
 use Rattle.exporter.specs.InOctets.{Event}
 use Rattle.batches.specs.Batches.{BatchOutcome, batch, batch_of, output_after_batch}
 use Rattle.session.specs.declared.state.Batch.{Batch}
 use Rattle.session.specs.declared.state.State.{State}
-use Rattle.session.specs.declared.state.Wrote.{Wrote}
 use Rattle.contents.specs.Tape.{event_count, kind_at, server_at, body_of, min_events}
-use Rattle.events.specs.Events.{set_up_by, event_call, effect, effect_store}
+use Rattle.events.specs.Events.{set_up_by, event_call, effect, effect_store, left_of}
+use Rattle.events.specs.declared.Left.{Left}
 
 -- ---- the calls of a tape, one after the other
 
 -- Where the calls stand: what the last one answered, how many octets it wrote and the state that it left; the store and the output.
 pub record Progress : Type 0 where
-  pub last : Wrote
+  pub last : Left
   pub store : List ℕ
   pub out : List ℕ
 
 -- The same by its three parts.
-abbrev pub progress : Wrote → List ℕ → List ℕ → Progress
+abbrev pub progress : Left → List ℕ → List ℕ → Progress
 progress last store out = record { last = last; store = store; out = out }
 
 -- A state before the first call, as if a call had answered 0 and written nothing.
-abbrev pub uncalled : State → Wrote
+abbrev pub uncalled : State → Left
 uncalled s = record { state = s; answer = done; written = 0 }
 
 -- The call of event i, which is lent an output, and as table the body of event 1.
@@ -35,7 +35,7 @@ unfoldable pub after : List ℕ → ℕ → Progress → Progress
 after t i p =
     let s = p.last.state in
     let e = call_at t i p.out in
-    progress (wrote_of (effect s p.store e)) (effect_store s p.store e) (output_after p.out (effect s p.store e))
+    progress (left_of (effect s p.store e)) (effect_store s p.store e) (output_after p.out (effect s p.store e))
 
 -- After the calls of n events, the first of which is event i.
 unfoldable pub played : List ℕ → ℕ → ℕ → Progress → Progress
@@ -89,9 +89,9 @@ end_of g store out room =
 
 -- The number that is asked for: 0 the batch's answer, 1 how many messages it wrote, 2 how many octets; 3 the answer of the last call after
 -- the batch, any other how many octets that call wrote, and 0 of both where none was made.
-abbrev pub asked : ℕ → Batch → Wrote → ℕ
+abbrev pub asked : ℕ → Batch → Left → ℕ
 asked part b last =
-    cond (eqb part 0) b.answer
+    cond (eqb part 0) (answer_number b.answer)
     (cond (eqb part 1) b.count
     (cond (eqb part 2) b.written
     (cond (eqb part 3) last.answer last.written)))

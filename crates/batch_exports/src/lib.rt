@@ -2,17 +2,18 @@
 // sets an exporter up and makes the calls before the batch, the batch and the calls after it.
 #![tactic(auto)]
 
-ghost use Rattle.std.specs.Prelude.{◌≡◌, min, max, length, take};
+ghost use Rattle.std.specs.Prelude.{◌≡◌, length, take};
 ghost use Rattle.batches.specs.Batches.{batch, batch_of, output_after_batch};
 ghost use Rattle.contents.specs.Tape.{kind_at, server_at, body_of};
 ghost use Rattle.events.specs.Events.{event_call, Called};
 ghost use Rattle.batch_exports.specs.Calls.{progress, played_to, uncalled, asked, end_of, HandedBack};
 
 use contents::MIN_EVENTS;
-use exporter::state::{Batch, State, Wrote};
-use octets::Answer;
+use events::Left;
+use exporter::state::{Batch, State};
+use octets::{DONE, answer_number};
 
-// What can be asked: a batch's answer, how many messages and how many octets it wrote, and the answer of the last call after it. Any other
+// What can be asked, by numbers for C: a batch's answer, how many messages and how many octets it wrote, and the answer of the last call after it. Any other
 // number asks how many octets that call wrote.
 const BATCH_ANSWER: u8 = 0;
 
@@ -25,33 +26,19 @@ const LAST_ANSWER: u8 = 3;
 // The place of the first call, after settings and table.
 const FIRST_CALL: u16 = MIN_EVENTS;
 
-// The smaller of two numbers.
-fn smaller(a: u16, b: u16) -> u16
-    ensures { result ≡ min a b }
-{
-    if a < b { a } else { b }
-}
-
-// The larger of two numbers.
-fn larger(a: u16, b: u16) -> u16
-    ensures { result ≡ max a b }
-{
-    if a < b { b } else { a }
-}
-
-// A state before the first call, in the form of a call's answer.
-fn uncalled(state: State) -> Wrote
+// A state before the first call, as if a call had answered 0 and written nothing.
+fn uncalled(state: State) -> Left
     ensures { result ≡ uncalled state }
 {
-    Wrote {
+    Left {
         state,
-        answer: Answer::DONE,
+        answer: DONE,
         written: 0,
     }
 }
 
 // Makes the call of event i.
-fn call_at(s: State, tape: &[u8], i: u16, store: &mut [u8], out: &mut [u8]) -> Wrote
+fn call_at(s: State, tape: &[u8], i: u16, store: &mut [u8], out: &mut [u8]) -> Left
     ensures { Called (body_of tape.now 1) s store.old out.old
         (event_call (kind_at tape.now i) (server_at tape.now i) (body_of tape.now i) out.old)
         result store.new out.new }
@@ -64,17 +51,13 @@ fn call_at(s: State, tape: &[u8], i: u16, store: &mut [u8], out: &mut [u8]) -> W
 }
 
 // Makes the calls of the events from one to that before `end`, of those that the tape has.
-fn play(s: State, tape: &[u8], from: u16, end: u16, store: &mut [u8], out: &mut [u8]) -> Wrote
+fn play(s: State, tape: &[u8], from: u16, end: u16, store: &mut [u8], out: &mut [u8]) -> Left
     ensures { progress result store.new out.new
         ≡ played_to tape.now from end (progress (uncalled s) store.old out.old) }
 {
-    let n = smaller(end, contents::event_count(tape));
     let mut last = uncalled(s);
-    let mut i = from;
-    while i < n {
-        let state = last.state;
-        last = call_at(state, tape, i, store, out);
-        i += 1;
+    for i in from..end.min(contents::event_count(tape)) {
+        last = call_at(last.state, tape, i, store, out);
     }
     last
 }
@@ -88,11 +71,11 @@ fn batch_of(s: State, store: &[u8], lent: usize, messages: &mut [u8], number: us
 }
 
 // The number that is asked for.
-fn asked(part: u8, b: Batch, last: Wrote) -> u64
+fn asked(part: u8, b: Batch, last: Left) -> u64
     ensures { result ≡ asked part b last }
 {
     match part {
-        BATCH_ANSWER => b.answer as u64,
+        BATCH_ANSWER => answer_number(&b.answer) as u64,
         BATCH_COUNT => b.count as u64,
         BATCH_WRITTEN => b.written as u64,
         LAST_ANSWER => last.answer as u64,
@@ -121,11 +104,9 @@ pub extern "C" fn crane_batch(
         part messages.old result store.new out.new messages.new }
 {
     let made = events::set_up(contents::body(tape, 0), store);
-    let fresh = made.state;
+    let fresh = made.unwrap_or(exporter::set_up::refused_state());
     let before = play(fresh, tape, FIRST_CALL, place, store, out);
-    let reached = before.state;
-    let batch = batch_of(reached, store, lent, messages, number);
-    let left = batch.state;
-    let last = play(left, tape, larger(place, FIRST_CALL), end, store, out);
+    let batch = batch_of(before.state, store, lent, messages, number);
+    let last = play(batch.state, tape, place.max(FIRST_CALL), end, store, out);
     asked(part, batch, last)
 }

@@ -42,7 +42,7 @@ use Rattle.session.proofs.Places.{wide_modulus}
 use Rattle.session.proofs.Calls.{sound_for_lem}
 use Rattle.session.proofs.Demand.{Kept, run_keeps, begin_kept}
 use Rattle.session.proofs.InOctets.{run_means, all_in_range, demand3_in_octets}
-use Rattle.session.proofs.StepLaws.{step_done, step_answer_lem}
+use Rattle.session.proofs.StepLaws.{step_done, step_answer_lem, step_numbered}
 use Rattle.session.proofs.Written.{octets_fit_lem}
 use Rattle.session.proofs.Refusals.{refusals}
 
@@ -409,3 +409,15 @@ demand3_with_batches p store a i ls o =
       claim = demand3_in_octets p store a i (singles_of x ls) (list_octets x ls o);
       batches = batches_in_list p x ls o (record { history = fresh_history; kept = begin_kept (crane_session p) store m });
     }
+
+-- the answer of a batch is 0 or a refusal's number
+pub batch_numbered : (n room : ℕ) (s : State) (store : List ℕ) → (batch n room s store).answer ≤ 22
+unfolding batch checks
+batch_numbered zero room s store = go (sound_for next_data s store)
+  where
+    go : (b : Bool) → cond (not b) unsound_state done ≤ 22
+    go true = omega arith
+    go false = omega arith
+batch_numbered (suc n) room s store =
+    cond_cases (λ (b : BatchOutcome). b.answer ≤ 22) (eqb (step crane room next_data s store).answer done) _ _
+    (λ e. batch_numbered n _ _ store) (λ e. step_numbered crane room next_data s store refl)

@@ -1,6 +1,6 @@
 -- Batches worked out from the papers (02, ask 5): where each stops, with which answer, and what it wrote.
 use Rattle.std.specs.Prelude.{◌≡◌, List, [], ◌∷◌, ◌++◌, ℕ, replicate}
-use Rattle.octets.specs.Answers.{done, unsound_state, output_too_short, no_active_server, nothing_to_send}
+use Rattle.octets.specs.Answers.{judged, done, unsound_state, output_too_short, no_active_server, nothing_to_send}
 use Rattle.session.specs.Limits.{max_held}
 use Rattle.batches.specs.Batches.{batch, batch_of}
 use Rattle.session.specs.Examples.{alone}
@@ -45,7 +45,7 @@ exporter_for phase sent = alone phase 3 (replicate max_held 2) sent 1
 abbrev pub Holds : Row → Type 0
 Holds r =
     batch_of (batch r.number r.room (exporter_for r.phase r.sent) (replicate r.store_length 0))
-    ≡ record { answer = r.answer; count = r.count; written = r.written; state = exporter_for r.phase r.sent_after }
+    ≡ record { answer = judged r.answer tt; count = r.count; written = r.written; state = exporter_for r.phase r.sent_after }
 
 -- Every row holds.
 abbrev pub AllHold : List Row → Type 0

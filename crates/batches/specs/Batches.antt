@@ -2,7 +2,7 @@
 -- in a list of calls.
 use Rattle.std.specs.Prelude.{ℕ, zero, suc, ◌+◌, ◌-◌, ◌≤◌, ◌<◌, ◌≡◌, not, cond, List, [], ◌∷◌, ◌++◌, map, eqb, length, take, drop, replicate}
 use Rattle.std.proofs.lemmas.List.Edits.{sets}
-use Rattle.octets.specs.Answers.{◌when◌, judge, done, unsound_state}
+use Rattle.octets.specs.Answers.{◌when◌, judge, judged, done, unsound_state}
 use Rattle.wire.specs.Messages.{length_field, message_number, data_number, read_answer}
 use Rattle.wire.specs.Replies.{crane}
 use Rattle.session.specs.Limits.{max_held}
@@ -40,7 +40,7 @@ batch (suc n) room s store =
 
 -- What the call hands back: also how many octets it wrote.
 abbrev pub batch_of : BatchOutcome → Batch
-batch_of b = record { answer = b.answer; count = b.count; written = length b.octets; state = b.state }
+batch_of b = record { answer = judged b.answer tt; count = b.count; written = length b.octets; state = b.state }
 
 -- The output after it: its messages stand from the first octet on, and every other octet is as it was.
 abbrev pub output_after_batch : List ℕ → BatchOutcome → List ℕ

@@ -2,7 +2,8 @@
 #![tactic(auto)]
 
 use exporter::limits::SERVER_ENTRIES;
-use exporter::state::{Batch, Settings, State};
+use exporter::state::{Batch, Settings, State, Wrote};
+use octets::{Refusal, answer_number};
 use std::io;
 
 // A table with one template, ID 3, of one enabled key: a number of 16 bits.
@@ -26,86 +27,90 @@ const DATA_OCTETS: usize = 18;
 
 // Session 7, configuration 1, one server, the first DSN 0.
 fn settings() -> Settings {
-    let priorities = [0u8; SERVER_ENTRIES];
     Settings {
         session: 7,
         config: 1,
         boot: 3600,
         initial: 0,
         servers: 1,
-        priorities,
+        priorities: [0u8; SERVER_ENTRIES],
         threshold: 64,
         duration: 10,
     }
 }
 
-// Prints what was asked and its answer.
-fn print(rt: &impl Print, label: &[u8], answer: u8) -> io::Result<()> {
+// Prints what was asked and the number of its answer.
+fn print<T>(rt: &impl Print, label: &[u8], answer: &Result<T, Refusal>) -> io::Result<()> {
     rt.write_all(label)?;
-    rt.println(answer)
+    rt.println(answer_number(answer))
+}
+
+// A fresh exporter over a store, or the one that every call refuses.
+fn fresh(store: &[u8]) -> State {
+    exporter::set_up::set_up(settings(), store).unwrap_or(exporter::set_up::refused_state())
 }
 
 // Puts a blob record of 1,024 octets, then the same with one octet more, into an empty store of 1,024.
 fn longest_record(rt: &impl Print) -> io::Result<()> {
     let mut store = [0u8; 1024];
-    let table = BLOB_TABLE;
     let mut record = [0u8; 1025];
     record[2] = 3;
     record[3] = 252;
-    let made = exporter::set_up::set_up(settings(), &store);
-    let fresh = made.state;
-    let fits = exporter::put::put(fresh, &mut store, &table, 4, &record[..1024]);
-    print(rt, b"1,024 octets, empty store of 1,024: ", fits.answer)?;
-    let full = fits.state;
-    let again = exporter::put::put(full, &mut store, &table, 4, &record[..1024]);
-    print(rt, b"1,024 octets, full store: ", again.answer)?;
+    let empty = fresh(&store);
+    let fits = exporter::put::put(empty, &mut store, &BLOB_TABLE, 4, &record[..1024]);
+    print(rt, b"1,024 octets, empty store of 1,024: ", &fits)?;
+    let full = fits.unwrap_or(empty);
+    let again = exporter::put::put(full, &mut store, &BLOB_TABLE, 4, &record[..1024]);
+    print(rt, b"1,024 octets, full store: ", &again)?;
     record[3] = 253;
-    let longer = exporter::put::put(fresh, &mut store, &table, 4, &record);
-    print(rt, b"1,025 octets, empty store: ", longer.answer)
+    let longer = exporter::put::put(empty, &mut store, &BLOB_TABLE, 4, &record);
+    print(rt, b"1,025 octets, empty store: ", &longer)
 }
 
 // Puts a record of two octets n times, and prints each answer.
 fn put_many(rt: &impl Print, s: State, store: &mut [u8], n: u8) -> io::Result<State> {
-    let table = NUMBER_TABLE;
     let record = [0u8, 5];
     let mut state = s;
-    let mut left = n;
-    while 0 < left {
-        let put = exporter::put::put(state, store, &table, 3, &record);
-        print(rt, b"put: ", put.answer)?;
-        state = put.state;
-        left -= 1;
+    for _ in 0..n {
+        let put = exporter::put::put(state, store, &NUMBER_TABLE, 3, &record);
+        print(rt, b"put: ", &put)?;
+        state = put.unwrap_or(state);
     }
     Ok(state)
+}
+
+// Prints what a call that may write answers, and gives the state that it leaves.
+fn step(
+    rt: &impl Print,
+    s: State,
+    label: &[u8],
+    called: Result<Wrote, Refusal>,
+) -> io::Result<State> {
+    print(rt, label, &called)?;
+    match called {
+        Ok(wrote) => Ok(wrote.state),
+        Err(_) => Ok(s),
+    }
 }
 
 // Server 0 starts, is offered the table, agrees, is sent one record and acknowledges it.
 fn release_one(rt: &impl Print, s: State, store: &[u8]) -> io::Result<State> {
     let mut out = [0u8; 64];
-    let table = NUMBER_TABLE;
-    let start = START;
-    let agreement = FINAL_TMPL_DATA_ACK;
-    let ack = ACK_OF_FIRST;
-    let started = exporter::receive::receive(s, 0, &start, &mut out);
-    print(rt, b"START: ", started.answer)?;
-    let began = started.state;
-    let offered = exporter::offer_templates::offer_templates(began, 0, &table, &mut out);
-    print(rt, b"offer templates: ", offered.answer)?;
-    let offering = offered.state;
-    let agreed = exporter::receive::receive(offering, 0, &agreement, &mut out);
-    print(rt, b"FINAL TMPL DATA ACK: ", agreed.answer)?;
-    let active = agreed.state;
+    let started = exporter::receive::receive(s, 0, &START, &mut out);
+    let began = step(rt, s, b"START: ", started)?;
+    let offered = exporter::offer_templates::offer_templates(began, 0, &NUMBER_TABLE, &mut out);
+    let offering = step(rt, began, b"offer templates: ", offered)?;
+    let agreed = exporter::receive::receive(offering, 0, &FINAL_TMPL_DATA_ACK, &mut out);
+    let active = step(rt, offering, b"FINAL TMPL DATA ACK: ", agreed)?;
     let sent = exporter::next_data::next_data(active, store, &mut out);
-    print(rt, b"next data: ", sent.answer)?;
-    let sending = sent.state;
-    let released = exporter::receive::receive(sending, 0, &ack, &mut out);
-    print(rt, b"DATA ACK of one record: ", released.answer)?;
-    Ok(released.state)
+    let sending = step(rt, active, b"next data: ", sent)?;
+    let released = exporter::receive::receive(sending, 0, &ACK_OF_FIRST, &mut out);
+    step(rt, sending, b"DATA ACK of one record: ", released)
 }
 
 // Prints a batch's answer, how many messages it wrote and how many octets.
 fn print_batch(rt: &impl Print, label: &[u8], batch: Batch) -> io::Result<()> {
-    print(rt, label, batch.answer)?;
+    print(rt, label, &batch.answer)?;
     let count = batch.count;
     let written = batch.written;
     println!(rt; "  messages: {count}, octets: {written}")
@@ -117,26 +122,21 @@ fn batches(rt: &impl Print, s: State, store: &[u8]) -> io::Result<()> {
     let mut out = [0u8; 64 * DATA_OCTETS];
     let none = exporter::batch::send_batch(s, store, &mut short, 0);
     print_batch(rt, b"batch of 0, room for 1: ", none)?;
-    let at_first = none.state;
-    let one = exporter::batch::send_batch(at_first, store, &mut short, 1);
+    let one = exporter::batch::send_batch(none.state, store, &mut short, 1);
     print_batch(rt, b"batch of 1, room for 1: ", one)?;
-    let after_one = one.state;
-    let two = exporter::batch::send_batch(after_one, store, &mut short, 2);
+    let two = exporter::batch::send_batch(one.state, store, &mut short, 2);
     print_batch(rt, b"batch of 2, room for 1: ", two)?;
-    let after_two = two.state;
-    let rest = exporter::batch::send_batch(after_two, store, &mut out, 64);
+    let rest = exporter::batch::send_batch(two.state, store, &mut out, 64);
     print_batch(rt, b"batch of 64, room for 64: ", rest)?;
-    let all_sent = rest.state;
-    let nothing = exporter::batch::send_batch(all_sent, store, &mut out, 1);
+    let nothing = exporter::batch::send_batch(rest.state, store, &mut out, 1);
     print_batch(rt, b"batch of 1, all sent: ", nothing)
 }
 
 // Holds 64 records and tries record 65, releases one, tries record 65 again and then record 66; then sends what is held in batches.
 fn fullest_queue(rt: &impl Print) -> io::Result<()> {
     let mut store = [0u8; 1024];
-    let made = exporter::set_up::set_up(settings(), &store);
-    let fresh = made.state;
-    let full = put_many(rt, fresh, &mut store, 65)?;
+    let empty = fresh(&store);
+    let full = put_many(rt, empty, &mut store, 65)?;
     let freed = release_one(rt, full, &store)?;
     let refilled = put_many(rt, freed, &mut store, 2)?;
     batches(rt, refilled, &store)

@@ -1,15 +1,15 @@
 -- A collector whose state lies within what was set, lent memory of the lengths set, stays so with every call, and no call of it is answered
 -- 1 (02, ask 4). Each call's own refusals say what it needs: that an entry fits the octets left, that a table is sound and so short enough.
 use mathlib.Core.Path.{◌≡◌, refl, sym, ◌∙◌}
-use mathlib.Core.Bool.{Bool, true, false, not, ◌&&◌, cond}
-use mathlib.Core.List.{List, []}
+use mathlib.Core.Bool.{Bool, true, false, ◌&&◌, cond}
+use mathlib.Core.List.{List}
 use Prim.Native.Nat.{ℕ, ◌+◌, ◌-◌, ◌≤◌}
 use native.Mathlib.Omega.{arith}
 use borrow.Author.Tests.{eqb-true, eqb-false, eq-eqb, ne_eqb, ltb-false, le-leb, not-false}
 use lib.Dec.{eqb, ltb}
 use lib.ListN.{length}
-use lib.Seq.{sets, length-sets}
-use Rattle.octets.specs.Answers.{◌when◌, judge, done, unsound_state}
+use lib.Seq.{length-sets}
+use Rattle.octets.specs.Answers.{judge, done, unsound_state}
 use Rattle.octets.proofs.Judging.{passed, judge_other}
 use Rattle.wire.specs.Table.{table_sound, max_table_octets}
 use Rattle.wire.specs.Messages.{meaning_of}

@@ -1,7 +1,7 @@
 -- Laws of a journal: an entry read at the place of its octets is that entry, so the octets of entries walk back as those entries, and an
 -- entry stored behind the used octets adds one. Each goes by the octets of one entry, of which every number reads back.
 use mathlib.Core.Path.{◌≡◌, refl, sym, ap, ◌∙◌}
-use mathlib.Core.Bool.{Bool, true, false, ◌&&◌, cond}
+use mathlib.Core.Bool.{Bool, true, false}
 use mathlib.Core.List.{List, [], ◌∷◌, ◌++◌, append_assoc, append-nil}
 use Prim.Native.Nat.{ℕ, zero, suc, ◌+◌, ◌-◌, ◌<◌, ◌≤◌, ◌^◌}
 use native.Mathlib.Omega.{arith}
@@ -11,10 +11,10 @@ use lib.Dec.{eqb, leb}
 use lib.ListN.{length, take, drop, length-append, length-take}
 use lib.Seq.{sets, sets-eq, length-sets, take_at, drop-drop, take-append_seam, drop-append_seam}
 use Rattle.octets.specs.Answers.{done}
-use Rattle.octets.specs.Numbers.{number_of, uint_in, uint_at, octets_in, octets_of}
+use Rattle.octets.specs.Numbers.{number_of, uint_in, uint_at, octets_in}
 use Rattle.octets.proofs.Numbers.{read_back, uint_one, uint_append}
 use Rattle.collection.specs.Journal.{JournalEntry, entry_head_octets, entry_length, mark_octet, entry_octets, entries_octets, stated_length}
-use Rattle.collection.specs.Journal.{is_entry, entry_at, entry_of, Walked, behind, walk_from, walked}
+use Rattle.collection.specs.Journal.{is_entry, entry_at, entry_of, walk_from, walked}
 
 -- the numbers of an entry fit their places
 pub record Fits (x : JournalEntry) : Type 0 where

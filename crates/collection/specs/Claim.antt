@@ -2,39 +2,37 @@
 -- nobody else writes (02, ask 4): no call is answered 1, and the journal's used octets walk back as exactly the records taken in sequence,
 -- in order. The list of records is kept from the messages and the answers alone. Beside it, of one call on any state: a refusal changes
 -- nothing, and no octet changes but those of the entry or the table that the call stores.
-use Rattle.std.specs.Prelude.{ℕ, ◌+◌, ◌<◌, ◌≤◌, ◌≡◌, Bool, true, false, cond, List, [], ◌∷◌, ◌++◌, eqb, length, get_or, take}
+use Rattle.std.specs.Prelude.{ℕ, ◌<◌, ◌≤◌, ◌≡◌, cond, List, [], ◌∷◌, ◌++◌, eqb, length, get_or, take, Option, Some, None}
 use Rattle.octets.specs.Answers.{done, unsound_state}
 use Rattle.octets.specs.Numbers.{Octets}
 use Rattle.wire.specs.Replies.{silent, crane}
 use Rattle.wire.specs.Table.{max_table_octets}
 use Rattle.messages.specs.declared.message.DataHead.{DataHead}
-use Rattle.collection.specs.Journal.{JournalEntry, entry_length, walked, Walked}
+use Rattle.collection.specs.Journal.{JournalEntry, walked}
 use Rattle.collection.specs.Collector.{Memory, Command, write_start, write_stop, note, agree_to, take_record, malformed, fresh_collector}
 use Rattle.collection.specs.Collector.{collected, in_sequence, entry_for, Outcome, step}
-use Rattle.collection.specs.declared.state.Last.{Last}
-use Rattle.collection.specs.declared.state.Last.TheVariants as last
 use Rattle.collection.specs.declared.state.Collector.{Collector}
 
 -- ---- the records taken, by messages and answers alone
 
 -- The DSN that was processed last, and the entries of the records taken, the oldest first.
 pub record Taken : Type 0 where
-  pub last : Last
+  pub last : Option ℕ
   pub entries : List JournalEntry
 
 -- Nothing was taken.
 abbrev pub nothing_taken : Taken
-nothing_taken = record { last = last.Nothing; entries = [] }
+nothing_taken = record { last = None; entries = [] }
 
 -- A record that is in sequence is taken; any other leaves all as it is.
 abbrev pub with_record : DataHead → List ℕ → Taken → Taken
 with_record h r t =
-    cond (in_sequence 32 t.last h) (record { last = last.Dsn h.dsn; entries = t.entries ++ (entry_for h r ∷ []) }) t
+    cond (in_sequence 32 t.last h) (record { last = Some h.dsn; entries = t.entries ++ (entry_for h r ∷ []) }) t
 
 -- What an accepted call makes of it: START and STOP forget the DSN, a DATA is taken or discarded.
 abbrev pub taken_by : Command → Taken → Taken
-taken_by write_start t = record { last = last.Nothing; entries = t.entries }
-taken_by write_stop t = record { last = last.Nothing; entries = t.entries }
+taken_by write_start t = record { last = None; entries = t.entries }
+taken_by write_stop t = record { last = None; entries = t.entries }
 taken_by note t = t
 taken_by (agree_to table) t = t
 taken_by (take_record h r) t = with_record h r t

@@ -1,7 +1,7 @@
 -- The collector (02, ask 4): its state and the memory that it is lent, what each call is refused for and in which order, what it leaves and
 -- what it writes. Messages are taken by meaning; of their encoding a step knows how many bits sequence numbers have (w here), and how long
 -- messages are.
-use Rattle.std.specs.Prelude.{ℕ, ◌+◌, ◌-◌, ◌≡◌, Bool, true, false, not, ◌&&◌, ◌||◌, cond, List, [], ◌∷◌, ◌++◌, eqb, leb, ltb, length, take, drop}
+use Rattle.std.specs.Prelude.{ℕ, ◌+◌, ◌-◌, ◌≡◌, Bool, true, false, not, ◌&&◌, ◌||◌, cond, List, [], ◌∷◌, ◌++◌, eqb, leb, ltb, length, take, drop, Option, Some, None}
 use Rattle.std.proofs.lemmas.List.Edits.{sets}
 use Rattle.octets.specs.Answers.{Check, ◌when◌, judge, done, unsound_state, message_not_accepted, out_of_turn, other_configuration}
 use Rattle.octets.specs.Answers.{output_too_short, template_not_found, record_invalid, record_too_long, store_full, unsound_table}
@@ -17,8 +17,6 @@ use Rattle.messages.specs.declared.message.Message.TheVariants.{Start, StartAck,
 use Rattle.messages.specs.declared.message.Message.TheVariants.{StartNegotiate, StartNegotiateAck, Data, DataAck}
 use Rattle.messages.specs.declared.message.DataHead.{DataHead}
 use Rattle.collection.specs.Journal.{JournalEntry, entry_length, entry_octets}
-use Rattle.collection.specs.declared.state.Last.{Last}
-use Rattle.collection.specs.declared.state.Last.TheVariants as last
 use Rattle.collection.specs.declared.state.Collector.{Collector}
 use Rattle.collection.specs.declared.state.Collected.{Collected}
 
@@ -32,7 +30,7 @@ pub record Memory : Type 0 where
 -- Set-up takes a session and any journal length, and is never refused: no table, nothing processed, an empty journal.
 unfoldable pub fresh_collector : ℕ → ℕ → Collector
 fresh_collector session capacity =
-    record { session = session; capacity = capacity; used = 0; table = 0; config = 0; last = last.Nothing }
+    record { session = session; capacity = capacity; used = 0; table = 0; config = 0; last = None }
 
 -- No table is agreed.
 abbrev pub is_unagreed : Collector → Bool
@@ -81,12 +79,12 @@ collected session m =
 -- ---- in sequence or not
 
 -- The expected DSN is the last processed plus 1; with nothing processed there is none.
-abbrev pub is_expected : ℕ → Last → ℕ → Bool
-is_expected w last.Nothing dsn = false
-is_expected w (last.Dsn d) dsn = eqb dsn (following w d)
+abbrev pub is_expected : ℕ → Option ℕ → ℕ → Bool
+is_expected w None dsn = false
+is_expected w (Some d) dsn = eqb dsn (following w d)
 
 -- An S record sets the expected DSN, so it is in sequence; any other is where it is the expected one.
-abbrev pub in_sequence : ℕ → Last → DataHead → Bool
+abbrev pub in_sequence : ℕ → Option ℕ → DataHead → Bool
 in_sequence w l h = h.first || is_expected w l h.dsn
 
 -- ---- what is written
@@ -96,9 +94,9 @@ abbrev pub ack_of : Collector → ℕ → Reply
 ack_of c dsn = message (DataAck c.session dsn c.config) []
 
 -- DATA ACK of the last DSN processed; nothing where none was.
-abbrev pub ack_of_last : Collector → Last → Reply
-ack_of_last c last.Nothing = silent
-ack_of_last c (last.Dsn d) = ack_of c d
+abbrev pub ack_of_last : Collector → Option ℕ → Reply
+ack_of_last c None = silent
+ack_of_last c (Some d) = ack_of c d
 
 -- What an accepted call writes. A record in sequence is acknowledged by its own DSN, which then is the last one processed.
 unfoldable pub written : ℕ → Command → Collector → Reply
@@ -169,7 +167,7 @@ answer e room k c m = judge ((unsound_state when not (sound_for k c m)) ∷ chec
 
 -- START and STOP forget the agreed table and both DSNs, never the journal.
 abbrev pub forgotten : Collector → Collector
-forgotten c = record { session = c.session; capacity = c.capacity; used = c.used; table = 0; config = 0; last = last.Nothing }
+forgotten c = record { session = c.session; capacity = c.capacity; used = c.used; table = 0; config = 0; last = None }
 
 -- After a table was agreed to; DSNs and journal stay.
 abbrev pub agreed_to : Collector → List ℕ → Collector
@@ -192,7 +190,7 @@ processed c dsn r =
       used = c.used + entry_length r;
       table = c.table;
       config = c.config;
-      last = last.Dsn dsn;
+      last = Some dsn;
     }
 
 -- The state after each call; a record that is not in sequence is discarded.

@@ -1,10 +1,10 @@
 -- A collector's journal (02, ask 4): the octets of an entry, the entries that octets stand for, and reading one entry at a place.
-use Rattle.std.specs.Prelude.{ℕ, zero, suc, ◌+◌, ◌-◌, Bool, ◌&&◌, cond, List, [], ◌∷◌, ◌++◌, eqb, leb, length, take, drop}
+use Rattle.std.specs.Prelude.{ℕ, zero, suc, ◌+◌, ◌-◌, Bool, ◌&&◌, cond, List, [], ◌∷◌, ◌++◌, eqb, leb, length, take, drop, Option, Some, None, Result, Ok, Err}
 use Rattle.octets.specs.Answers.{done, body_length_wrong}
+use Rattle.numbers.specs.declared.refusal.Refusal.{Refusal}
+use Rattle.numbers.specs.declared.refusal.Refusal.TheVariants.{BodyLengthWrong}
 use Rattle.octets.specs.Numbers.{uint_at, octets_of}
 use Rattle.collection.specs.declared.journal.Entry.{Entry}
-use Rattle.collection.specs.declared.journal.EntryReading.{EntryReading}
-use Rattle.collection.specs.declared.journal.EntryReading.TheVariants as reading
 
 -- ---- what an entry says, and its octets
 
@@ -64,16 +64,10 @@ entry_at j at =
       len = stated_length j at;
     }
 
--- Reading at a place: the end where no octet is left, an entry where one stands, else 8, as lengths that disagree are.
-unfoldable pub read_entry : List ℕ → ℕ → EntryReading
+-- Reading at a place: none where no octet is left, an entry where one stands, else 8, as lengths that disagree are.
+unfoldable pub read_entry : List ℕ → ℕ → Result (Option Entry) Refusal
 read_entry j at =
-    cond (leb (length j) at) reading.End (cond (is_entry j at) (reading.Entry (entry_at j at)) (reading.Refused body_length_wrong))
-
--- The answer number of reading an entry: 0, at the end too, or the refusal's.
-abbrev pub entry_answer : EntryReading → ℕ
-entry_answer (reading.Entry x) = done
-entry_answer reading.End = done
-entry_answer (reading.Refused a) = a
+    cond (leb (length j) at) (Ok None) (cond (is_entry j at) (Ok (Some (entry_at j at))) (Err BodyLengthWrong))
 
 -- ---- the entries that octets stand for
 

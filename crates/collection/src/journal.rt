@@ -12,11 +12,3 @@ pub struct Entry {
     pub at: usize,
     pub len: usize,
 }
-
-// What reading at a place answers: an entry, the end where no octet is left, or 8 where what is left is no entry.
-#[derive(Clone, Copy)]
-pub enum EntryReading {
-    Entry(Entry),
-    End,
-    Refused(u8),
-}

@@ -1,12 +1,5 @@
 // A collector's state, passed and returned by value.
 
-// The last DSN that was processed in sequence, if one was since START.
-#[derive(Clone, Copy)]
-pub enum Last {
-    Nothing,
-    Dsn(u32),
-}
-
 // A collector. The journal's octets and the table's are not in it: the caller lends them to every call.
 #[derive(Clone, Copy)]
 pub struct Collector {
@@ -20,8 +13,8 @@ pub struct Collector {
     pub table: usize,
     // the agreed table's Configuration ID
     pub config: u8,
-    // the last DSN processed, which tells the expected one
-    pub last: Last,
+    // the last DSN that was processed in sequence, if one was since START, which tells the expected one
+    pub last: Option<u32>,
 }
 
 // What a call answers: 0 or the number of the refusal, how many octets it wrote, and the state that it leaves.

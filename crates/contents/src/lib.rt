@@ -1,14 +1,15 @@
-// The contents of a tape: how many events there are, and of each its kind, server and body; whether a tape is sound (`tape_answer`).
+// The contents of a tape: how many events there are, and of each its kind, server and body; whether a tape is sound (`check_tape`).
 // A tape is borrowed octets, and nothing is copied: a body is a part of it. Every function answers any octets and any event's number; past
 // the end octets read as 0 and parts are empty. `tape` calls these functions to replay a tape, and `replay` takes the size of its input.
 #![tactic(auto)]
 
 ghost use Rattle.std.specs.Prelude.{◌≡◌};
+ghost use Rattle.octets.specs.Answers.{answer_number, judged, Answered};
 ghost use Rattle.octets.specs.Each.{every};
 ghost use Rattle.contents.specs.Tape.{event_count, contents_at, kind_at, server_at, body_length, body_at, octets_at, body_of, kind_fits};
-ghost use Rattle.contents.specs.Tape.{server_fits, body_length_fits, event_sound, tape_answer};
+ghost use Rattle.contents.specs.Tape.{server_fits, body_length_fits, event_sound, tape_sound, tape_answer};
 
-use octets::Answer;
+use octets::Refusal;
 use session::limits::SERVER_ENTRIES;
 
 // The most octets that a tape has.
@@ -47,7 +48,7 @@ const SHORT_FORM_OCTETS: u16 = (PRIORITIES_AT + SHORT_FORM_PRIORITIES) as u16;
 // The octets of the settings in the longer form.
 const LONG_FORM_OCTETS: u16 = (PRIORITIES_AT + SERVER_ENTRIES) as u16;
 
-// The kind of an event; the constants name the numbers.
+// The kind of an event; the constants name the numbers. No enum: a tape may hold any number, and `events::call` takes any.
 #[derive(Clone, Copy)]
 pub struct Kind {
     pub number: u8,
@@ -83,7 +84,7 @@ impl Kind {
 pub fn event_count(tape: &[u8]) -> u16
     ensures { result ≡ event_count tape.now }
 {
-    octets::get_u16(tape, 0)
+    octets::get::<u16>(tape, 0)
 }
 
 // Where an event stands in the contents.
@@ -97,21 +98,21 @@ fn contents_at(i: u16) -> usize
 pub fn kind_at(tape: &[u8], i: u16) -> u8
     ensures { result ≡ kind_at tape.now i }
 {
-    octets::get_u8(tape, contents_at(i))
+    octets::get::<u8>(tape, contents_at(i))
 }
 
 // The server that an event names.
 pub fn server_at(tape: &[u8], i: u16) -> u8
     ensures { result ≡ server_at tape.now i }
 {
-    octets::get_u8(tape, contents_at(i) + 1)
+    octets::get::<u8>(tape, contents_at(i) + 1)
 }
 
 // How many octets the body of an event has.
 pub fn body_length(tape: &[u8], i: u16) -> u16
     ensures { result ≡ body_length tape.now i }
 {
-    octets::get_u16(tape, contents_at(i) + 2)
+    octets::get::<u16>(tape, contents_at(i) + 2)
 }
 
 // Where the body of an event begins.
@@ -119,10 +120,8 @@ pub fn body_at(tape: &[u8], i: u16) -> usize
     ensures { result ≡ body_at tape.now i }
 {
     let mut at = contents_at(event_count(tape));
-    let mut k: u16 = 0;
-    while k < i {
+    for k in 0..i {
         at += body_length(tape, k) as usize;
-        k += 1;
     }
     at
 }
@@ -195,34 +194,32 @@ fn event_sound(tape: &[u8], i: u16) -> bool
 fn events_sound(tape: &[u8], n: u16) -> bool
     ensures { result ≡ every n (event_sound tape.now) }
 {
-    let mut ok = true;
-    let mut i: u16 = 0;
-    while i < n {
-        ok = ok & event_sound(tape, i);
-        i += 1;
+    for i in 0..n {
+        if !event_sound(tape, i) {
+            return false;
+        }
     }
-    ok
+    true
 }
 
-// 0 for a sound tape, else 22.
-pub fn tape_answer(tape: &[u8]) -> u8
-    ensures { result ≡ tape_answer tape.now }
+// Whether a tape is sound.
+fn tape_sound(tape: &[u8]) -> bool
+    ensures { result ≡ tape_sound tape.now }
 {
-    if MAX_TAPE_OCTETS < tape.len() {
-        return Answer::UNSOUND_TAPE;
-    }
     let count = event_count(tape);
-    if count < MIN_EVENTS {
-        return Answer::UNSOUND_TAPE;
+    (tape.len() <= MAX_TAPE_OCTETS)
+        & (MIN_EVENTS <= count)
+        & (count <= MAX_EVENTS)
+        & events_sound(tape, count)
+        & (body_at(tape, count) == tape.len())
+}
+
+// Nothing for a sound tape, else 22.
+pub fn check_tape(tape: &[u8]) -> Result<(), Refusal>
+    ensures { Answered answer_number result (judged (tape_answer tape.now) tt) (tape_answer tape.now) }
+{
+    if !tape_sound(tape) {
+        return Err(Refusal::UnsoundTape);
     }
-    if MAX_EVENTS < count {
-        return Answer::UNSOUND_TAPE;
-    }
-    if !events_sound(tape, count) {
-        return Answer::UNSOUND_TAPE;
-    }
-    if body_at(tape, count) != tape.len() {
-        return Answer::UNSOUND_TAPE;
-    }
-    Answer::DONE
+    Ok(())
 }

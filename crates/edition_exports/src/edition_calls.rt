@@ -4,8 +4,8 @@ ghost use Rattle.std.specs.Prelude.{◌≡◌};
 ghost use Rattle.editions.specs.Editions.{read_in, part_in};
 ghost use Rattle.edition_exports.specs.Again.{edition_for, read_again_number, read_again_out};
 
-use editions::edition::{Edition, Reading};
-use exports::message_calls::written_number;
+use editions::edition::Edition;
+use exports::parts::carried_number;
 
 // The edition that a version stands for: CRANE for 1, IPDR/SP for any other.
 fn edition_for(version: u8) -> Edition
@@ -28,12 +28,11 @@ pub extern "C" fn edition_read_again(version: u8, message: &[u8], out: &mut [u8]
         (read_in (edition_for version) message.now)) }
 {
     let edition = edition_for(version);
-    let reading = editions::edition::read_message(edition, message);
-    match reading {
-        Reading::Message(m) => {
+    match editions::edition::read_message(edition, message) {
+        Ok(m) => {
             let carried = editions::edition::message_part(edition, message);
-            written_number(editions::edition::write_message(m, carried, out))
+            carried_number(editions::edition::write_message(m, carried, out))
         }
-        Reading::Refused(a) => a as u64,
+        Err(refusal) => refusal.number() as u64,
     }
 }

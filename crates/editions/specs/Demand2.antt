@@ -1,18 +1,16 @@
 -- Demand 2 of each edition: what is written reads back as the same meaning, what is read is the layout of its meaning, a message of the
 -- other edition is refused with 4, and a refused writing changes nothing (02, ask 1; 01, "Messages").
-use Rattle.std.specs.Prelude.{ℕ, ◌≤◌, ◌≡◌, ◌≢◌, List, [], ◌++◌, length, take, drop}
-use Rattle.octets.specs.Answers.{done, other_version}
+use Rattle.std.specs.Prelude.{ℕ, ◌≤◌, ◌≡◌, ◌≢◌, List, [], ◌++◌, length, take, drop, Ok, Err}
+use Rattle.numbers.specs.declared.refusal.Refusal.TheVariants as refusal
+use Rattle.octets.specs.Answers.{done, answer_number, refusal_of}
 use Rattle.octets.specs.Numbers.{Octets}
 use Rattle.headers.specs.Headers.{header_octets, version_of, header_reading_for}
-use Rattle.headers.specs.declared.header.HeaderReading.TheVariants as header
 use Rattle.messages.specs.Messages as crane
-use Rattle.messages.specs.declared.message.Written.TheVariants as written
 use Rattle.ipdr.specs.Messages as ipdr
 use Rattle.editions.specs.declared.edition.Edition.{Edition}
 use Rattle.editions.specs.declared.edition.Edition.TheVariants as edition
 use Rattle.editions.specs.declared.edition.Message.{Message}
 use Rattle.editions.specs.declared.edition.Message.TheVariants as message
-use Rattle.editions.specs.declared.edition.Reading.TheVariants as reading
 use Rattle.editions.specs.Editions.{version_for, read_answer_in, read_in, part_in, part_at_in, edition_of, layout_in}
 use Rattle.editions.specs.Editions.{write_answer_in, write_in, write_out_in}
 
@@ -48,8 +46,8 @@ other edition.Ipdr = edition.Crane
 
 -- Octets are refused with 4, as a message and as a header alone, and the empty part at octet 0 is handed back.
 pub record OtherVersion (e : Edition) (m : List ℕ) : Type 0 where
-  pub message : read_in e m ≡ reading.Refused other_version
-  pub header : header_reading_for (version_for e) m ≡ header.Refused other_version
+  pub message : read_in e m ≡ Err refusal.OtherVersion
+  pub header : header_reading_for (version_for e) m ≡ Err refusal.OtherVersion
   pub part : (part_in e m ≡ []) × (part_at_in e m ≡ 0)
 
 -- What is claimed of both editions, sentence by sentence.
@@ -58,7 +56,7 @@ pub record EditionsClaim : Type 0 where
   -- part's place
   pub reads_back : (m : Message) (part out : List ℕ) → WritableIn m part → length (layout_in m part) ≤ length out
       → let octets = take (length (layout_in m part)) (write_out_in m part out) in
-      (read_in (edition_of m) octets ≡ reading.Message m)
+      (read_in (edition_of m) octets ≡ Ok m)
       × ((part_in (edition_of m) octets ≡ carried_in m part) × (part_at_in (edition_of m) octets ≡ carried_at_in m))
   -- a message that reads without refusal, with flags and reserved octets 0, is the layout of its meaning and its part
   pub is_layout : (e : Edition) (m : List ℕ) → Octets m → read_answer_in e m ≡ done → PlainIn e m
@@ -67,9 +65,10 @@ pub record EditionsClaim : Type 0 where
   pub other_edition : (e : Edition) (m : List ℕ) → header_octets ≤ length m → version_of m ≡ version_for (other e) → OtherVersion e m
   -- a refused writing answers its number and leaves the output as it was
   pub refused : (m : Message) (part out : List ℕ) → write_answer_in m part (length out) ≢ done
-      → (write_in m part out ≡ written.Refused (write_answer_in m part (length out))) × (write_out_in m part out ≡ out)
+      → (write_in m part out ≡ Err (refusal_of (write_answer_in m part (length out))))
+      × ((answer_number (write_in m part out) ≡ write_answer_in m part (length out)) × (write_out_in m part out ≡ out))
   -- an accepted one has room, answers how many octets it wrote, and wrote the layout from the first octet on and no octet after it
   pub accepted : (m : Message) (part out : List ℕ) → write_answer_in m part (length out) ≡ done
       → (length (layout_in m part) ≤ length out)
-      × ((write_in m part out ≡ written.Octets (length (layout_in m part)))
+      × ((write_in m part out ≡ Ok (length (layout_in m part)))
       × (write_out_in m part out ≡ layout_in m part ++ drop (length (layout_in m part)) out))

@@ -1,19 +1,12 @@
 -- Messages of either edition, CRANE's and IPDR/SP 2.2's: each definition is the edition's own (02, ask 1).
-use Rattle.std.specs.Prelude.{ℕ, List}
-use Rattle.octets.specs.Answers.{done}
+use Rattle.std.specs.Prelude.{ℕ, List, Result, Ok, Err}
+use Rattle.numbers.specs.declared.refusal.Refusal.{Refusal}
 use Rattle.messages.specs.Messages as crane
-use Rattle.messages.specs.declared.message.Reading as crane-reading
-use Rattle.messages.specs.declared.message.Reading.TheVariants as crane-read
-use Rattle.messages.specs.declared.message.Written.{Written}
 use Rattle.ipdr.specs.Messages as ipdr
-use Rattle.ipdr.specs.declared.message.Reading as ipdr-reading
-use Rattle.ipdr.specs.declared.message.Reading.TheVariants as ipdr-read
 use Rattle.editions.specs.declared.edition.Edition.{Edition}
 use Rattle.editions.specs.declared.edition.Edition.TheVariants as edition
 use Rattle.editions.specs.declared.edition.Message.{Message}
 use Rattle.editions.specs.declared.edition.Message.TheVariants as message
-use Rattle.editions.specs.declared.edition.Reading.{Reading}
-use Rattle.editions.specs.declared.edition.Reading.TheVariants as reading
 
 -- The version that an edition's headers name: 1 for CRANE, 2 for IPDR/SP.
 abbrev pub version_for : Edition → ℕ
@@ -27,25 +20,15 @@ abbrev pub read_answer_in : Edition → List ℕ → ℕ
 read_answer_in edition.Crane m = crane.read_answer m
 read_answer_in edition.Ipdr m = ipdr.read_answer m
 
--- What was read of a CRANE message.
-abbrev pub from_crane : crane-reading.Reading → Reading
-from_crane (crane-read.Message m) = reading.Message (message.Crane m)
-from_crane (crane-read.Refused a) = reading.Refused a
-
--- What was read of an IPDR/SP message.
-abbrev pub from_ipdr : ipdr-reading.Reading → Reading
-from_ipdr (ipdr-read.Message m) = reading.Message (message.Ipdr m)
-from_ipdr (ipdr-read.Refused a) = reading.Refused a
+-- What was read of an edition's message, as a message of either.
+abbrev pub of_edition : {A : Type 0} → (A → Message) → Result A Refusal → Result Message Refusal
+of_edition f (Ok m) = Ok (f m)
+of_edition f (Err refusal) = Err refusal
 
 -- Reading alone answers the meaning or the refusal.
-abbrev pub read_in : Edition → List ℕ → Reading
-read_in edition.Crane m = from_crane (crane.read_of m)
-read_in edition.Ipdr m = from_ipdr (ipdr.read_of m)
-
--- The answer number of what reading answers: 0, or the refusal's.
-abbrev pub reading_answer : Reading → ℕ
-reading_answer (reading.Message m) = done
-reading_answer (reading.Refused a) = a
+abbrev pub read_in : Edition → List ℕ → Result Message Refusal
+read_in edition.Crane m = of_edition (λ x. message.Crane x) (crane.read_of m)
+read_in edition.Ipdr m = of_edition (λ x. message.Ipdr x) (ipdr.read_of m)
 
 -- The octets of the part.
 abbrev pub part_in : Edition → List ℕ → List ℕ
@@ -75,7 +58,7 @@ write_answer_in (message.Crane m) part room = crane.write_answer m part room
 write_answer_in (message.Ipdr m) part room = ipdr.write_answer m part room
 
 -- Writing answers the number of octets written, or the refusal.
-abbrev pub write_in : Message → List ℕ → List ℕ → Written
+abbrev pub write_in : Message → List ℕ → List ℕ → Result ℕ Refusal
 write_in (message.Crane m) part out = crane.write_of m part out
 write_in (message.Ipdr m) part out = ipdr.write_of m part out
 

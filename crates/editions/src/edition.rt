@@ -1,33 +1,25 @@
 // One reader and one writer for both editions. The version test follows the edition: a message of the other edition is refused with 4.
 ghost use Rattle.std.specs.Prelude.{◌≡◌, ◌+◌, length};
-ghost use Rattle.octets.specs.Answers.{Answered};
-ghost use Rattle.headers.specs.Headers.{header_answer_for, header_reading_for, header_reading_answer};
-ghost use Rattle.messages.specs.Messages.{written_answer};
-ghost use Rattle.editions.specs.Editions.{version_for, from_crane, from_ipdr, read_answer_in, read_in, reading_answer, part_in, part_at_in};
+ghost use Rattle.octets.specs.Answers.{Answered, answer_number};
+ghost use Rattle.headers.specs.Headers.{header_answer_for, header_reading_for};
+ghost use Rattle.editions.specs.Editions.{version_for, read_answer_in, read_in, part_in, part_at_in};
 ghost use Rattle.editions.specs.Editions.{write_answer_in, write_in, write_out_in};
 
-use headers::header::HeaderReading;
-use messages::message::Written;
+use headers::header::Header;
+use octets::Refusal;
 
 // The editions.
-#[derive(Clone, Copy)]
+#[derive(Clone, Copy, Debug, PartialEq, Eq)]
 pub enum Edition {
     Crane,
     Ipdr,
 }
 
 // What a message of either edition says.
-#[derive(Clone, Copy)]
+#[derive(Clone, Copy, Debug, PartialEq, Eq)]
 pub enum Message {
     Crane(messages::message::Message),
     Ipdr(ipdr::message::Message),
-}
-
-// What reading a message answers.
-#[derive(Clone, Copy)]
-pub enum Reading {
-    Message(Message),
-    Refused(u8),
 }
 
 // The version that an edition's headers name.
@@ -41,40 +33,20 @@ fn version_of(edition: Edition) -> u8
 }
 
 // Reads a message's header alone: its session and number, or 3, 4 or 5.
-pub fn read_header(edition: Edition, message: &[u8]) -> HeaderReading
-    ensures { Answered header_reading_answer result (header_reading_for (version_for edition) message.now)
+pub fn read_header(edition: Edition, message: &[u8]) -> Result<Header, Refusal>
+    ensures { Answered answer_number result (header_reading_for (version_for edition) message.now)
         (header_answer_for (version_for edition) message.now) }
 {
     headers::header::read_header(version_of(edition), message)
 }
 
-// What was read of a CRANE message.
-fn from_crane(reading: messages::message::Reading) -> Reading
-    ensures { result ≡ from_crane reading }
-{
-    match reading {
-        messages::message::Reading::Message(message) => Reading::Message(Message::Crane(message)),
-        messages::message::Reading::Refused(answer) => Reading::Refused(answer),
-    }
-}
-
-// What was read of an IPDR/SP message.
-fn from_ipdr(reading: ipdr::message::Reading) -> Reading
-    ensures { result ≡ from_ipdr reading }
-{
-    match reading {
-        ipdr::message::Reading::Message(message) => Reading::Message(Message::Ipdr(message)),
-        ipdr::message::Reading::Refused(answer) => Reading::Refused(answer),
-    }
-}
-
 // Reads a message of an edition alone: what it says, or 3, 4, 5, 7 or 8, and of CRANE's also 21.
-pub fn read_message(edition: Edition, message: &[u8]) -> Reading
-    ensures { Answered reading_answer result (read_in edition message.now) (read_answer_in edition message.now) }
+pub fn read_message(edition: Edition, message: &[u8]) -> Result<Message, Refusal>
+    ensures { Answered answer_number result (read_in edition message.now) (read_answer_in edition message.now) }
 {
     match edition {
-        Edition::Crane => from_crane(reading::read::read_message(message)),
-        Edition::Ipdr => from_ipdr(ipdr_reading::read::read_message(message)),
+        Edition::Crane => reading::read::read_message(message).map(Message::Crane),
+        Edition::Ipdr => ipdr_reading::read::read_message(message).map(Message::Ipdr),
     }
 }
 
@@ -92,8 +64,8 @@ pub fn message_part(edition: Edition, message: &[u8]) -> &[u8]
 
 // Writes a message alone, in its edition, from the output's first octet on, and no octet after it; `part` is its table, record or text, and
 // is not looked at where it has none. Answers how many octets were written, or 21 (CRANE's), 17 or 12.
-pub fn write_message(message: Message, part: &[u8], out: &mut [u8]) -> Written
-    ensures { Answered written_answer result (write_in message part.now out.old)
+pub fn write_message(message: Message, part: &[u8], out: &mut [u8]) -> Result<usize, Refusal>
+    ensures { Answered answer_number result (write_in message part.now out.old)
         (write_answer_in message part.now (length out.old))
         × (out.new ≡ write_out_in message part.now out.old) }
 {

@@ -2,6 +2,7 @@
 -- a message write. A kind is tested against each name in turn, so its call is that of the first test that holds. Of the output a call looks
 -- at nothing but the length.
 use mathlib.Core.Path.{◌≡◌, refl, sym, ap, ◌∙◌}
+use mathlib.Core.Logic.{◌≢◌}
 use mathlib.Core.Bool.{Bool, true, false, cond}
 use mathlib.Core.List.{List, []}
 use Prim.Native.Nat.{ℕ, ◌+◌, ◌-◌, ◌≤◌, ◌<◌}
@@ -10,25 +11,30 @@ use lib.ListN.{length, get_or, take, drop, replicate, length-take, length-drop, 
 use lib.Seq.{sets-eq, length-sets, get_or-take, get_or-drop}
 use lib.Dec.{eqb, ltb}
 use borrow.Author.Tests.{ne_eqb, lt-ltb, le-ltb, ltb-true, ltb-false}
-use Rattle.octets.specs.Answers.{done}
+use Rattle.std.specs.Prelude.{Result, Ok, Err}
+use Rattle.octets.specs.Answers.{done, judged, Answered, answer_number}
+use Rattle.numbers.specs.declared.refusal.Refusal.{Refusal}
 use Rattle.octets.specs.Numbers.{put_at, uint_at, Octets}
 use Rattle.octets.proofs.Numbers.{uint_in_same, uint_below}
 use Rattle.octets.proofs.Stores.{put_fits}
 use Rattle.exporter.specs.Replies.{Reply, silent, crane, layout}
 use Rattle.session.specs.Limits.{max_servers, max_store_octets}
 use Rattle.session.specs.Servers.{down, offer}
-use Rattle.session.specs.Steps.{put, next_data, tick, move, received, step, written, Outcome, stepped_of, wrote_of, output_after, put_step}
-use Rattle.session.specs.Steps.{tick_step, line_down_step, refused_set_up, set_up}
+use Rattle.session.specs.Steps.{put, next_data, tick, move, received, step, written, Outcome, octets_written, stepped_of, wrote_of, output_after}
+use Rattle.session.specs.Steps.{put_step, tick_step, line_down_step, refused_state, refused_set_up, set_up}
+use Rattle.session.specs.Claim.{Exporter}
+use Rattle.session.proofs.StepLaws.{refused_number, answered_other, answered_part}
+use Rattle.exporter.proofs.Drivers.{refused_left, event_kept, same_ok}
 use Rattle.session.proofs.Written.{writes_nothing}
 use Rattle.session.specs.Unused.{with_priorities, SameUsed}
-use Rattle.session.specs.InOctets.{Event, Put, NextData, Receive, OfferTemplates, LineDown, Tick}
+use Rattle.session.specs.InOctets.{Event, Put, NextData, Receive, OfferTemplates, LineDown, Tick, event_step}
 use Rattle.session.specs.declared.state.State.{State}
-use Rattle.session.specs.declared.state.Stepped.{Stepped}
 use Rattle.session.specs.declared.state.Wrote.{Wrote}
 use Rattle.contents.specs.Tape.{put_kind, message_kind, down_kind, tick_kind, next_kind, body_length, body_at, octets_at, body_of, priorities_at}
 use Rattle.contents.proofs.Parts.{octets_part}
 use Rattle.events.specs.Events.{priorities_of, settings_of, set_up_by, event_call, store_length}
-use Rattle.events.specs.Events.{effect, effect_store, Gives}
+use Rattle.events.specs.Events.{effect, effect_store, left_of, left_by, Answers, Gives}
+use Rattle.events.specs.declared.Left.{Left}
 
 -- ---- the settings
 
@@ -117,6 +123,16 @@ set_up_accepted b room e = go (ltb (length b - priorities_at) (settings_of b).se
     go true e = absurd (omega (arith, e))
     go false e = refl
 
+-- and one that is refused left the refused state
+pub set_up_by_refused : (b : List ℕ) (room : ℕ) → (set_up_by b room).answer ≢ done → (set_up_by b room).state ≡ refused_state
+unfolding set_up_by
+set_up_by_refused b room = go (ltb (length b - priorities_at) (settings_of b).servers)
+  where
+    go : (x : Bool) → (cond x refused_set_up (set_up (settings_of b) room)).answer ≢ done
+        → (cond x refused_set_up (set_up (settings_of b) room)).state ≡ refused_state
+    go true h = refl
+    go false h = refused_left (settings_of b) room h
+
 -- ---- the call by the kind
 
 pub is_put : (kind server : ℕ) (b out table : List ℕ) (id : ℕ) (r : List ℕ) → kind ≡ put_kind → id ≡ uint_at b 0 2 → r ≡ drop 2 b
@@ -184,45 +200,78 @@ same_call table s store kind server b out more e =
     (ap (λ (n : ℕ). step crane n next_data s store) e, refl)
     (ap (λ (n : ℕ). step crane n (move server (offer table)) s []) e, refl)
 
--- ---- calls that write nothing
-
--- what such a call hands back
-pub stepped : (o : Outcome) (s : Stepped) (r : Wrote) → o.written ≡ silent → s ≡ stepped_of o
-    → r ≡ record { answer = s.answer; written = 0; state = s.state } → r ≡ wrote_of o
-stepped o s r e f g = rw (g, f) (ap (λ (l : Reply). record { answer = o.answer; written = length (layout l); state = o.state }) (sym e))
-
 -- ---- each call, by what the exporter ensures of it
 
-pub put_called : (s : State) (store out : List ℕ) (e : Event) (table : List ℕ) (id : ℕ) (r : List ℕ) (st : Stepped) (x : Wrote)
+-- a call that writes nothing, in the form of one that may write
+pub unwritten : (o : Outcome) → o.written ≡ silent → judged o.answer (record { state = o.state; written = 0 }) ≡ wrote_of o
+unwritten o e = ap (λ (l : Reply). judged o.answer (record { state = o.state; written = length (layout l) })) (sym e)
+
+pub nothing_written : (o : Outcome) (x : Result State Refusal) (s : State) → o.written ≡ silent → x ≡ Ok s
+    → Answered answer_number x (stepped_of o) o.answer
+    → Answered answer_number (Ok (record { state = s; written = 0 })) (wrote_of o) o.answer
+nothing_written o x s none k a =
+    rw (← unwritten o none) (answered_part o.state (λ s. record { state = s; written = 0 }) (rw k at a))
+
+pub refused_on : (o : Outcome) (x : Result State Refusal) (refusal : Refusal) → x ≡ Err refusal
+    → Answered answer_number x (stepped_of o) o.answer → Answered answer_number (Err refusal) (wrote_of o) o.answer
+refused_on o x refusal k a = answered_other o.state _ (rw k at a)
+
+pub put_silent : (s : State) (store table : List ℕ) (id : ℕ) (r : List ℕ) → (put_step s store table id r).written ≡ silent
+unfolding written
+put_silent s store table id r = writes_nothing crane 0 (put table id r) s store refl
+
+pub down_silent : (s : State) (v : ℕ) → (line_down_step s v).written ≡ silent
+unfolding written
+down_silent s v = writes_nothing crane 0 (move v down) s [] refl
+
+pub tick_silent : (s : State) → (tick_step s).written ≡ silent
+unfolding written
+tick_silent s = writes_nothing crane 0 tick s [] refl
+
+pub put_called : (s : State) (store out : List ℕ) (e : Event) (table : List ℕ) (id : ℕ) (r : List ℕ) (x : Result Wrote Refusal)
     (after : List ℕ)
-    → e ≡ Put table id r → st ≡ stepped_of (put_step s store table id r) → after ≡ (put_step s store table id r).store
-    → x ≡ record { answer = st.answer; written = 0; state = st.state } → Gives s store out e x after out
-unfolding written
-put_called s store out e table id r st x after f g h k =
-    let q = writes_nothing crane 0 (put table id r) s store refl in
-    rw f (stepped (put_step s store table id r) st x q g k, (h, rw q refl))
+    → e ≡ Put table id r → let o = put_step s store table id r in
+    Answered answer_number x (wrote_of o) o.answer → after ≡ o.store → Answers s store out e x after out
+put_called s store out e table id r x after f g h = rw f (g, (h, rw (put_silent s store table id r) refl))
 
-pub down_called : (s : State) (store out : List ℕ) (e : Event) (v : ℕ) (st : Stepped) (x : Wrote)
-    → e ≡ LineDown v → st ≡ stepped_of (line_down_step s v)
-    → x ≡ record { answer = st.answer; written = 0; state = st.state } → Gives s store out e x store out
-unfolding written
-down_called s store out e v st x f g k =
-    let q = writes_nothing crane 0 (move v down) s [] refl in
-    rw f (stepped (line_down_step s v) st x q g k, (refl, rw q refl))
+pub down_called : (s : State) (store out : List ℕ) (e : Event) (v : ℕ) (x : Result Wrote Refusal)
+    → e ≡ LineDown v → let o = line_down_step s v in
+    Answered answer_number x (wrote_of o) o.answer → Answers s store out e x store out
+down_called s store out e v x f g = rw f (g, (refl, rw (down_silent s v) refl))
 
-pub tick_called : (s : State) (store out : List ℕ) (e : Event) (st : Stepped) (x : Wrote)
-    → e ≡ Tick → st ≡ stepped_of (tick_step s)
-    → x ≡ record { answer = st.answer; written = 0; state = st.state } → Gives s store out e x store out
-unfolding written
-tick_called s store out e st x f g k =
-    let q = writes_nothing crane 0 tick s [] refl in
-    rw f (stepped (tick_step s) st x q g k, (refl, rw q refl))
+pub tick_called : (s : State) (store out : List ℕ) (e : Event) (x : Result Wrote Refusal)
+    → e ≡ Tick → let o = tick_step s in
+    Answered answer_number x (wrote_of o) o.answer → Answers s store out e x store out
+tick_called s store out e x f g = rw f (g, (refl, rw (tick_silent s) refl))
 
 -- a call that may write: its answer and its output are what the exporter ensures
-pub wrote_called : (s : State) (store out : List ℕ) (e f : Event) (x : Wrote) (after : List ℕ) → e ≡ f
-    → x ≡ wrote_of (effect s store f) → after ≡ output_after out (effect s store f) → store ≡ effect_store s store f
-    → Gives s store out e x store after
+pub wrote_called : (s : State) (store out : List ℕ) (e f : Event) (x : Result Wrote Refusal) (after : List ℕ) → e ≡ f
+    → Answered answer_number x (wrote_of (effect s store f)) (effect s store f).answer → after ≡ output_after out (effect s store f)
+    → store ≡ effect_store s store f → Answers s store out e x store after
 wrote_called s store out e f x after g h k l = rw g (h, (l, k))
+
+-- ---- what a call leaves
+
+-- what an answer leaves is what is left of the outcome
+pub left_called : (x : Exporter) (e : Event) (r : Result Wrote Refusal)
+    → Answered answer_number r (wrote_of (event_step x e)) (event_step x e).answer → left_by x.state r ≡ left_of (event_step x e)
+unfolding judged
+left_called x e (Ok w) a =
+    let o = event_step x e in
+    let z : o.answer ≡ done = sym a.number in
+    let v : w ≡ record { state = o.state; written = length (octets_written o) } =
+    same_ok (a.same ∙ ap (λ (n : ℕ). judged n (record { state = o.state; written = length (octets_written o) })) z) in
+    rw (v, z) refl
+left_called x e (Err refusal) a =
+    let o = event_step x e in
+    let k = event_kept x e (λ z. refused_number (record { state = o.state; written = length (octets_written o) }) (sym a.same) z) in
+    rw (k.0, k.1, a.number) refl
+
+-- so an answer that is known gives what it leaves
+pub called_left : (s : State) (store out : List ℕ) (e : Event) (r known : Result Wrote Refusal) (left : Left) (afters : List ℕ × List ℕ)
+    → known ≡ r → left ≡ left_by s known → Answers s store out e r afters.0 afters.1 → Gives s store out e left afters.0 afters.1
+called_left s store out e r known left afters k l a =
+    (l ∙ ap (left_by s) k ∙ left_called (record { state = s; store = store }) e r a.0, a.1)
 
 -- the store that a tape names is no longer than the longest
 pub store_small : (t : List ℕ) → Octets t → store_length (body_of t 0) ≤ max_store_octets

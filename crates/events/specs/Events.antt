@@ -1,15 +1,16 @@
 -- The events of a tape: its settings, its table, and the call that an event makes (01, "Replay tape").
-use Rattle.std.specs.Prelude.{ℕ, ◌+◌, ◌-◌, ◌≡◌, cond, not, List, [], ◌∷◌, eqb, ltb, length, drop, replicate}
+use Rattle.std.specs.Prelude.{ℕ, ◌+◌, ◌-◌, ◌≡◌, cond, not, List, [], ◌∷◌, eqb, ltb, length, drop, replicate, Result, Ok, Err}
 use Rattle.std.proofs.lemmas.List.Edits.{sets}
-use Rattle.octets.specs.Answers.{◌when◌, judge, unsound_table}
+use Rattle.octets.specs.Answers.{◌when◌, judge, done, unsound_table, Answered, answer_number, refusal_number}
 use Rattle.octets.specs.Numbers.{uint_at}
-use Rattle.exporter.specs.Steps.{is_sessions, refused_set_up, set_up, Outcome, wrote_of, output_after}
+use Rattle.exporter.specs.Steps.{is_sessions, Made, refused_set_up, set_up, Outcome, octets_written, wrote_of, output_after}
 use Rattle.exporter.specs.InOctets.{Event, Put, NextData, Receive, OfferTemplates, LineDown, Tick, event_step, store_left}
+use Rattle.numbers.specs.declared.refusal.Refusal.{Refusal}
 use Rattle.session.specs.Limits.{max_servers}
 use Rattle.session.specs.declared.state.Settings.{Settings}
-use Rattle.session.specs.declared.state.Made.{Made}
 use Rattle.session.specs.declared.state.State.{State}
 use Rattle.session.specs.declared.state.Wrote.{Wrote}
+use Rattle.events.specs.declared.Left.{Left}
 use Rattle.contents.specs.Tape.{octets_at, priorities_at, template_id_octets, put_kind, message_kind, down_kind, tick_kind, next_kind}
 
 -- ---- the first two events
@@ -68,11 +69,27 @@ effect s store e = event_step (record { state = s; store = store }) e
 abbrev pub effect_store : State → List ℕ → Event → List ℕ
 effect_store s store e = store_left (record { state = s; store = store }) e (effect s store e)
 
--- A call gives this answer, and leaves this store and this output.
-abbrev pub Gives : State → List ℕ → List ℕ → Event → Wrote → List ℕ → List ℕ → Type 0
-Gives s store out e r store_after out_after =
-    (r ≡ wrote_of (effect s store e)) × ((store_after ≡ effect_store s store e) × (out_after ≡ output_after out (effect s store e)))
+-- What is left of an outcome: the state, the number that is answered, and how many octets are written.
+abbrev pub left_of : Outcome → Left
+left_of o = record { state = o.state; answer = o.answer; written = length (octets_written o) }
+
+-- What is left by what a call answers, where s is the state that came: a refused call leaves it, and writes nothing.
+abbrev pub left_by : State → Result Wrote Refusal → Left
+left_by s (Ok w) = record { state = w.state; answer = done; written = w.written }
+left_by s (Err refusal) = record { state = s; answer = refusal_number refusal; written = 0 }
+
+-- A call answers this, and leaves this store and this output.
+abbrev pub Answers : State → List ℕ → List ℕ → Event → Result Wrote Refusal → List ℕ → List ℕ → Type 0
+Answers s store out e r store_after out_after =
+    let o = effect s store e in
+    Answered answer_number r (wrote_of o) o.answer × ((store_after ≡ effect_store s store e) × (out_after ≡ output_after out o))
+
+-- A call leaves this, and this store and this output.
+abbrev pub Gives : State → List ℕ → List ℕ → Event → Left → List ℕ → List ℕ → Type 0
+Gives s store out e left store_after out_after =
+    (left ≡ left_of (effect s store e))
+    × ((store_after ≡ effect_store s store e) × (out_after ≡ output_after out (effect s store e)))
 
 -- The same of an event's call, which is lent this table.
-abbrev pub Called : List ℕ → State → List ℕ → List ℕ → (List ℕ → Event) → Wrote → List ℕ → List ℕ → Type 0
-Called table s store out call r store_after out_after = Gives s store out (call table) r store_after out_after
+abbrev pub Called : List ℕ → State → List ℕ → List ℕ → (List ℕ → Event) → Left → List ℕ → List ℕ → Type 0
+Called table s store out call left store_after out_after = Gives s store out (call table) left store_after out_after

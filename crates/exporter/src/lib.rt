@@ -10,8 +10,8 @@
 //    ACK is received the server is agreed, and the agreed server of highest priority is the active one.
 // 5. `next_data::next_data` writes the next record as DATA for the active server, again and again until it answers 14 (nothing to send).
 //    `batch::send_batch` does so up to a given number of times in one call, the messages back to back in one output (02, ask 5): its answer
-//    is 0 where the number was reached, or that of the call that stopped it (14: all is sent; 12: the next message did not fit), and what
-//    was written before stays. The DATA ACKs that `receive` takes release the records.
+//    is `Ok` where the number was reached, or the refusal of the call that stopped it (14: all is sent; 12: the next message did not fit),
+//    and what was written before stays. The DATA ACKs that `receive` takes release the records.
 // 6. `line_down::line_down` says that the line to a server is down, `tick::tick` that a tick has passed; when an active server is too slow
 //    another one takes over, or all that was not acknowledged is sent again.
 // Each call may be made at any time, in any state: one that is out of turn is refused. specs/Driving.antt goes through a whole session.
@@ -29,10 +29,11 @@
 // a batch's last one, changes. The caller sends what was written to the server that the call was about: the one that it names, or for
 // `next_data` and `send_batch` the active one.
 //
-// What comes back: the answer, how many octets were written, and the state, which is passed by value; the next call gets that state. An
-// answer other than 0 is a refusal (`octets::Answer` names each number) and changes nothing: not the state, the store or the output; of a
-// batch this holds of the single call that stopped it. So a driver may try a call and go on. 1 says that state or store are not what the
-// last call left.
+// What comes back: `Ok` with the next state, and of calls that write with how many octets were written, or `Err` with the refusal
+// (`octets::Refusal`, whose numbers stand here). States are passed by value: the next call gets the state that came back, or after a
+// refusal the one that was passed, since a refusal changes nothing: not the state, the store or the output; of a batch, which hands back
+// state, answer and counts in any case, this holds of the single call that stopped it. So a driver may try a call and go on. 1 says that
+// state or store are not what the last call left.
 //
 // What it does not do: it opens no line, waits for nothing, and reads and writes no octet of a message or table by itself; `wire` does.
 //

@@ -1,35 +1,29 @@
--- The numbers by which answers that are enums cross the boundary to C.
-use Rattle.std.specs.Prelude.{ℕ, ◌+◌, ◌%◌, ◌^◌, cond, List, [], ◌∷◌, length, ◌==◌, slice_index}
-use Rattle.octets.specs.Answers.{done, unsound_table}
+-- The numbers by which answers cross the boundary to C.
+use Rattle.std.specs.Prelude.{ℕ, ◌+◌, ◌%◌, ◌^◌, cond, List, [], ◌∷◌, length, ◌==◌, slice_index, Option, Some, None, Result, Ok, Err}
+use Rattle.octets.specs.Answers.{done, unsound_table, refusal_number}
+use Rattle.numbers.specs.declared.refusal.Refusal.{Refusal}
 use Rattle.wire.specs.Table.{table_sound, flags_sound, order_of}
 use Rattle.wire.specs.Append.{append_of, append_out}
 use Rattle.wire.specs.Messages.{start, start_ack, stop, stop_ack, tmpl_data, final_tmpl_data_ack, start_negotiate, start_negotiate_ack, data_number}
 use Rattle.wire.specs.Messages.{data_ack, write_of, write_out}
 use Rattle.tables.specs.declared.table.Template.{Template}
-use Rattle.tables.specs.declared.table.Found.{Found}
-use Rattle.tables.specs.declared.table.Found.TheVariants as found
 use Rattle.messages.specs.declared.message.DataHead.{DataHead}
 use Rattle.messages.specs.declared.message.Message.{Message}
 use Rattle.messages.specs.declared.message.Message.TheVariants.{Start, StartAck, Stop, StopAck, TmplData, FinalTmplDataAck, StartNegotiate}
 use Rattle.messages.specs.declared.message.Message.TheVariants.{StartNegotiateAck, Data, DataAck}
-use Rattle.messages.specs.declared.message.Reading.{Reading}
-use Rattle.messages.specs.declared.message.Reading.TheVariants as reading
-use Rattle.messages.specs.declared.message.Written.{Written}
-use Rattle.messages.specs.declared.message.Written.TheVariants as written
 use Rattle.records.specs.declared.walk.Value.{Value}
 use Rattle.records.specs.declared.walk.Value.TheVariants as value
 use Rattle.records.specs.declared.walk.Field.{Field}
 use Rattle.records.specs.declared.walk.Cursor.{Cursor}
-use Rattle.records.specs.declared.walk.Step.{Step}
-use Rattle.records.specs.declared.walk.Step.TheVariants as step
-use Rattle.readers.specs.declared.reader.Counted.{Counted}
-use Rattle.readers.specs.declared.reader.Counted.TheVariants as counted
-use Rattle.appending.specs.declared.append.Appended.{Appended}
-use Rattle.appending.specs.declared.append.Appended.TheVariants as appended
 
 -- A number that an accepted answer carries has 256 added to it, modulo 2 to the 64, so that it is no refusal's number.
 abbrev pub accepted_number : ℕ → ℕ
 accepted_number n = (n + 256) % 2 ^ 64
+
+-- The number of an answer that carries one, how many octets or fields or which place: that number plus 256, or the refusal's.
+abbrev pub carried_number : Result ℕ Refusal → ℕ
+carried_number (Ok n) = accepted_number n
+carried_number (Err refusal) = refusal_number refusal
 
 -- ---- tables
 
@@ -42,20 +36,15 @@ abbrev pub template_parts : Template → List ℕ
 template_parts m = done ∷ m.keys ∷ m.count ∷ []
 
 -- The parts of what finding a template answers; a refusal is alone.
-abbrev pub found_parts : Found → List ℕ
-found_parts (found.At m) = template_parts m
-found_parts (found.Refused a) = a ∷ []
+abbrev pub found_parts : Result Template Refusal → List ℕ
+found_parts (Ok m) = template_parts m
+found_parts (Err refusal) = refusal_number refusal ∷ []
 
 -- One of them by its number, 0 where there is none.
-abbrev pub found_part : ℕ → Found → ℕ
-found_part part f = slice_index (found_parts f) part
+abbrev pub found_part : ℕ → Result Template Refusal → ℕ
+found_part part found = slice_index (found_parts found) part
 
 -- ---- messages
-
--- How many octets were written plus 256, or the refusal.
-abbrev pub written_number : Written → ℕ
-written_number (written.Octets n) = accepted_number n
-written_number (written.Refused a) = a
 
 -- Message number, session, Configuration ID, boot time or DSN; no template ID and no flags.
 abbrev pub saying : ℕ → ℕ → ℕ → ℕ → List ℕ
@@ -81,18 +70,18 @@ said_by (DataAck s dsn config) = saying data_ack s config dsn
 
 -- A message that is read is written with its part, which begins at place `at`: the number of what writing answers, the part's place and
 -- length, and what the message says. A refused reading is alone.
-abbrev pub again_parts : ℕ → List ℕ → List ℕ → Reading → List ℕ
-again_parts at part out (reading.Message m) = written_number (write_of m part out) ∷ at ∷ length part ∷ said_by m
-again_parts at part out (reading.Refused a) = a ∷ []
+abbrev pub again_parts : ℕ → List ℕ → List ℕ → Result Message Refusal → List ℕ
+again_parts at part out (Ok m) = carried_number (write_of m part out) ∷ at ∷ length part ∷ said_by m
+again_parts at part out (Err refusal) = refusal_number refusal ∷ []
 
 -- One of them by its number, 0 where there is none.
-abbrev pub again_part : ℕ → ℕ → List ℕ → List ℕ → Reading → ℕ
+abbrev pub again_part : ℕ → ℕ → List ℕ → List ℕ → Result Message Refusal → ℕ
 again_part number at part out r = slice_index (again_parts at part out r) number
 
 -- The output afterwards; where nothing is read, as it was.
-abbrev pub again_out : List ℕ → List ℕ → Reading → List ℕ
-again_out part out (reading.Message m) = write_out m part out
-again_out part out (reading.Refused a) = out
+abbrev pub again_out : List ℕ → List ℕ → Result Message Refusal → List ℕ
+again_out part out (Ok m) = write_out m part out
+again_out part out (Err refusal) = out
 
 -- ---- the field walk
 
@@ -130,14 +119,14 @@ abbrev pub walk_end : ℕ
 walk_end = 255
 
 -- The parts of what a step answers; the end and a refusal are alone.
-abbrev pub step_parts : Step → List ℕ
-step_parts (step.Next f c) = field_parts f c
-step_parts step.End = walk_end ∷ []
-step_parts (step.Refused a) = a ∷ []
+abbrev pub step_parts : Result (Option (Field × Cursor)) Refusal → List ℕ
+step_parts (Ok (Some next)) = field_parts next.0 next.1
+step_parts (Ok None) = walk_end ∷ []
+step_parts (Err refusal) = refusal_number refusal ∷ []
 
 -- One of them by its number, 0 where there is none.
-abbrev pub step_part : ℕ → Step → ℕ
-step_part part s = slice_index (step_parts s) part
+abbrev pub step_part : ℕ → Result (Option (Field × Cursor)) Refusal → ℕ
+step_part part step = slice_index (step_parts step) part
 
 -- ---- appending
 
@@ -146,21 +135,11 @@ unfoldable pub value_of : ℕ → ℕ → Value
 value_of sort number =
     cond (sort == number_sort) (value.Number number) (cond (sort == negative_sort) (value.Negative number) value.Octets)
 
--- The number of fields plus 256, or the refusal.
-abbrev pub counted_number : Counted → ℕ
-counted_number (counted.Fields n) = accepted_number n
-counted_number (counted.Refused a) = a
-
--- The place after the field plus 256, or the refusal.
-abbrev pub appended_number : Appended → ℕ
-appended_number (appended.Next place) = accepted_number place
-appended_number (appended.Refused a) = a
-
 -- Appending under a table of given flags is judged 21, 16, 12: 21 for flags that no sound table has, and otherwise the number of what
 -- appending answers.
 unfoldable pub append_under : ℕ → ℕ → Value → List ℕ → List ℕ → ℕ → ℕ
 append_under flags type value octets out at =
-    cond (flags_sound flags) (appended_number (append_of (order_of flags) type value octets out at)) unsound_table
+    cond (flags_sound flags) (carried_number (append_of (order_of flags) type value octets out at)) unsound_table
 
 -- The output afterwards: as it was where the flags are refused.
 unfoldable pub append_under_out : ℕ → ℕ → Value → List ℕ → List ℕ → ℕ → List ℕ

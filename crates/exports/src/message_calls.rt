@@ -1,26 +1,19 @@
 // Messages, read alone and written again. `read_message` is called once in this crate, so that the compiler puts it in its caller's place.
-ghost use Rattle.std.specs.Prelude.{◌≡◌, ◌∷◌, if◌then◌else◌, slice_index};
+ghost use Rattle.std.specs.Prelude.{◌≡◌, ◌∷◌};
 ghost use Rattle.octets.specs.Answers.{done};
 ghost use Rattle.wire.specs.Messages.{read_answer, read_of, part_at, part_of};
-ghost use Rattle.exports.specs.Numbers.{saying, data_saying, said_by, written_number, again_part, again_out};
+ghost use Rattle.exports.specs.Numbers.{saying, data_saying, said_by, again_part, again_out};
 
-use crate::parts::{accepted, sole_part};
+use crate::parts::{carried_number, one_of, sole_part};
 use wire::header::HEADER_OCTETS;
-use wire::message::{DATA_HEAD_OCTETS, DataHead, Message, Reading, Written};
-
-// 1 for a flag that is set, else 0.
-fn bit(flag: bool) -> u64
-    ensures { result ≡ (if flag then 1 else 0) }
-{
-    if flag { 1 } else { 0 }
-}
+use wire::message::{DATA_HEAD_OCTETS, DataHead, Message};
 
 // Where the part that a message carries begins.
 fn part_place(message: &[u8]) -> usize
     requires { read_answer message.now ≡ done }
     ensures { result ≡ part_at message.now }
 {
-    let number = octets::get_u8(message, 1);
+    let number = octets::get::<u8>(message, 1);
     if number == Message::DATA {
         return DATA_HEAD_OCTETS;
     }
@@ -68,8 +61,8 @@ fn data_parts(n: u64, at: usize, len: usize, head: DataHead) -> [u64; 10]
         head.config as u64,
         head.dsn as u64,
         head.template as u64,
-        bit(head.first),
-        bit(head.duplicate),
+        u64::from(head.first),
+        u64::from(head.duplicate),
     ]
 }
 
@@ -117,24 +110,6 @@ fn message_parts(n: u64, at: usize, len: usize, m: Message) -> [u64; 10]
     }
 }
 
-// One of a message's parts by its number, 0 where there is none.
-fn one_of(part: u8, parts: [u64; 10]) -> u64
-    ensures { result ≡ slice_index parts part }
-{
-    let i = part as usize;
-    if i < 10 { parts[i] } else { 0 }
-}
-
-// The number of what writing a message answers: how many octets were written plus 256, or the refusal.
-pub fn written_number(written: Written) -> u64
-    ensures { result ≡ written_number written }
-{
-    match written {
-        Written::Octets(n) => accepted(n),
-        Written::Refused(a) => a as u64,
-    }
-}
-
 // Reads a message alone and, where it can be read, writes what it says with its part to the output. Answers a part of what was read and
 // written, by its number: 0 how many octets were written plus 256, or the reading's or else the writing's refusal; 1 and 2 the place and
 // the length of the part that the message carries, 3 its number, 4 its session, 5 its Configuration ID, 6 its boot time or DSN, 7 its
@@ -144,11 +119,10 @@ pub fn crane_read_again(message: &[u8], out: &mut [u8], part: u8) -> u64
         out.old (read_of message.now))
         × (out.new ≡ again_out (part_of message.now) out.old (read_of message.now)) }
 {
-    let reading = wire::read::read_message(message);
-    match reading {
-        Reading::Message(m) => {
+    match wire::read::read_message(message) {
+        Ok(m) => {
             let carried = wire::read::message_part(message);
-            let written = written_number(wire::write::write_message(m, carried, out));
+            let written = carried_number(wire::write::write_message(m, carried, out));
             // What benchmarks ask for comes first.
             if part == 0 {
                 return written;
@@ -158,6 +132,6 @@ pub fn crane_read_again(message: &[u8], out: &mut [u8], part: u8) -> u64
                 message_parts(written, part_place(message), carried.len(), m),
             )
         }
-        Reading::Refused(a) => sole_part(part, a as u64),
+        Err(refusal) => sole_part(part, refusal.number() as u64),
     }
 }

@@ -3,12 +3,13 @@
 #![tactic(auto)]
 
 ghost use Rattle.std.specs.Prelude.{◌≡◌};
+ghost use Rattle.octets.specs.Answers.{answer_number};
 ghost use Rattle.wire.specs.Count.{count_of};
 ghost use Rattle.wire.specs.Messages.{read_of, part_at, part_of};
 ghost use Rattle.wire.specs.Record.{record_answer};
 ghost use Rattle.wire.specs.Table.{find_of};
-ghost use Rattle.wire.specs.Walk.{open_of, open_answer, step_of};
-ghost use Rattle.exports.specs.Numbers.{table_form_answer, found_part, again_part, again_out, step_part, value_of, counted_number};
+ghost use Rattle.wire.specs.Walk.{open_of, step_of};
+ghost use Rattle.exports.specs.Numbers.{table_form_answer, found_part, again_part, again_out, step_part, value_of, carried_number};
 ghost use Rattle.exports.specs.Numbers.{append_under, append_under_out};
 
 // 0 for a sound template table, else 21.
@@ -39,7 +40,7 @@ pub extern "C" fn crane_find_part(table: &[u8], id: u16, part: u8) -> u64
 // 0 where a walk over a record can begin, else 21, 15 or 16.
 #[unsafe(no_mangle)]
 pub extern "C" fn crane_open_answer(table: &[u8], id: u16, r: &[u8]) -> u8
-    ensures { result ≡ open_answer (open_of table.now id r.now) }
+    ensures { result ≡ answer_number (open_of table.now id r.now) }
 {
     exports::fields::crane_open_answer(table, id, r)
 }
@@ -47,7 +48,7 @@ pub extern "C" fn crane_open_answer(table: &[u8], id: u16, r: &[u8]) -> u8
 // How many fields a record has plus 256, counted through a reader, or 21, 15 or 16.
 #[unsafe(no_mangle)]
 pub extern "C" fn crane_count_fields(table: &[u8], id: u16, r: &[u8]) -> u64
-    ensures { result ≡ counted_number (count_of table.now id r.now) }
+    ensures { result ≡ carried_number (count_of table.now id r.now) }
 {
     exports::fields::crane_count_fields(table, id, r)
 }

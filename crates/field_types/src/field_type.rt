@@ -4,8 +4,8 @@ ghost use Rattle.field_types.specs.FieldTypes.{type_numbers, width_of, is_type, 
 
 use octets::OctetOrder;
 
-// A field type, by its number.
-#[derive(Clone, Copy)]
+// A field type, by its number. A struct with constants and no enum: a table may hold any number, and every function answers any.
+#[derive(Clone, Copy, Debug, PartialEq, Eq)]
 pub struct FieldType {
     pub number: u16,
 }

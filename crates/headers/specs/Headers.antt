@@ -1,9 +1,9 @@
 -- The header of a message, which both editions share but for the version (01, "Messages"; document 002, section 8).
-use Rattle.std.specs.Prelude.{ℕ, ◌+◌, cond, not, List, [], ◌∷◌, ◌++◌, eqb, ltb, length}
-use Rattle.octets.specs.Answers.{Check, ◌when◌, judge, done, short_message, other_version, length_differs}
+use Rattle.std.specs.Prelude.{ℕ, ◌+◌, not, List, [], ◌∷◌, ◌++◌, eqb, ltb, length, Result}
+use Rattle.octets.specs.Answers.{Check, ◌when◌, judge, judged, short_message, other_version, length_differs}
 use Rattle.octets.specs.Numbers.{uint_at, octets_of}
-use Rattle.headers.specs.declared.header.HeaderReading.{HeaderReading}
-use Rattle.headers.specs.declared.header.HeaderReading.TheVariants as header
+use Rattle.numbers.specs.declared.refusal.Refusal.{Refusal}
+use Rattle.headers.specs.declared.header.Header.{Header}
 
 -- Octets of the header.
 abbrev pub header_octets : ℕ
@@ -46,13 +46,5 @@ unfoldable pub header_answer_for : ℕ → List ℕ → ℕ
 header_answer_for version m = judge (header_checks_for version m)
 
 -- Reading a header alone: its session and message number, or the refusal.
-unfoldable pub header_reading_for : ℕ → List ℕ → HeaderReading
-header_reading_for version m =
-    cond (eqb (header_answer_for version m) done)
-    (header.Header (record { session = session_of m; number = message_number m }))
-    (header.Refused (header_answer_for version m))
-
--- The answer number of reading a header: 0, or the refusal's.
-abbrev pub header_reading_answer : HeaderReading → ℕ
-header_reading_answer (header.Header h) = done
-header_reading_answer (header.Refused a) = a
+unfoldable pub header_reading_for : ℕ → List ℕ → Result Header Refusal
+header_reading_for version m = judged (header_answer_for version m) (record { session = session_of m; number = message_number m })

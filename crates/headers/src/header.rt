@@ -1,58 +1,49 @@
 // A message's header: version, message number, session, message flags, length of the whole message.
 ghost use Rattle.std.specs.Prelude.{◌≡◌};
-ghost use Rattle.octets.specs.Answers.{Answered};
+ghost use Rattle.octets.specs.Answers.{Answered, judged, answer_number};
 ghost use Rattle.octets.specs.Numbers.{put_at};
-ghost use Rattle.headers.specs.Headers.{header_answer_for, header_reading_for, header_reading_answer, header_for};
+ghost use Rattle.headers.specs.Headers.{header_answer_for, header_reading_for, header_for};
 
-use octets::Answer;
+use octets::Refusal;
 
 // The octets of a message's header.
 pub const HEADER_OCTETS: usize = 8;
 
 // What a message's header says.
-#[derive(Clone, Copy)]
+#[derive(Clone, Copy, Debug, PartialEq, Eq)]
 pub struct Header {
     pub session: u8,
     pub number: u8,
 }
 
-// What reading a header answers.
-#[derive(Clone, Copy)]
-pub enum HeaderReading {
-    Header(Header),
-    Refused(u8),
-}
-
-// 0 for a whole header that names the version and whose length field is right, else 3, 4 or 5.
-pub fn header_answer(version: u8, message: &[u8]) -> u8
-    ensures { result ≡ header_answer_for version message.now }
+// Whether a message has a whole header that names the version and whose length field is right; else 3, 4 or 5.
+pub fn check_header(version: u8, message: &[u8]) -> Result<(), Refusal>
+    ensures { Answered answer_number result (judged (header_answer_for version message.now) tt)
+        (header_answer_for version message.now) }
 {
     if message.len() < HEADER_OCTETS {
-        return Answer::SHORT_MESSAGE;
+        return Err(Refusal::ShortMessage);
     }
     if message[0] != version {
-        return Answer::OTHER_VERSION;
+        return Err(Refusal::OtherVersion);
     }
     let len = octets::u32_of(message[4], message[5], message[6], message[7]);
     if len as usize != message.len() {
-        return Answer::LENGTH_DIFFERS;
+        return Err(Refusal::LengthDiffers);
     }
-    Answer::DONE
+    Ok(())
 }
 
 // Reads a message's header alone: its session and number, or 3, 4 or 5.
-pub fn read_header(version: u8, message: &[u8]) -> HeaderReading
-    ensures { Answered header_reading_answer result (header_reading_for version message.now)
+pub fn read_header(version: u8, message: &[u8]) -> Result<Header, Refusal>
+    ensures { Answered answer_number result (header_reading_for version message.now)
         (header_answer_for version message.now) }
 {
-    let answer = header_answer(version, message);
-    if answer == Answer::DONE {
-        return HeaderReading::Header(Header {
-            session: message[2],
-            number: message[1],
-        });
-    }
-    HeaderReading::Refused(answer)
+    check_header(version, message)?;
+    Ok(Header {
+        session: message[2],
+        number: message[1],
+    })
 }
 
 // Writes the header of a message of `len` octets; to an output of fewer than 8 octets, nothing.
@@ -66,5 +57,5 @@ pub fn put_header(version: u8, number: u8, session: u8, len: u32, out: &mut [u8]
     out[1] = number;
     out[2] = session;
     out[3] = 0;
-    octets::put_u32(out, 4, len);
+    octets::put(out, 4, len);
 }

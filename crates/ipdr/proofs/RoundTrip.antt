@@ -8,27 +8,26 @@ use borrow.Author.Tests.{eqb-true, eq-eqb, ltb-false, le-ltb}
 use lib.Dec.{eqb, ltb}
 use lib.Seq.{sets}
 use lib.ListN.{length, take, drop, length-append, drop_of_length-le}
-use Rattle.octets.specs.Answers.{done}
+use Rattle.std.specs.Prelude.{Result, Ok}
+use Rattle.numbers.specs.declared.refusal.Refusal.{Refusal}
+use Rattle.octets.specs.Answers.{done, judged, answer_number}
 use Rattle.octets.specs.Numbers.{uint_at, octets_in, Octets}
 use Rattle.octets.proofs.Stores.{output_begins}
-use Rattle.headers.specs.Headers.{header_octets, message_number, session_of, header_for, message_for}
+use Rattle.headers.specs.Headers.{header_checks_for, header_octets, message_number, session_of, header_for, message_for}
 use Rattle.headers.proofs.Headers as header
 use Rattle.octets.proofs.Rows.{EachRow, none, ◌and◌, each_row}
 use Rattle.ipdr.specs.declared.message.Content.{Content}
 use Rattle.ipdr.specs.declared.message.Content.TheVariants as content
 use Rattle.ipdr.specs.declared.message.Message.{Message}
-use Rattle.ipdr.specs.declared.message.Reading.TheVariants as reading
 use Rattle.ipdr.specs.Fields.{values_at, octets_by_widths, InWidths, counted_octets, counted_fits}
 use Rattle.ipdr.specs.Messages.{Form, forms, protocol_version, is_message, widths_of, is_counted, fixed_octets, behind_length, octet_of}
 use Rattle.ipdr.specs.Messages.{is_true, is_duplicate}
 use Rattle.ipdr.specs.Messages.{flow_start, flow_stop, connect, connect_response, disconnect, session_start, session_stop, data_number}
 use Rattle.ipdr.specs.Messages.{data_acknowledge, error_number, numbers_of, number_for, values_for, content_by, body_of, layout_by, layout_of}
 use Rattle.ipdr.specs.Messages.{body_fits, read_answer, meaning_of, read_of, part_at, part_of, takes_part, max_part_octets, carried, carried_at}
-use Rattle.ipdr.specs.Messages.{Writable, Plain, reading_answer, write_checks, write_answer_by, write_by, write_out_by}
+use Rattle.ipdr.specs.Messages.{Writable, Plain, body_checks, write_checks, write_answer_by, write_by, write_out_by}
 use Rattle.ipdr.specs.Messages.{write_answer, write_of, write_out}
-use Rattle.messages.specs.Messages.{written_answer}
-use Rattle.messages.specs.declared.message.Written.TheVariants as written
-use Rattle.octets.proofs.Judging.{passed, judged_done, kept}
+use Rattle.octets.proofs.Judging.{passed, judged_done, judged_answered, judged_ok}
 use Rattle.messages.proofs.Messages.{not_both}
 use Rattle.ipdr.proofs.Fields.{fields_length, values_back, values_written, counted_length, counted_back}
 use Rattle.ipdr.proofs.Fields.{counted_written, counted_fitting}
@@ -101,19 +100,16 @@ number_said vs n known = each_row (λ (f : Form). f.number) (λ k. n ≡ k → n
         and none
 
 -- so the part of a message that is read begins where what it says has it
-pub part_at_lem : (m : List ℕ) (x : Message) → read_of m ≡ reading.Message x → part_at m ≡ carried_at x
-unfolding read_of meaning_of part_at
-part_at_lem m x e = go (eqb (read_answer m) done) refl e
-  where
-    go : (b : Bool) → eqb (read_answer m) done ≡ b
-        → cond b (reading.Message (meaning_of m)) (reading.Refused (read_answer m)) ≡ reading.Message x → part_at m ≡ carried_at x
-    go true a e =
-        let n = message_number m in
-        let said = number_said (values_at m header_octets (widths_of n)) n (readable m (eqb-true (read_answer m) done a)).known in
-        let same : meaning_of m ≡ x = cc in
-        let at : part_at m ≡ cond (is_counted n) (behind_length n) 0 = rw a in
-        at ∙ ap (λ (k : ℕ). cond (is_counted k) (behind_length k) 0) (sym said) ∙ ap carried_at same
-    go false a e = let z : ◌≡◌ {A = ℕ} 0 1 = cc in absurd (omega arith)
+pub part_at_lem : (m : List ℕ) (x : Message) → read_of m ≡ Ok x → part_at m ≡ carried_at x
+unfolding judged read_of meaning_of part_at
+part_at_lem m x e =
+    let n = message_number m in
+    let a : read_answer m ≡ done = judged_ok (read_answer m) (meaning_of m) e in
+    let said = number_said (values_at m header_octets (widths_of n)) n (readable m a).known in
+    let means : ◌≡◌ {A = Result Message Refusal} (judged done (meaning_of m)) (Ok x) = rw a at e in
+    let same : meaning_of m ≡ x = cc in
+    let at : part_at m ≡ cond (is_counted n) (behind_length n) 0 = rw a in
+    at ∙ ap (λ (k : ℕ). cond (is_counted k) (behind_length k) 0) (sym said) ∙ ap carried_at same
 
 -- ---- reading the octets of a layout
 
@@ -188,15 +184,15 @@ module _ (n s : ℕ) (vs part : List ℕ) (known : is_message n ≡ true) (fit :
 
 -- ---- THE ROUND TRIP: a message that can be written reads back as what it says, and hands back its part at its place.
 pub reads_back_lem : (m : Message) (part : List ℕ) → Writable m part
-    → (read_of (layout_of m part) ≡ reading.Message m)
+    → (read_of (layout_of m part) ≡ Ok m)
     × ((part_of (layout_of m part) ≡ carried m part) × (part_at (layout_of m part) ≡ carried_at m))
-unfolding layout_by read_of
+unfolding judged layout_by read_of
 reads_back_lem m part w =
     let n = number_for m.content in
     let vs = values_for m.content in
     let known = number_known m.content in (
       rw (answered n m.session vs part known w.values w.short)
-          (ap reading.Message (said n m.session vs part known w.values w.short ∙ rw (content_back m.content))),
+          (ap (λ (x : Message). Ok x) (said n m.session vs part known w.values w.short ∙ rw (content_back m.content))),
       part_back n m.session vs part known w.values w.short (is_counted n) refl,
     )
 
@@ -264,14 +260,15 @@ module _ (m : List ℕ) (octet : Octets m) (answer : read_answer m ≡ done) (pl
       ∙ ap (message_for protocol_version num (session_of m)) body_again
       ∙ rw (said_again.0, said_again.1)
 
--- ---- THE ANSWER NUMBERS: the number of an answer that is an enum is the answer number that it was made from.
-pub reading_number : (m : List ℕ) → reading_answer (read_of m) ≡ read_answer m
-unfolding read_of
-reading_number m = kept reading_answer _ reading.Refused refl (λ a. refl) (read_answer m)
+-- ---- THE ANSWER NUMBERS: the number of what a call answers is the answer number that it is judged by.
+pub reading_number : (m : List ℕ) → answer_number (read_of m) ≡ read_answer m
+unfolding read_of read_answer
+reading_number m =
+    (judged_answered (meaning_of m) (header_checks_for protocol_version m ++ body_checks (message_number m) m) refl refl).number
 
-pub written_number_lem : (m : Message) (part out : List ℕ) → written_answer (write_of m part out) ≡ write_answer m part (length out)
-unfolding write_by
-written_number_lem m part out = kept written_answer _ written.Refused refl (λ a. refl) (write_answer m part (length out))
+pub written_number_lem : (m : Message) (part out : List ℕ) → answer_number (write_of m part out) ≡ write_answer m part (length out)
+unfolding write_by write_answer_by
+written_number_lem m part out = (judged_answered (length (layout_of m part)) (write_checks (numbers_of m) part (length out)) refl refl).number
 
 -- ---- WRITING: a message that can be written, and has room, is not refused.
 pub writes : (m : Message) (part : List ℕ) (room : ℕ) → Writable m part → length (layout_of m part) ≤ room → write_answer m part room ≡ done
@@ -300,7 +297,7 @@ written_out m part out h = rw (done_out m part out h) (output_begins (layout_of 
 
 -- So what was written to an output with room reads back from there, and its part is handed back at its place.
 pub wrote_reads : (m : Message) (part out : List ℕ) → Writable m part → length (layout_of m part) ≤ length out
-    → (read_of (take (length (layout_of m part)) (write_out m part out)) ≡ reading.Message m)
+    → (read_of (take (length (layout_of m part)) (write_out m part out)) ≡ Ok m)
     × ((part_of (take (length (layout_of m part)) (write_out m part out)) ≡ carried m part)
     × (part_at (take (length (layout_of m part)) (write_out m part out)) ≡ carried_at m))
 wrote_reads m part out w h = rw (written_out m part out (writes m part (length out) w h)).0 (reads_back_lem m part w)

@@ -1,14 +1,14 @@
 -- Octets of the ten messages, as document 002 (sections 3, 4 and 8) and 02's ask 1 give them. Each is a row of one table, and the one claim
 -- is that every row holds. Lengths are decimal, all other octets hexadecimal.
-use Rattle.std.specs.Prelude.{◌≡◌, Bool, true, false, List, [], ◌∷◌, ◌++◌, ℕ, take, replicate}
+use Rattle.std.specs.Prelude.{◌≡◌, Bool, true, false, List, [], ◌∷◌, ◌++◌, ℕ, take, replicate, Result, Ok, Err}
 use Rattle.headers.specs.Headers.{header_reading_for}
-use Rattle.headers.specs.declared.header.HeaderReading.{HeaderReading}
-use Rattle.headers.specs.declared.header.HeaderReading.TheVariants as header
-use Rattle.messages.specs.declared.message.Written.TheVariants as written
+use Rattle.headers.specs.declared.header.Header.{Header}
+use Rattle.numbers.specs.declared.refusal.Refusal.{Refusal}
+use Rattle.numbers.specs.declared.refusal.Refusal.TheVariants.{ShortMessage, OtherVersion, LengthDiffers, MessageNotAccepted}
+use Rattle.numbers.specs.declared.refusal.Refusal.TheVariants.{BodyLengthWrong, OutputTooShort, RecordTooLong}
 use Rattle.ipdr.specs.declared.message.Content.{Content}
 use Rattle.ipdr.specs.declared.message.Content.TheVariants as content
 use Rattle.ipdr.specs.declared.message.Message.{Message}
-use Rattle.ipdr.specs.declared.message.Reading.TheVariants as reading
 use Rattle.ipdr.specs.Messages.{layout_of, read_of, part_at, part_of, write_of, write_out}
 
 -- A row. A message is given by its session, what it says, and its text or record, the part.
@@ -17,14 +17,14 @@ pub data Row : Type 0 where
   same : ℕ → Content → List ℕ → ℕ → List ℕ → Row
   -- the same of octets that are only read: such a message is written otherwise, or not at all
   reads : ℕ → Content → List ℕ → ℕ → List ℕ → Row
-  -- octets that reading refuses with an answer number; the empty part at octet 0 is handed back
-  refused : ℕ → List ℕ → Row
+  -- octets that reading refuses, and why; the empty part at octet 0 is handed back
+  refused : Refusal → List ℕ → Row
   -- a version, octets, and what reading their header alone answers
-  heads : ℕ → List ℕ → HeaderReading → Row
+  heads : ℕ → List ℕ → Result Header Refusal → Row
   -- a message, the output lent for it, how many octets are written, and the output afterwards
   writes : ℕ → Content → List ℕ → List ℕ → ℕ → List ℕ → Row
-  -- an answer number with which writing refuses, the message, and the output lent for it, which stays
-  unwritten : ℕ → ℕ → Content → List ℕ → List ℕ → Row
+  -- why writing refuses, the message, and the output lent for it, which stays
+  unwritten : Refusal → ℕ → Content → List ℕ → List ℕ → Row
 
 -- A message, by its session and what it says.
 abbrev pub message : ℕ → Content → Message
@@ -32,18 +32,18 @@ message session content = record { session = session; content = content }
 
 -- Octets are read as a message and its part, which begins at an octet.
 abbrev pub ReadAs : ℕ → Content → List ℕ → ℕ → List ℕ → Type 0
-ReadAs s c part at octets = (read_of octets ≡ reading.Message (message s c)) × ((part_of octets ≡ part) × (part_at octets ≡ at))
+ReadAs s c part at octets = (read_of octets ≡ Ok (message s c)) × ((part_of octets ≡ part) × (part_at octets ≡ at))
 
 -- What a row says.
 abbrev pub Holds : Row → Type 0
 Holds (same s c part at octets) = (layout_of (message s c) part ≡ octets) × ReadAs s c part at octets
 Holds (reads s c part at octets) = ReadAs s c part at octets
-Holds (refused answer octets) = (read_of octets ≡ reading.Refused answer) × ((part_of octets ≡ []) × (part_at octets ≡ 0))
+Holds (refused refusal octets) = (read_of octets ≡ Err refusal) × ((part_of octets ≡ []) × (part_at octets ≡ 0))
 Holds (heads version octets answer) = header_reading_for version octets ≡ answer
 Holds (writes s c part out n after) =
-    (write_of (message s c) part out ≡ written.Octets n) × (write_out (message s c) part out ≡ after)
-Holds (unwritten answer s c part out) =
-    (write_of (message s c) part out ≡ written.Refused answer) × (write_out (message s c) part out ≡ out)
+    (write_of (message s c) part out ≡ Ok n) × (write_out (message s c) part out ≡ after)
+Holds (unwritten refusal s c part out) =
+    (write_of (message s c) part out ≡ Err refusal) × (write_out (message s c) part out ≡ out)
 
 -- Every row holds.
 abbrev pub AllHold : List Row → Type 0
@@ -137,49 +137,49 @@ rows =
     ∷ reads 0xE5 (a_session_start true) [] 0 (0x02 ∷ 0x08 ∷ 0xE5 ∷ 0x80 ∷ 0 ∷ 0 ∷ 0 ∷ 53 ∷ session_start_body 0x02)
     ∷ reads 0xB2 a_flow_stop (times 1025 0x61) 14 (flow_stop_with 4 15 (0 ∷ 0 ∷ 4 ∷ 1 ∷ times 1025 0x61))
     -- 3: no octets; seven, of another version
-    ∷ refused 3 []
-    ∷ refused 3 (0x01 ∷ 0x07 ∷ 0xD4 ∷ 0x00 ∷ 0 ∷ 0 ∷ 0 ∷ [])
+    ∷ refused ShortMessage []
+    ∷ refused ShortMessage (0x01 ∷ 0x07 ∷ 0xD4 ∷ 0x00 ∷ 0 ∷ 0 ∷ 0 ∷ [])
     -- 4: CRANE's START; the same with a wrong length
-    ∷ refused 4 (0x01 ∷ 0x01 ∷ 0x07 ∷ 0x00 ∷ 0 ∷ 0 ∷ 0 ∷ 8 ∷ [])
-    ∷ refused 4 (0x01 ∷ 0x01 ∷ 0x07 ∷ 0x00 ∷ 0 ∷ 0 ∷ 0 ∷ 9 ∷ [])
+    ∷ refused OtherVersion (0x01 ∷ 0x01 ∷ 0x07 ∷ 0x00 ∷ 0 ∷ 0 ∷ 0 ∷ 8 ∷ [])
+    ∷ refused OtherVersion (0x01 ∷ 0x01 ∷ 0x07 ∷ 0x00 ∷ 0 ∷ 0 ∷ 0 ∷ 9 ∷ [])
     -- 5: a length one too small; one too large, in a message that is none of the ten
-    ∷ refused 5 (0x02 ∷ 0x07 ∷ 0xD4 ∷ 0x00 ∷ 0 ∷ 0 ∷ 0 ∷ 7 ∷ [])
-    ∷ refused 5 (0x02 ∷ 0x10 ∷ 0xD4 ∷ 0x00 ∷ 0 ∷ 0 ∷ 0 ∷ 9 ∷ [])
+    ∷ refused LengthDiffers (0x02 ∷ 0x07 ∷ 0xD4 ∷ 0x00 ∷ 0 ∷ 0 ∷ 0 ∷ 7 ∷ [])
+    ∷ refused LengthDiffers (0x02 ∷ 0x10 ∷ 0xD4 ∷ 0x00 ∷ 0 ∷ 0 ∷ 0 ∷ 9 ∷ [])
     -- 7: TEMPLATE DATA; CRANE's START ACK, with its body
-    ∷ refused 7 (0x02 ∷ 0x10 ∷ 0x07 ∷ 0x00 ∷ 0 ∷ 0 ∷ 0 ∷ 8 ∷ [])
-    ∷ refused 7 (0x02 ∷ 0x02 ∷ 0x07 ∷ 0x00 ∷ 0 ∷ 0 ∷ 0 ∷ 12 ∷ 0x00 ∷ 0x00 ∷ 0x0E ∷ 0x10 ∷ [])
+    ∷ refused MessageNotAccepted (0x02 ∷ 0x10 ∷ 0x07 ∷ 0x00 ∷ 0 ∷ 0 ∷ 0 ∷ 8 ∷ [])
+    ∷ refused MessageNotAccepted (0x02 ∷ 0x02 ∷ 0x07 ∷ 0x00 ∷ 0 ∷ 0 ∷ 0 ∷ 12 ∷ 0x00 ∷ 0x00 ∷ 0x0E ∷ 0x10 ∷ [])
     -- 8: FLOW START with a body; CRANE's STOP; FLOW STOP, CONNECT and DATA one octet short of an inner length
-    ∷ refused 8 (0x02 ∷ 0x01 ∷ 0xA1 ∷ 0x00 ∷ 0 ∷ 0 ∷ 0 ∷ 9 ∷ 0x00 ∷ [])
-    ∷ refused 8 (0x02 ∷ 0x03 ∷ 0xB2 ∷ 0x00 ∷ 0 ∷ 0 ∷ 0 ∷ 8 ∷ [])
-    ∷ refused 8 (flow_stop_with 0 13 (0 ∷ 0 ∷ 0 ∷ []))
-    ∷ refused 8 (0x02 ∷ 0x05 ∷ 0x00 ∷ 0x00 ∷ 0 ∷ 0 ∷ 0 ∷ 25 ∷ times 17 0x00)
-    ∷ refused 8 (data_with 0x00 24 0x00 (0 ∷ 0 ∷ 0 ∷ []))
+    ∷ refused BodyLengthWrong (0x02 ∷ 0x01 ∷ 0xA1 ∷ 0x00 ∷ 0 ∷ 0 ∷ 0 ∷ 9 ∷ 0x00 ∷ [])
+    ∷ refused BodyLengthWrong (0x02 ∷ 0x03 ∷ 0xB2 ∷ 0x00 ∷ 0 ∷ 0 ∷ 0 ∷ 8 ∷ [])
+    ∷ refused BodyLengthWrong (flow_stop_with 0 13 (0 ∷ 0 ∷ 0 ∷ []))
+    ∷ refused BodyLengthWrong (0x02 ∷ 0x05 ∷ 0x00 ∷ 0x00 ∷ 0 ∷ 0 ∷ 0 ∷ 25 ∷ times 17 0x00)
+    ∷ refused BodyLengthWrong (data_with 0x00 24 0x00 (0 ∷ 0 ∷ 0 ∷ []))
     -- 8: SESSION START and DATA ACKNOWLEDGE, one octet short and one over
-    ∷ refused 8 (0x02 ∷ 0x08 ∷ 0xE5 ∷ 0x00 ∷ 0 ∷ 0 ∷ 0 ∷ 52 ∷ take 44 (session_start_body 0x01))
-    ∷ refused 8 (0x02 ∷ 0x08 ∷ 0xE5 ∷ 0x00 ∷ 0 ∷ 0 ∷ 0 ∷ 54 ∷ (session_start_body 0x01 ++ (0x70 ∷ [])))
-    ∷ refused 8 (0x02 ∷ 0x21 ∷ 0x18 ∷ 0x00 ∷ 0 ∷ 0 ∷ 0 ∷ 17 ∷ times 9 0x11)
-    ∷ refused 8 (0x02 ∷ 0x21 ∷ 0x18 ∷ 0x00 ∷ 0 ∷ 0 ∷ 0 ∷ 19 ∷ times 11 0x11)
+    ∷ refused BodyLengthWrong (0x02 ∷ 0x08 ∷ 0xE5 ∷ 0x00 ∷ 0 ∷ 0 ∷ 0 ∷ 52 ∷ take 44 (session_start_body 0x01))
+    ∷ refused BodyLengthWrong (0x02 ∷ 0x08 ∷ 0xE5 ∷ 0x00 ∷ 0 ∷ 0 ∷ 0 ∷ 54 ∷ (session_start_body 0x01 ++ (0x70 ∷ [])))
+    ∷ refused BodyLengthWrong (0x02 ∷ 0x21 ∷ 0x18 ∷ 0x00 ∷ 0 ∷ 0 ∷ 0 ∷ 17 ∷ times 9 0x11)
+    ∷ refused BodyLengthWrong (0x02 ∷ 0x21 ∷ 0x18 ∷ 0x00 ∷ 0 ∷ 0 ∷ 0 ∷ 19 ∷ times 11 0x11)
     -- 8: an inner length one too large; one too small; FFFFFFFF
-    ∷ refused 8 (flow_stop_with 0 16 (0 ∷ 0 ∷ 0 ∷ 3 ∷ 0x6E ∷ 0x6F ∷ []))
-    ∷ refused 8 (flow_stop_with 0 16 (0 ∷ 0 ∷ 0 ∷ 1 ∷ 0x6E ∷ 0x6F ∷ []))
-    ∷ refused 8 (data_with 0x00 27 0x01 (0xFF ∷ 0xFF ∷ 0xFF ∷ 0xFF ∷ 0xDE ∷ 0xAD ∷ []))
+    ∷ refused BodyLengthWrong (flow_stop_with 0 16 (0 ∷ 0 ∷ 0 ∷ 3 ∷ 0x6E ∷ 0x6F ∷ []))
+    ∷ refused BodyLengthWrong (flow_stop_with 0 16 (0 ∷ 0 ∷ 0 ∷ 1 ∷ 0x6E ∷ 0x6F ∷ []))
+    ∷ refused BodyLengthWrong (data_with 0x00 27 0x01 (0xFF ∷ 0xFF ∷ 0xFF ∷ 0xFF ∷ 0xDE ∷ 0xAD ∷ []))
     -- a header alone: KEEP ALIVE, which is none of the ten, for both versions; CRANE's START for both
-    ∷ heads 2 (0x02 ∷ 0x40 ∷ 0xC3 ∷ 0xFF ∷ 0 ∷ 0 ∷ 0 ∷ 8 ∷ []) (header.Header (record { session = 0xC3; number = 0x40 }))
-    ∷ heads 1 (0x02 ∷ 0x40 ∷ 0xC3 ∷ 0xFF ∷ 0 ∷ 0 ∷ 0 ∷ 8 ∷ []) (header.Refused 4)
-    ∷ heads 2 (0x01 ∷ 0x01 ∷ 0x07 ∷ 0x00 ∷ 0 ∷ 0 ∷ 0 ∷ 8 ∷ []) (header.Refused 4)
-    ∷ heads 1 (0x01 ∷ 0x01 ∷ 0x07 ∷ 0x00 ∷ 0 ∷ 0 ∷ 0 ∷ 8 ∷ []) (header.Header (record { session = 0x07; number = 0x01 }))
+    ∷ heads 2 (0x02 ∷ 0x40 ∷ 0xC3 ∷ 0xFF ∷ 0 ∷ 0 ∷ 0 ∷ 8 ∷ []) (Ok (record { session = 0xC3; number = 0x40 }))
+    ∷ heads 1 (0x02 ∷ 0x40 ∷ 0xC3 ∷ 0xFF ∷ 0 ∷ 0 ∷ 0 ∷ 8 ∷ []) (Err OtherVersion)
+    ∷ heads 2 (0x01 ∷ 0x01 ∷ 0x07 ∷ 0x00 ∷ 0 ∷ 0 ∷ 0 ∷ 8 ∷ []) (Err OtherVersion)
+    ∷ heads 1 (0x01 ∷ 0x01 ∷ 0x07 ∷ 0x00 ∷ 0 ∷ 0 ∷ 0 ∷ 8 ∷ []) (Ok (record { session = 0x07; number = 0x01 }))
     -- a part lent for FLOW START is ignored, and the octet behind the message stays; a text of 1,024 octets is written
     ∷ writes 0xA1 content.FlowStart (times 1025 0x61) (times 9 0xEE) 8 (0x02 ∷ 0x01 ∷ 0xA1 ∷ 0x00 ∷ 0 ∷ 0 ∷ 0 ∷ 8 ∷ 0xEE ∷ [])
     ∷ writes 0xB2 a_flow_stop (times 1024 0x61) (times 1038 0xEE) 1038 (flow_stop_with 4 14 (0 ∷ 0 ∷ 4 ∷ 0 ∷ times 1024 0x61))
     -- 12: one octet of room missing, be it with a part that is ignored
-    ∷ unwritten 12 0xB2 a_flow_stop (times 1024 0x61) (times 1037 0xEE)
-    ∷ unwritten 12 0xA1 content.FlowStart (times 1025 0x61) (times 7 0xEE)
+    ∷ unwritten OutputTooShort 0xB2 a_flow_stop (times 1024 0x61) (times 1037 0xEE)
+    ∷ unwritten OutputTooShort 0xA1 content.FlowStart (times 1025 0x61) (times 7 0xEE)
     -- 17: a record with room for it, and without; every text
-    ∷ unwritten 17 0xE5 (a_data true) (times 1025 0x61) (times 1050 0xEE)
-    ∷ unwritten 17 0xE5 (a_data true) (times 1025 0x61) []
-    ∷ unwritten 17 0xB2 a_flow_stop (times 1025 0x61) []
-    ∷ unwritten 17 0xF6 (content.SessionStop 1) (times 1025 0x61) []
-    ∷ unwritten 17 0x00 (a_connect 1 2 3 4) (times 1025 0x61) []
-    ∷ unwritten 17 0xC3 (content.ConnectResponse 1 2) (times 1025 0x61) []
-    ∷ unwritten 17 0x29 (content.Error 1 2) (times 1025 0x61) []
+    ∷ unwritten RecordTooLong 0xE5 (a_data true) (times 1025 0x61) (times 1050 0xEE)
+    ∷ unwritten RecordTooLong 0xE5 (a_data true) (times 1025 0x61) []
+    ∷ unwritten RecordTooLong 0xB2 a_flow_stop (times 1025 0x61) []
+    ∷ unwritten RecordTooLong 0xF6 (content.SessionStop 1) (times 1025 0x61) []
+    ∷ unwritten RecordTooLong 0x00 (a_connect 1 2 3 4) (times 1025 0x61) []
+    ∷ unwritten RecordTooLong 0xC3 (content.ConnectResponse 1 2) (times 1025 0x61) []
+    ∷ unwritten RecordTooLong 0x29 (content.Error 1 2) (times 1025 0x61) []
     ∷ []

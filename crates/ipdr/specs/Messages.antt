@@ -1,20 +1,17 @@
 -- IPDR/SP 2.2's ten messages: their layouts, reading and writing alone (02, ask 1; document 002, sections 3, 4 and 8).
-use Rattle.std.specs.Prelude.{◌≡◌, ℕ, ◌+◌, ◌%◌, ◌<◌, ◌≤◌, Bool, true, false, cond, not, ◌&&◌, List, [], ◌∷◌, ◌++◌, eqb, ltb, length, drop, get_or}
+use Rattle.std.specs.Prelude.{◌≡◌, ℕ, ◌+◌, ◌%◌, ◌<◌, ◌≤◌, Bool, true, false, cond, not, ◌&&◌, List, [], ◌∷◌, ◌++◌, eqb, ltb, length, drop, get_or, Result, Option, Some, None}
 use Rattle.std.proofs.lemmas.List.Edits.{sets}
-use Rattle.octets.specs.Answers.{Check, ◌when◌, judge, done, message_not_accepted, body_length_wrong, output_too_short, record_too_long}
-use Rattle.octets.specs.Numbers.{uint_at}
+use Rattle.octets.specs.Answers.{Check, ◌when◌, judge, judged, done, message_not_accepted, body_length_wrong, output_too_short, record_too_long}
+use Rattle.octets.specs.Numbers.{uint_at, put_at}
 use Rattle.octets.specs.Each.{look_up}
-use Rattle.headers.specs.Headers.{header_octets, message_number, session_of, message_for, header_checks_for}
-use Rattle.messages.specs.declared.message.Written.{Written}
-use Rattle.messages.specs.declared.message.Written.TheVariants as written
+use Rattle.headers.specs.Headers.{header_octets, message_number, session_of, header_for, message_for, header_checks_for}
+use Rattle.numbers.specs.declared.refusal.Refusal.{Refusal}
 use Rattle.ipdr.specs.declared.message.Connect.{Connect}
 use Rattle.ipdr.specs.declared.message.SessionStart.{SessionStart}
 use Rattle.ipdr.specs.declared.message.DataHead.{DataHead}
 use Rattle.ipdr.specs.declared.message.Content.{Content}
 use Rattle.ipdr.specs.declared.message.Content.TheVariants as content
 use Rattle.ipdr.specs.declared.message.Message.{Message}
-use Rattle.ipdr.specs.declared.message.Reading.{Reading}
-use Rattle.ipdr.specs.declared.message.Reading.TheVariants as reading
 use Rattle.ipdr.specs.Fields.{widths_total, values_at, octets_by_widths, InWidths, length_octets, counted_octets, counted_fits}
 
 -- The version that every header names (section 8).
@@ -256,23 +253,24 @@ abbrev pub content_of : ℕ → List ℕ → Content
 content_of n m = content_by n (values_at m header_octets (widths_of n))
 
 -- Reading behind a header that is not refused answers, by the message number, what the message says, or 7 or 8.
-unfoldable pub read_body : ℕ → List ℕ → Reading
-read_body n m =
-    cond (eqb (body_answer n m) done)
-    (reading.Message (record { session = session_of m; content = content_of n m }))
-    (reading.Refused (body_answer n m))
+unfoldable pub read_body : ℕ → List ℕ → Result Message Refusal
+read_body n m = judged (body_answer n m) (record { session = session_of m; content = content_of n m })
 
 -- What a message says.
 unfoldable pub meaning_of : List ℕ → Message
 meaning_of m = record { session = session_of m; content = content_of (message_number m) m }
 
 -- Reading alone answers the meaning or the refusal.
-unfoldable pub read_of : List ℕ → Reading
-read_of m = cond (eqb (read_answer m) done) (reading.Message (meaning_of m)) (reading.Refused (read_answer m))
+unfoldable pub read_of : List ℕ → Result Message Refusal
+read_of m = judged (read_answer m) (meaning_of m)
 
 -- The message is not refused and has a text or a record: only then a part is handed back.
 abbrev pub has_part : List ℕ → Bool
 has_part m = eqb (read_answer m) done && is_counted (message_number m)
+
+-- How many octets stand in front of the length of the text or the record that ends the message with a number; none where nothing does.
+abbrev pub counted_place : ℕ → Option ℕ
+counted_place n = cond (is_counted n) (Some (fixed_octets n)) None
 
 -- Where a text or a record of the message with a number begins: behind the fields and its length.
 abbrev pub behind_length : ℕ → ℕ
@@ -304,18 +302,31 @@ unfoldable pub write_answer_by : MessageNumbers → List ℕ → ℕ → ℕ
 write_answer_by x part room = judge (write_checks x part room)
 
 -- It answers the number of octets written, or the refusal.
-unfoldable pub write_by : MessageNumbers → List ℕ → List ℕ → Written
-write_by x part out =
-    cond (eqb (write_answer_by x part (length out)) done)
-    (written.Octets (length (layout_by x part)))
-    (written.Refused (write_answer_by x part (length out)))
+unfoldable pub write_by : MessageNumbers → List ℕ → List ℕ → Result ℕ Refusal
+write_by x part out = judged (write_answer_by x part (length out)) (length (layout_by x part))
 
 -- The output afterwards: the message from its first octet on and no octet after it changed, or as it was.
 unfoldable pub write_out_by : MessageNumbers → List ℕ → List ℕ → List ℕ
 write_out_by x part out = cond (eqb (write_answer_by x part (length out)) done) (sets out 0 (layout_by x part)) out
 
+-- The same of a message that a text or a record ends, by how many octets stand in front of its length.
+abbrev pub counted_checks : ℕ → List ℕ → ℕ → List Check
+counted_checks fixed part room =
+    (record_too_long when ltb max_part_octets (length part)) ∷ (output_too_short when ltb room (fixed + (length_octets + length part))) ∷ []
+
+-- Its answer number.
+abbrev pub counted_answer : ℕ → List ℕ → ℕ → ℕ
+counted_answer fixed part room = judge (counted_checks fixed part room)
+
+-- What is answered of it, and the output once it is begun: its header, or as it was.
+pub record Begun (number session fixed : ℕ) (part out : List ℕ) (answer : Result ℕ Refusal) (after : List ℕ) : Type 0 where
+  pub answered : answer ≡ judged (counted_answer fixed part (length out)) (fixed + (length_octets + length part))
+  pub left : after
+      ≡ cond (eqb (counted_answer fixed part (length out)) done)
+      (put_at out 0 (header_for protocol_version number session (fixed + (length_octets + length part)))) out
+
 -- What writing a message in numbers answers, and the output afterwards.
-pub record WrittenBy (x : MessageNumbers) (part out : List ℕ) (answer : Written) (after : List ℕ) : Type 0 where
+pub record WrittenBy (x : MessageNumbers) (part out : List ℕ) (answer : Result ℕ Refusal) (after : List ℕ) : Type 0 where
   pub answered : answer ≡ write_by x part out
   pub left : after ≡ write_out_by x part out
 
@@ -324,7 +335,7 @@ abbrev pub write_answer : Message → List ℕ → ℕ → ℕ
 write_answer m part room = write_answer_by (numbers_of m) part room
 
 -- What writing it answers.
-abbrev pub write_of : Message → List ℕ → List ℕ → Written
+abbrev pub write_of : Message → List ℕ → List ℕ → Result ℕ Refusal
 write_of m part out = write_by (numbers_of m) part out
 
 -- The output afterwards.
@@ -358,10 +369,3 @@ pub record Plain (m : List ℕ) : Type 0 where
   pub flags : uint_at m 3 1 ≡ 0
   pub primary : message_number m ≡ session_start → uint_at m 28 1 < 2
   pub marks : message_number m ≡ data_number → uint_at m 12 1 < 2
-
--- ---- the answer number of an answer that is an enum
-
--- The answer number of reading a message: 0, or the refusal's.
-abbrev pub reading_answer : Reading → ℕ
-reading_answer (reading.Message m) = done
-reading_answer (reading.Refused a) = a

@@ -32,7 +32,7 @@ pub const ERROR_FIXED: usize = 14;
 pub const MAX_PART_OCTETS: usize = 1024;
 
 // What a CONNECT says in front of its text (4.1.1).
-#[derive(Clone, Copy)]
+#[derive(Clone, Copy, Debug, PartialEq, Eq)]
 pub struct Connect {
     pub initiator_id: u32,
     pub initiator_port: u16,
@@ -41,7 +41,7 @@ pub struct Connect {
 }
 
 // What a SESSION START says (4.3.2). documentId, 16 octets, is two numbers: its first eight octets and its last eight.
-#[derive(Clone, Copy)]
+#[derive(Clone, Copy, Debug, PartialEq, Eq)]
 pub struct SessionStart {
     pub exporter_boot_time: u32,
     pub first_record_sequence_number: u64,
@@ -54,7 +54,7 @@ pub struct SessionStart {
 }
 
 // What a DATA says in front of its record (4.5.1); `duplicate` is the lowest of its flags.
-#[derive(Clone, Copy)]
+#[derive(Clone, Copy, Debug, PartialEq, Eq)]
 pub struct DataHead {
     pub template_id: u16,
     pub config_id: u16,
@@ -64,7 +64,7 @@ pub struct DataHead {
 
 // What a message says beside its session. A text (vendorId, reasonInfo, description) and DATA's record are not in it: reading hands them
 // back as a part of the message, writing takes them beside it.
-#[derive(Clone, Copy)]
+#[derive(Clone, Copy, Debug, PartialEq, Eq)]
 pub enum Content {
     // 4.3.1
     FlowStart,
@@ -102,13 +102,13 @@ pub enum Content {
 }
 
 // A message: its session and what it says.
-#[derive(Clone, Copy)]
+#[derive(Clone, Copy, Debug, PartialEq, Eq)]
 pub struct Message {
     pub session: u8,
     pub content: Content,
 }
 
-// The numbers of the messages.
+// The numbers of the messages: constants and no second enum, since a header may hold any octet, and reading matches on it once.
 impl Message {
     // FLOW START: no fields.
     pub const FLOW_START: u8 = 0x01;
@@ -139,11 +139,4 @@ impl Message {
 
     // ERROR: a time, an error code and a text.
     pub const ERROR: u8 = 0x23;
-}
-
-// What reading a message answers.
-#[derive(Clone, Copy)]
-pub enum Reading {
-    Message(Message),
-    Refused(u8),
 }

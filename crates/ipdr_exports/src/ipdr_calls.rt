@@ -6,15 +6,8 @@ ghost use Rattle.ipdr_exports.specs.Said.{content_numbers, read_part};
 
 use ipdr::message::{
     CONNECT_FIXED, CONNECT_RESPONSE_FIXED, Connect, Content, DATA_FIXED, DataHead, ERROR_FIXED,
-    LENGTH_OCTETS, Message, Reading, STOP_FIXED, SessionStart,
+    LENGTH_OCTETS, Message, STOP_FIXED, SessionStart,
 };
-
-// 1 for a flag that is set, else 0.
-fn bit(flag: bool) -> u64
-    ensures { result ≡ cond flag 1 0 }
-{
-    if flag { 1 } else { 0 }
-}
 
 // A message's number and up to four fields.
 fn fields(number: u8, a: u64, b: u64, c: u64, d: u64) -> [u64; 9]
@@ -51,7 +44,7 @@ fn data_fields(head: DataHead) -> [u64; 9]
         Message::DATA,
         template,
         config,
-        bit(head.duplicate),
+        u64::from(head.duplicate),
         head.sequence_num,
     )
 }
@@ -65,7 +58,7 @@ fn session_start_fields(fields: SessionStart) -> [u64; 9]
         fields.exporter_boot_time as u64,
         fields.first_record_sequence_number,
         fields.dropped_record_count,
-        bit(fields.primary),
+        u64::from(fields.primary),
         fields.ack_time_interval as u64,
         fields.ack_sequence_interval as u64,
         fields.document_id_high,
@@ -104,12 +97,10 @@ fn said(content: Content) -> [u64; 9]
 fn said_at(content: Content, i: u8) -> u64
     ensures { result ≡ get_or (content_numbers content) i 0 }
 {
-    let all = said(content);
-    let at = i as usize;
-    if at < 9 { all[at] } else { 0 }
+    said(content).get(i as usize).copied().unwrap_or(0)
 }
 
-// Where the text or the record of a message that says something begins; 0 where it has none.
+// Where the text or the record of a message that says something begins; 0 where it has none, as C is told it.
 fn place_of(content: Content) -> usize
     ensures { result ≡ carried_at (record { session = 0; content = content }) }
 {
@@ -143,24 +134,18 @@ fn place_of(content: Content) -> usize
 pub extern "C" fn ipdr_read_part(message: &[u8], part: u8) -> u64
     ensures { result ≡ read_part part (part_at message.now) (part_of message.now) (read_of message.now) }
 {
-    let reading = ipdr_reading::read::read_message(message);
-    match reading {
-        Reading::Message(m) => {
-            if part == 0 {
-                return 0;
-            }
-            let content = m.content;
-            if part == 1 {
-                return place_of(content) as u64;
-            }
-            if part == 2 {
-                return ipdr_reading::read::message_part(message).len() as u64;
-            }
-            if part == 3 {
-                return m.session as u64;
-            }
-            said_at(content, part - 4)
-        }
-        Reading::Refused(a) => if part == 0 { a as u64 } else { 0 },
+    match ipdr_reading::read::read_message(message) {
+        Ok(m) => match part {
+            0 => 0,
+            1 => place_of(m.content) as u64,
+            2 => ipdr_reading::read::message_part(message).len() as u64,
+            3 => m.session as u64,
+            _ => said_at(m.content, part - 4),
+        },
+        Err(refusal) => if part == 0 {
+            refusal.number() as u64
+        } else {
+            0
+        },
     }
 }

@@ -14,7 +14,7 @@ pub const FRAME_OCTETS: usize = 9;
 // How many octets the line of a tape that is not sound has.
 const REFUSED_OCTETS: usize = 13;
 
-// The character of a digit below 16.
+// The character of a digit below 16. By hand, as the whole line: its contract says the octets, into lent memory of any length.
 fn digit_of(d: u8) -> u8
     requires { d < 16 }
     ensures { result ≡ digit d }
@@ -49,12 +49,9 @@ fn write_hex(octets: &[u8], text: &mut [u8], at: usize)
     requires { at + hex_digits (length octets.now) ≤ length text.old }
     ensures { text.new ≡ sets text.old at (hex octets.now) }
 {
-    let mut i: usize = 0;
-    while i < octets.len() {
-        let x = octets[i];
+    for (i, &x) in octets.iter().enumerate() {
         text[at + 2 * i] = digit_of(x / 16 % 16);
         text[at + 2 * i + 1] = digit_of(x % 16);
-        i += 1;
     }
 }
 
@@ -67,7 +64,7 @@ fn write_written(octets: &[u8], text: &mut [u8], at: usize) -> usize
     if n == 0 {
         return at;
     }
-    octets::put_u8(text, at, b' ');
+    octets::put(text, at, b' ');
     write_hex(octets, text, at + 1);
     at + 1 + 2 * n
 }
@@ -78,10 +75,10 @@ fn store_line(place: usize, answer: u8, octets: &[u8], text: &mut [u8]) -> usize
     ensures { Printed text.old (line_of place answer octets.now) result text.new }
 {
     let first = write_decimal(text, 0, place);
-    octets::put_u8(text, first, b' ');
+    octets::put(text, first, b' ');
     let second = write_decimal(text, first + 1, answer as usize);
     let last = write_written(octets, text, second);
-    octets::put_u8(text, last, b'\n');
+    octets::put(text, last, b'\n');
     last + 1
 }
 

@@ -8,7 +8,11 @@ use borrow.Author.Tests.{ltb-true, ltb-false, eqb-true, not-false, le-ltb, lt-lt
 use lib.Dec.{eqb, leb, ltb}
 use lib.ListN.{length, drop}
 use lib.Seq.{sets}
-use Rattle.octets.specs.Answers.{judge, done, message_not_accepted, body_length_wrong, output_too_short, unsound_table}
+use Rattle.std.specs.Prelude.{Result, Ok, Err}
+use Rattle.std.specs.Result.{IsErrAnd}
+use Rattle.numbers.specs.declared.refusal.Refusal.{Refusal}
+use Rattle.numbers.specs.declared.refusal.Refusal.TheVariants.{MessageNotAccepted, OutputTooShort, UnsoundTable}
+use Rattle.octets.specs.Answers.{judge, judged, refusal_of, done, body_length_wrong, output_too_short, unsound_table}
 use Rattle.octets.specs.Numbers.{octets_in, put_at}
 use Rattle.octets.proofs.Stores.{put_fits, put_short, put_then}
 use Rattle.messages.specs.Messages.{Form, forms, is_message, body_fits, message_number, version_of, length_field, header_checks, body_checks}
@@ -21,13 +25,11 @@ use Rattle.messages.specs.Messages.{write_of, write_out, head_write_answer, head
 use Rattle.messages.specs.declared.message.DataHead.{DataHead}
 use Rattle.messages.specs.declared.message.Message.{Message}
 use Rattle.messages.specs.declared.message.Message.TheVariants.{TmplData, Data}
-use Rattle.messages.specs.declared.message.Reading.TheVariants as reading
-use Rattle.messages.specs.declared.message.Written.{Written}
-use Rattle.messages.specs.declared.message.Written.TheVariants as written
 use Rattle.headers.proofs.Headers as shared
 use Rattle.octets.proofs.Judging.{passed, judged_done, judged_first, judged_next}
 use Rattle.octets.proofs.Rows.{Others, not_found}
 use Rattle.octets.proofs.Each.{and_false}
+use Rattle.std.proofs.lemmas.Bool.Decides.{nat_tests}
 
 -- ---- rows
 
@@ -61,23 +63,46 @@ header_passed m h = judged_next (header_checks m) (body_checks m) tt h
 pub header_long : (m : List ℕ) → header_answer m ≡ done → header_octets ≤ length m
 header_long m h = shared.header_long protocol_version m h
 
+-- a refusal of the header that is handed on is what reading answers
+pub read_handed_on : (m : List ℕ) {refusal : Refusal} {result : Result Message Refusal} → shared.Checked protocol_version m (Err refusal)
+    → IsErrAnd result (λ r. r ≡ refusal) → result ≡ read_of m
+unfolding read_of
+read_handed_on m h e =
+    rw (header_refused m (shared.check_refused protocol_version m h)) (shared.handed_on protocol_version m (meaning_of m) h e)
+
 -- ---- what is read behind a header that is not refused
 
-fits_judged : (fits : Bool) (x : Message)
-    → cond (eqb (cond (not fits) body_length_wrong done) done) (reading.Message x) (reading.Refused (cond (not fits) body_length_wrong done))
-    ≡ read_where fits x
+fits_judged : (fits : Bool) (x : Message) → judged (cond (not fits) body_length_wrong done) x ≡ read_where fits x
+unfolding judged refusal_of
 fits_judged true x = refl
 fits_judged false x = refl
 
--- of a message other than TMPL DATA only the length of its body is left to judge
-pub read_fits : (m : List ℕ) (n : ℕ) (x : Message) → header_answer m ≡ done → message_number m ≡ n → meaning_of m ≡ x
-    → is_message n ≡ true → eqb n tmpl_data ≡ false → read_of m ≡ read_where (body_fits n (length m - 8)) x
-unfolding read_of
-read_fits m n x h e s k t = rw (header_passed m h, e, s, k, t) (fits_judged (body_fits n (length m - 8)) x)
+-- the tests of a body's length as tests of the message's
+exact_length : (len k : ℕ) → header_octets ≤ len → eqb (len - header_octets) k ≡ eqb len (header_octets + k)
+exact_length len k h = grind (arith, nat_tests)
 
-table_judged : (sound : Bool) (x : Message)
-    → cond (eqb (cond (not sound) unsound_table done) done) (reading.Message x) (reading.Refused (cond (not sound) unsound_table done))
-    ≡ cond sound (reading.Message x) (reading.Refused unsound_table)
+least_length : (len k : ℕ) → header_octets ≤ len → leb k (len - header_octets) ≡ leb (header_octets + k) len
+least_length len k h = grind (arith, nat_tests)
+
+module _ (m : List ℕ) (n : ℕ) (x : Message) (h : header_answer m ≡ done) (e : message_number m ≡ n) (s : meaning_of m ≡ x)
+    (k : is_message n ≡ true) (t : eqb n tmpl_data ≡ false) where
+  -- of a message other than TMPL DATA only the length of its body is left to judge
+  read_fits : read_of m ≡ read_where (body_fits n (length m - header_octets)) x
+  unfolding read_of
+  read_fits = rw (header_passed m h, e, s, k, t) (fits_judged (body_fits n (length m - header_octets)) x)
+
+  -- where that is to be as long as it is told
+  pub read_exact : (body : ℕ) → ((len : ℕ) → body_fits n len ≡ eqb len body)
+      → read_of m ≡ read_where (eqb (length m) (header_octets + body)) x
+  read_exact body f = read_fits ∙ ap (λ (b : Bool). read_where b x) (f _ ∙ exact_length (length m) body (header_long m h))
+
+  -- or at least so long
+  pub read_least : (body : ℕ) → ((len : ℕ) → body_fits n len ≡ leb body len)
+      → read_of m ≡ read_where (leb (header_octets + body) (length m)) x
+  read_least body f = read_fits ∙ ap (λ (b : Bool). read_where b x) (f _ ∙ least_length (length m) body (header_long m h))
+
+table_judged : (sound : Bool) (x : Message) → judged (cond (not sound) unsound_table done) x ≡ cond sound (Ok x) (Err UnsoundTable)
+unfolding judged refusal_of
 table_judged true x = refl
 table_judged false x = refl
 
@@ -93,8 +118,8 @@ read_table_lem m h e = rw (answer_table m h e, e) (table_judged (table_sound (dr
 
 -- a number that is no message's is refused
 pub read_unknown : (m : List ℕ) → header_answer m ≡ done → is_message (message_number m) ≡ false
-    → read_of m ≡ reading.Refused message_not_accepted
-unfolding read_of
+    → read_of m ≡ Err MessageNotAccepted
+unfolding read_of judged refusal_of
 read_unknown m h k = rw (header_passed m h, k)
 
 pub answer_data : (m : List ℕ) → header_answer m ≡ done → message_number m ≡ data_number
@@ -196,23 +221,28 @@ sound_read m h e t = answer_table m h e ∙ rw t
 
 -- ---- writing
 
+-- a header that has room
+pub header_put : (number session len : ℕ) (out : List ℕ) → header_octets ≤ length out
+    → put_at out 0 (header_octets_of number session len) ≡ sets out 0 (header_octets_of number session len)
+unfolding octets_in
+header_put number session len out h = put_fits out 0 (header_octets_of number session len) (omega arith)
+
 -- octets that find no room
-pub placed_short : (octets out : List ℕ) → length out < length octets → Placed octets out (written.Refused output_too_short) out
+pub placed_short : (octets out : List ℕ) → length out < length octets → Placed octets out (Err OutputTooShort) out
 placed_short octets out h =
     record { answered = rw (lt-ltb (length out) (length octets) h); left = sym (put_short out 0 octets (omega arith)) }
 
 -- octets that do
 pub placed : (octets out after : List ℕ) (n : ℕ) → length octets ≡ n → n ≤ length out → after ≡ sets out 0 octets
-    → Placed octets out (written.Octets n) after
+    → Placed octets out (Ok n) after
 placed octets out after n e h s =
     record {
-      answered = rw (le-ltb (length out) (length octets) (omega arith)) (ap written.Octets (sym e));
+      answered = rw (le-ltb (length out) (length octets) (omega arith)) (ap (λ (k : ℕ). Ok k) (sym e));
       left = s ∙ sym (put_fits out 0 octets (omega arith));
     }
 
-room_answered : (short : Bool) (n : ℕ)
-    → cond short (written.Refused output_too_short) (written.Octets n)
-    ≡ cond (eqb (cond short output_too_short done) done) (written.Octets n) (written.Refused (cond short output_too_short done))
+room_answered : (short : Bool) (n : ℕ) → cond short (Err OutputTooShort) (Ok n) ≡ judged (cond short output_too_short done) n
+unfolding judged refusal_of
 room_answered true n = refl
 room_answered false n = refl
 
@@ -222,7 +252,7 @@ room_left true out octets e = put_short out 0 octets (omega (arith, ltb-true (le
 room_left false out octets e = put_fits out 0 octets (omega (arith, ltb-false (length out) (length octets) e))
 
 -- where neither the table nor the record is refused, the room alone decides
-pub allowed : (m : Message) (part out : List ℕ) (answer : Written) (after : List ℕ)
+pub allowed : (m : Message) (part out : List ℕ) (answer : Result ℕ Refusal) (after : List ℕ)
     → (is_tmpl_data m && not (table_sound part)) ≡ false
     → (is_data m && ltb max_record_octets (length part)) ≡ false
     → Placed (layout_of m part) out answer after
@@ -236,8 +266,8 @@ allowed m part out answer after t d p =
 
 -- a refusal is answered and changes nothing
 pub refused : (m : Message) (part out : List ℕ) (a : ℕ) → (a ≡ done → ⊥) → write_answer m part (length out) ≡ a
-    → (written.Refused a ≡ write_of m part out) × (out ≡ write_out m part out)
-unfolding write_of write_out
+    → (Err (refusal_of a) ≡ write_of m part out) × (out ≡ write_out m part out)
+unfolding judged write_of write_out
 refused m part out a h e = (rw (e, ne_eqb a done h), rw (e, ne_eqb a done h))
 
 pub message_length : (number session : ℕ) (body : List ℕ) → length (message_of number session body) ≡ header_octets + length body

@@ -1,31 +1,25 @@
 -- Laws of the form of a received message, for any session and any accepted numbers: it is judged in the order in which a side reads, the
 -- header, the session, the number, then the body; so a refusal on the way is the form's answer.
 use mathlib.Core.Path.{◌≡◌, refl, sym, ap, subst, ◌∙◌}
-use mathlib.Core.Bool.{Bool, true, false, cond, ◌||◌}
+use mathlib.Core.Bool.{Bool, true, false, ◌||◌}
 use mathlib.Core.List.{List, ◌++◌}
 use Prim.Native.Nat.{ℕ, ◌-◌, ◌≤◌}
 use native.Mathlib.Omega.{arith}
-use borrow.Author.Tests.{eqb-true, eq-eqb, ne_eqb, eqb-false, le-leb}
+use borrow.Author.Tests.{eqb-true, eq-eqb, ne_eqb, le-leb}
 use lib.Dec.{eqb}
 use lib.ListN.{length}
-use Rattle.octets.specs.Answers.{judge, done, short_message, other_session, message_not_accepted, body_length_wrong}
-use Rattle.octets.proofs.Judging.{judged_first, judged_next, judge_numbered}
+use Rattle.std.specs.Prelude.{Ok, Err}
+use Rattle.numbers.specs.declared.refusal.Refusal.{Refusal}
+use Rattle.octets.specs.Answers.{judge, judged, answer_number, refusal_number, done, short_message, other_session, message_not_accepted, body_length_wrong}
+use Rattle.octets.proofs.Judging.{judged_first, judged_next, judge_numbered, judged_ok, judged_err}
 use Rattle.headers.specs.declared.header.Header.{Header}
-use Rattle.headers.specs.declared.header.HeaderReading.TheVariants as header
 use Rattle.messages.specs.Messages.{header_checks, header_answer, header_of, header_answer_for, header_reading_for, read_answer, session_of}
 use Rattle.messages.specs.Messages.{message_number, is_message, body_fits, tmpl_data}
 use Rattle.messages.specs.Received.{received_checks, form_answer_for}
 use Rattle.messages.proofs.Messages.{header_passed}
+use Rattle.messages.proofs.RoundTrip.{header_number}
 
 -- ---- what reading a header says
-
-header_told : (b : Bool) (h x : Header) (a : ℕ) → cond b (header.Header x) (header.Refused a) ≡ header.Header h → (b ≡ true) × (x ≡ h)
-header_told true h x a e = (refl, cc)
-header_told false h x a e = let z : ◌≡◌ {A = ℕ} 0 1 = cc in absurd (omega arith)
-
-refusal_told : (b : Bool) (x : Header) (a k : ℕ) → cond b (header.Header x) (header.Refused a) ≡ header.Refused k → (b ≡ false) × (a ≡ k)
-refusal_told true x a k e = let z : ◌≡◌ {A = ℕ} 0 1 = cc in absurd (omega arith)
-refusal_told false x a k e = (refl, cc)
 
 -- what a header that is not refused says
 pub record Told (m : List ℕ) (h : Header) : Type 0 where
@@ -33,15 +27,14 @@ pub record Told (m : List ℕ) (h : Header) : Type 0 where
   pub session : session_of m ≡ h.session
   pub number : message_number m ≡ h.number
 
-pub told : (m : List ℕ) (h : Header) → header_of m ≡ header.Header h → Told m h
-unfolding header_reading_for
+pub told : (m : List ℕ) (h : Header) → header_of m ≡ Ok h → Told m h
+unfolding header_reading_for judged
 told m h e =
-    let q = header_told (eqb (header_answer m) done) h (record { session = session_of m; number = message_number m }) (header_answer m) e in
-    record {
-      passed = eqb-true (header_answer m) done q.0;
-      session = ap (λ (x : Header). x.session) q.1;
-      number = ap (λ (x : Header). x.number) q.1;
-    }
+    let said : Header = record { session = session_of m; number = message_number m } in
+    let p = judged_ok (header_answer m) said e in
+    let q : judged done said ≡ Ok h = rw p at e in
+    let s : said ≡ h = cc in
+    record { passed = p; session = ap (λ (x : Header). x.session) s; number = ap (λ (x : Header). x.number) s }
 
 -- ---- message numbers that are accepted
 
@@ -74,18 +67,35 @@ module _ (accepts : ℕ → Bool) (session : ℕ) (m : List ℕ) where
   unfolding form_answer_for
   form_numbered h = judge_numbered short_message body_length_wrong (header_checks m ++ received_checks accepts session m) refl h
 
-  -- a refused header
-  pub form_header : (a : ℕ) → header_of m ≡ header.Refused a → RefusedForm form a
-  unfolding header_reading_for header_answer_for form_answer_for
-  form_header a e =
-      let q = refusal_told (eqb (header_answer m) done) (record { session = session_of m; number = message_number m }) (header_answer m) a e in
-      let h : a ≡ done → ⊥ = λ z. eqb-false (header_answer m) done q.0 (q.1 ∙ z) in
-      record {
-        refused = h;
-        same = judged_first (header_checks m) (received_checks accepts session m) (λ z. h (sym q.1 ∙ z)) ∙ q.1;
-      }
+  module _ (refusal : Refusal) (e : header_of m ≡ Err refusal) where
+    header_refusal : header_answer m ≡ refusal_number refusal
+    header_refusal = sym (header_number m) ∙ ap answer_number e
 
-  module _ (h : Header) (e : header_of m ≡ header.Header h) where
+    not_done : header_answer m ≡ done → ⊥
+    unfolding header_reading_for judged
+    not_done z =
+        let said : Header = record { session = session_of m; number = message_number m } in
+        let q : judged done said ≡ Err refusal = rw z at e in
+        absurd (cc)
+
+    form_first : form ≡ header_answer m
+    unfolding header_answer_for form_answer_for
+    form_first = judged_first (header_checks m) (received_checks accepts session m) not_done
+
+    -- a refused header
+    pub form_header : RefusedForm form (refusal_number refusal)
+    form_header =
+        record {
+          refused = λ z. not_done (header_refusal ∙ z);
+          same = form_first ∙ header_refusal;
+        }
+
+    -- whose refusal is that of what is judged by the form
+    pub form_err : {A : Type 0} (value : A) → judged form value ≡ Err refusal
+    unfolding header_reading_for
+    form_err value = rw form_first (judged_err (header_answer m) (record { session = session_of m; number = message_number m }) value e)
+
+  module _ (h : Header) (e : header_of m ≡ Ok h) where
     behind : form ≡ judge (received_checks accepts session m)
     unfolding header_answer_for form_answer_for
     behind = judged_next (header_checks m) (received_checks accepts session m) tt (told m h e).passed

@@ -1,5 +1,5 @@
--- What is written reads back as what was meant, what reads without refusal is the layout of what it says, and answers that are enums
--- have the answer numbers of the paper (01, "Messages" and "Answer numbers").
+-- What is written reads back as what was meant, what reads without refusal is the layout of what it says, and what calls answer has the
+-- answer numbers of the paper (01, "Messages" and "Answer numbers").
 use mathlib.Core.Path.{◌≡◌, refl, sym, ap, ◌∙◌}
 use mathlib.Core.Bool.{Bool, true, false, not}
 use mathlib.Core.List.{List, [], ◌∷◌, ◌++◌, append-nil}
@@ -9,7 +9,8 @@ use borrow.Author.Tests.{ltb-false, eqb-true, eqb-false, leb-true, le-ltb, le-le
 use lib.Dec.{eqb, leb, ltb}
 use lib.ListN.{length, take, drop, drop_of_length-le}
 use lib.Seq.{sets}
-use Rattle.octets.specs.Answers.{done}
+use Rattle.std.specs.Prelude.{Ok}
+use Rattle.octets.specs.Answers.{done, judged, answer_number}
 use Rattle.octets.specs.Numbers.{number_of, uint_in, uint_at, octets_in, octets_of, Octets}
 use Rattle.octets.proofs.Numbers.{uint_one, uint_front, read_back, cut, cut_one}
 use Rattle.octets.proofs.Stores.{output_begins}
@@ -19,16 +20,14 @@ use Rattle.messages.specs.Messages.{start, start_ack, stop, stop_ack, tmpl_data,
 use Rattle.messages.specs.Messages.{data_number, data_ack}
 use Rattle.messages.specs.Messages.{max_record_octets, header_answer, header_of, read_answer, data_head_of, meaning_of, read_of, part_at}
 use Rattle.messages.specs.Messages.{part_of, write_answer, write_of, write_out, head_write_answer, head_write_of, is_data, is_tmpl_data}
-use Rattle.messages.specs.Messages.{write_checks, carried, carried_at, Writable, Plain, header_reading_answer, reading_answer}
-use Rattle.messages.specs.Messages.{written_answer}
+use Rattle.messages.specs.Messages.{write_checks, carried, carried_at, Writable, Plain}
+use Rattle.messages.specs.Messages.{header_checks, body_checks, head_write_checks, data_head_length}
 use Rattle.tables.specs.Table.{table_sound}
 use Rattle.messages.specs.declared.message.DataHead.{DataHead}
 use Rattle.messages.specs.declared.message.Message.{Message}
 use Rattle.messages.specs.declared.message.Message.TheVariants.{Start, StartAck, Stop, StopAck, TmplData, FinalTmplDataAck}
 use Rattle.messages.specs.declared.message.Message.TheVariants.{StartNegotiate, StartNegotiateAck, Data, DataAck}
-use Rattle.messages.specs.declared.message.Reading.TheVariants as reading
-use Rattle.messages.specs.declared.message.Written.TheVariants as written
-use Rattle.octets.proofs.Judging.{passed, judged_done, kept}
+use Rattle.octets.proofs.Judging.{passed, judged_done, judged_answered}
 use Rattle.messages.proofs.Messages.{not_both, Readable, readable, reads, part_of_data, part_of_table, part_of_other, message_length}
 use Rattle.tables.proofs.Tables.{table_facts}
 use Rattle.octets.proofs.Rows.{EachRow, none, ◌and◌, each_row}
@@ -78,14 +77,14 @@ module _ (n s : ℕ) (body : List ℕ) where
       })
 
 -- what such a message says is what reading it answers
-read_as : (m : List ℕ) (v : Message) → read_answer m ≡ done → meaning_of m ≡ v → read_of m ≡ reading.Message v
-unfolding read_of
-read_as m v h e = rw h (ap reading.Message e)
+read_as : (m : List ℕ) (v : Message) → read_answer m ≡ done → meaning_of m ≡ v → read_of m ≡ Ok v
+unfolding judged read_of
+read_as m v h e = rw h (ap (λ (x : Message). Ok x) e)
 
 -- and one without a part hands back the empty part at its start
 bare_back : (n s : ℕ) (body : List ℕ) (v : Message) → 8 + length body < 2 ^ 32 → is_message n ≡ true → body_fits n (length body) ≡ true
     → eqb n data_number ≡ false → eqb n tmpl_data ≡ false → meaning_of (message_of n s body) ≡ v
-    → (read_of (message_of n s body) ≡ reading.Message v) × ((part_of (message_of n s body) ≡ []) × (part_at (message_of n s body) ≡ 0))
+    → (read_of (message_of n s body) ≡ Ok v) × ((part_of (message_of n s body) ≡ []) × (part_at (message_of n s body) ≡ 0))
 bare_back n s body v small known fits d t e =
     let m = message_of n s body in
     let h = answered n s body small known fits (λ q. absurd (eqb-false n tmpl_data t q)) in
@@ -96,7 +95,7 @@ bare_back n s body v small known fits d t e =
 
 empty_back : (n s : ℕ) (v : ℕ → Message) → is_message n ≡ true → body_fits n 0 ≡ true → eqb n data_number ≡ false → eqb n tmpl_data ≡ false
     → ((m : List ℕ) → message_number m ≡ n → meaning_of m ≡ v (session_of m))
-    → (read_of (message_of n s []) ≡ reading.Message (v s)) × ((part_of (message_of n s []) ≡ []) × (part_at (message_of n s []) ≡ 0))
+    → (read_of (message_of n s []) ≡ Ok (v s)) × ((part_of (message_of n s []) ≡ []) × (part_at (message_of n s []) ≡ 0))
 empty_back n s v known fits d t e =
     bare_back n s [] (v s) (omega arith) known fits d t (e (message_of n s []) (number_of_lem n s []) ∙ ap v (session_of_lem n s []))
 
@@ -156,7 +155,7 @@ head_of h part t d =
 
 -- ---- THE ROUND TRIP: a message that can be written reads back as what it says, and hands back its part at its place.
 pub reads_back_lem : (m : Message) (part : List ℕ) → Writable m part
-    → (read_of (layout_of m part) ≡ reading.Message m)
+    → (read_of (layout_of m part) ≡ Ok m)
     × ((part_of (layout_of m part) ≡ carried m part) × (part_at (layout_of m part) ≡ carried_at m))
 unfolding layout_of message_of octets_in meaning_of is_message body_fits
 reads_back_lem (Start s) part w = empty_back start s Start refl refl refl refl (λ m e. rw e)
@@ -313,21 +312,21 @@ module _ (m : List ℕ) (octet : Octets m) (answer : read_answer m ≡ done) (pl
       each_row (λ (f : Form). f.number) (λ n. message_number m ≡ n → m ≡ layout_of (meaning_of m) (part_of m)) forms by_number
       (message_number m) r.known refl
 
--- ---- THE ANSWER NUMBERS: the number of an answer that is an enum is the answer number that it was made from.
-pub header_number : (m : List ℕ) → header_reading_answer (header_of m) ≡ header_answer m
+-- ---- THE ANSWER NUMBERS: the number of what a call answers is the answer number that it is judged by.
+pub header_number : (m : List ℕ) → answer_number (header_of m) ≡ header_answer m
 header_number m = shared.header_number protocol_version m
 
-pub reading_number : (m : List ℕ) → reading_answer (read_of m) ≡ read_answer m
-unfolding read_of
-reading_number m = kept reading_answer _ reading.Refused refl (λ a. refl) (read_answer m)
+pub reading_number : (m : List ℕ) → answer_number (read_of m) ≡ read_answer m
+unfolding read_of read_answer
+reading_number m = (judged_answered (meaning_of m) (header_checks m ++ body_checks m) refl refl).number
 
-pub written_number_lem : (m : Message) (part out : List ℕ) → written_answer (write_of m part out) ≡ write_answer m part (length out)
-unfolding write_of
-written_number_lem m part out = kept written_answer _ written.Refused refl (λ a. refl) (write_answer m part (length out))
+pub written_number_lem : (m : Message) (part out : List ℕ) → answer_number (write_of m part out) ≡ write_answer m part (length out)
+unfolding write_of write_answer
+written_number_lem m part out = (judged_answered (length (layout_of m part)) (write_checks m part (length out)) refl refl).number
 
-pub head_number : (n room : ℕ) → written_answer (head_write_of n room) ≡ head_write_answer n room
-unfolding head_write_of
-head_number n room = kept written_answer _ written.Refused refl (λ a. refl) (head_write_answer n room)
+pub head_number : (n room : ℕ) → answer_number (head_write_of n room) ≡ head_write_answer n room
+unfolding head_write_of head_write_answer
+head_number n room = (judged_answered (data_head_length + n) (head_write_checks n room) refl refl).number
 
 -- ---- WRITING: a message that can be written, and has room, is not refused.
 pub writes : (m : Message) (part : List ℕ) (room : ℕ) → Writable m part → length (layout_of m part) ≤ room → write_answer m part room ≡ done
@@ -358,7 +357,7 @@ written_out m part out h = rw (done_out m part out h) (output_begins (layout_of 
 
 -- So what was written to an output with room reads back from there, and its part is handed back at its place.
 pub wrote_reads : (m : Message) (part out : List ℕ) → Writable m part → length (layout_of m part) ≤ length out
-    → (read_of (take (length (layout_of m part)) (write_out m part out)) ≡ reading.Message m)
+    → (read_of (take (length (layout_of m part)) (write_out m part out)) ≡ Ok m)
     × ((part_of (take (length (layout_of m part)) (write_out m part out)) ≡ carried m part)
     × (part_at (take (length (layout_of m part)) (write_out m part out)) ≡ carried_at m))
 wrote_reads m part out w h = rw (written_out m part out (writes m part (length out) w h)).0 (reads_back_lem m part w)

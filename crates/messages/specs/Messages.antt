@@ -1,23 +1,21 @@
 -- Messages: their layouts, reading and writing alone (01, "Messages" and "Answer numbers").
-use Rattle.std.specs.Prelude.{◌≡◌, ℕ, ◌+◌, ◌-◌, ◌%◌, ◌/◌, ◌^◌, ◌<◌, ◌≤◌, Bool, true, false, cond, not, ◌&&◌, ◌||◌, List, [], ◌∷◌, ◌++◌, eqb, leb, ltb, length, drop}
+use Rattle.std.specs.Prelude.{◌≡◌, ℕ, ◌+◌, ◌-◌, ◌%◌, ◌/◌, ◌^◌, ◌<◌, ◌≤◌, Bool, true, false, cond, not, ◌&&◌, ◌||◌, List, [], ◌∷◌, ◌++◌, eqb, leb, ltb, length, drop, Result, Ok, Err}
 use Rattle.std.proofs.lemmas.List.Edits.{sets}
-use Rattle.octets.specs.Answers.{Check, ◌when◌, judge, done, message_not_accepted, body_length_wrong, output_too_short, record_too_long}
+use Rattle.octets.specs.Answers.{Check, ◌when◌, judge, judged, done, message_not_accepted, body_length_wrong, output_too_short, record_too_long}
 use Rattle.octets.specs.Answers.{unsound_table}
 use Rattle.octets.specs.Numbers.{uint_at, octets_of, put_at}
 use Rattle.octets.specs.Each.{look_up}
+use Rattle.numbers.specs.declared.refusal.Refusal.{Refusal}
+use Rattle.numbers.specs.declared.refusal.Refusal.TheVariants.{BodyLengthWrong, OutputTooShort, UnsoundTable}
 use Rattle.tables.specs.Table.{table_sound}
 pub use Rattle.headers.specs.Headers.{header_octets, version_of, message_number, session_of, length_field, header_for, message_for}
-pub use Rattle.headers.specs.Headers.{header_checks_for, header_reading_answer}
+pub use Rattle.headers.specs.Headers.{header_checks_for}
 unfoldable pub use Rattle.headers.specs.Headers.{header_answer_for, header_reading_for}
-use Rattle.headers.specs.declared.header.HeaderReading.{HeaderReading}
+use Rattle.headers.specs.declared.header.Header.{Header}
 use Rattle.messages.specs.declared.message.DataHead.{DataHead}
 use Rattle.messages.specs.declared.message.Message.{Message}
 use Rattle.messages.specs.declared.message.Message.TheVariants.{Start, StartAck, Stop, StopAck, TmplData, FinalTmplDataAck}
 use Rattle.messages.specs.declared.message.Message.TheVariants.{StartNegotiate, StartNegotiateAck, Data, DataAck}
-use Rattle.messages.specs.declared.message.Reading.{Reading}
-use Rattle.messages.specs.declared.message.Reading.TheVariants as reading
-use Rattle.messages.specs.declared.message.Written.{Written}
-use Rattle.messages.specs.declared.message.Written.TheVariants as written
 
 -- ---- the header (01, "Messages"), which is the shared one with version 1
 
@@ -155,7 +153,7 @@ abbrev pub header_answer : List ℕ → ℕ
 header_answer m = header_answer_for protocol_version m
 
 -- Reading a header alone: its session and message number, or the refusal.
-abbrev pub header_of : List ℕ → HeaderReading
+abbrev pub header_of : List ℕ → Result Header Refusal
 header_of m = header_reading_for protocol_version m
 
 -- Its body is judged 7, 8, then 21 for the table of a TMPL DATA.
@@ -207,16 +205,16 @@ meaning_of m =
     (DataAck s (uint_at m 8 4) (uint_at m 12 1))))))))))
 
 -- Reading alone answers the meaning or the refusal.
-unfoldable pub read_of : List ℕ → Reading
-read_of m = cond (eqb (read_answer m) done) (reading.Message (meaning_of m)) (reading.Refused (read_answer m))
+unfoldable pub read_of : List ℕ → Result Message Refusal
+read_of m = judged (read_answer m) (meaning_of m)
 
 -- What is read behind a header that is not refused: what the message says where its body's length fits, else 8.
-abbrev pub read_where : Bool → Message → Reading
-read_where fits m = cond fits (reading.Message m) (reading.Refused body_length_wrong)
+abbrev pub read_where : Bool → Message → Result Message Refusal
+read_where fits m = cond fits (Ok m) (Err BodyLengthWrong)
 
 -- Of a TMPL DATA: what it says where its table is sound, else 21, whatever its length.
-abbrev pub read_table : List ℕ → Reading
-read_table m = cond (table_sound (drop header_octets m)) (reading.Message (TmplData (session_of m))) (reading.Refused unsound_table)
+abbrev pub read_table : List ℕ → Result Message Refusal
+read_table m = cond (table_sound (drop header_octets m)) (Ok (TmplData (session_of m))) (Err UnsoundTable)
 
 -- The message is not refused, and is a DATA or a TMPL DATA: only then a part is handed back.
 abbrev pub has_part : List ℕ → Bool
@@ -270,11 +268,8 @@ unfoldable pub write_answer : Message → List ℕ → ℕ → ℕ
 write_answer m part room = judge (write_checks m part room)
 
 -- It answers the number of octets written, or the refusal.
-unfoldable pub write_of : Message → List ℕ → List ℕ → Written
-write_of m part out =
-    cond (eqb (write_answer m part (length out)) done)
-    (written.Octets (length (layout_of m part)))
-    (written.Refused (write_answer m part (length out)))
+unfoldable pub write_of : Message → List ℕ → List ℕ → Result ℕ Refusal
+write_of m part out = judged (write_answer m part (length out)) (length (layout_of m part))
 
 -- The output afterwards: the message from its first octet on and no octet after it changed, or as it was.
 unfoldable pub write_out : Message → List ℕ → List ℕ → List ℕ
@@ -282,14 +277,16 @@ write_out m part out = cond (eqb (write_answer m part (length out)) done) (sets 
 
 -- A DATA's octets in front of a record of n octets that the caller writes behind them: judged 17, 12 as the whole message is (law
 -- `head_answer`).
+abbrev pub head_write_checks : ℕ → ℕ → List Check
+head_write_checks n room = (record_too_long when ltb max_record_octets n) ∷ (output_too_short when ltb room (data_head_length + n)) ∷ []
+
+-- The answer number of writing them.
 unfoldable pub head_write_answer : ℕ → ℕ → ℕ
-head_write_answer n room =
-    judge ((record_too_long when ltb max_record_octets n) ∷ (output_too_short when ltb room (data_head_length + n)) ∷ [])
+head_write_answer n room = judge (head_write_checks n room)
 
 -- It answers the whole message's octets, or the refusal.
-unfoldable pub head_write_of : ℕ → ℕ → Written
-head_write_of n room =
-    cond (eqb (head_write_answer n room) done) (written.Octets (data_head_length + n)) (written.Refused (head_write_answer n room))
+unfoldable pub head_write_of : ℕ → ℕ → Result ℕ Refusal
+head_write_of n room = judged (head_write_answer n room) (data_head_length + n)
 
 -- The output afterwards: the 16 octets from its first one on, or as it was.
 unfoldable pub head_write_out : DataHead → ℕ → List ℕ → List ℕ
@@ -297,8 +294,8 @@ head_write_out h n out = cond (eqb (head_write_answer n (length out)) done) (set
 
 -- Octets written to an output from its first octet on, where no rule but the room's refuses them: what is answered, and the output
 -- afterwards.
-pub record Placed (octets out : List ℕ) (answer : Written) (after : List ℕ) : Type 0 where
-  pub answered : answer ≡ cond (ltb (length out) (length octets)) (written.Refused output_too_short) (written.Octets (length octets))
+pub record Placed (octets out : List ℕ) (answer : Result ℕ Refusal) (after : List ℕ) : Type 0 where
+  pub answered : answer ≡ cond (ltb (length out) (length octets)) (Err OutputTooShort) (Ok (length octets))
   pub left : after ≡ put_at out 0 octets
 
 -- ---- what is written, and what can be written; for theorems only: no contract cites these
@@ -336,15 +333,3 @@ pub record Plain (m : List ℕ) : Type 0 where
   pub marks : message_number m ≡ data_number → uint_at m 11 1 < 4
   pub reserved : message_number m ≡ final_tmpl_data_ack → uint_at m 9 3 ≡ 0
   pub unused : message_number m ≡ data_ack → uint_at m 13 3 ≡ 0
-
--- ---- the answer numbers of the answers that are enums
-
--- The answer number of reading a message: 0, or the refusal's.
-abbrev pub reading_answer : Reading → ℕ
-reading_answer (reading.Message m) = done
-reading_answer (reading.Refused a) = a
-
--- The answer number of writing: 0, or the refusal's.
-abbrev pub written_answer : Written → ℕ
-written_answer (written.Octets n) = done
-written_answer (written.Refused a) = a

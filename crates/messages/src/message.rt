@@ -38,7 +38,7 @@ pub const S_FLAG: u8 = 1;
 pub const D_FLAG: u8 = 2;
 
 // What a DATA message says in front of its record; `first` is its S flag, `duplicate` its D flag.
-#[derive(Clone, Copy)]
+#[derive(Clone, Copy, Debug, PartialEq, Eq)]
 pub struct DataHead {
     pub session: u8,
     pub template: u16,
@@ -50,7 +50,7 @@ pub struct DataHead {
 
 // What a message says. A TMPL DATA's table and a DATA's record are not in it: reading hands them back as a part of the message, writing
 // takes them beside it.
-#[derive(Clone, Copy)]
+#[derive(Clone, Copy, Debug, PartialEq, Eq)]
 pub enum Message {
     Start { session: u8 },
     StartAck { session: u8, boot_time: u32 },
@@ -64,7 +64,7 @@ pub enum Message {
     DataAck { session: u8, dsn: u32, config: u8 },
 }
 
-// The numbers of the messages.
+// The numbers of the messages: constants and no second enum, since a header may hold any octet, and reading matches on it once.
 impl Message {
     // START: no body.
     pub const START: u8 = 0x01;
@@ -95,18 +95,4 @@ impl Message {
 
     // DATA ACK: a DSN and a Configuration ID.
     pub const DATA_ACK: u8 = 0x21;
-}
-
-// What reading a message answers.
-#[derive(Clone, Copy)]
-pub enum Reading {
-    Message(Message),
-    Refused(u8),
-}
-
-// What writing answers: how many octets the message has, or the refusal.
-#[derive(Clone, Copy)]
-pub enum Written {
-    Octets(usize),
-    Refused(u8),
 }

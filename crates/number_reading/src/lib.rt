@@ -9,62 +9,22 @@ ghost use Rattle.numbers.specs.Numbers.{place_in, uint_in, uint_at, smaller, all
 
 use numbers::OctetOrder;
 
-// The first number minus the second, 0 where the second is the larger: of len octets, how many lie from a place on.
-pub fn saturating_sub(a: usize, b: usize) -> usize
-    ensures { result ≡ a - b }
-{
-    if b <= a { a - b } else { 0 }
-}
+pub mod unsigned_types;
 
-// The number in two octets, the most significant first.
+use unsigned_types::Unsigned;
+
+// The number in two octets, the most significant first. Like `u32_of` for its own type: std's `from_be_bytes` is no method of a trait.
 pub fn u16_of(a: u8, b: u8) -> u16
     ensures { result ≡ uint_at (a ∷ b ∷ []) 0 2 }
 {
-    (a as u16) * 256 + (b as u16)
+    u16::from_be_bytes([a, b])
 }
 
 // The number in four octets, the most significant first.
 pub fn u32_of(a: u8, b: u8, c: u8, d: u8) -> u32
     ensures { result ≡ uint_at (a ∷ b ∷ c ∷ d ∷ []) 0 4 }
 {
-    (((a as u32) * 256 + (b as u32)) * 256 + (c as u32)) * 256 + (d as u32)
-}
-
-// The octet at a place.
-pub fn get_u8(s: &[u8], at: usize) -> u8
-    ensures { result ≡ uint_at s.now at 1 }
-{
-    if at < s.len() { s[at] } else { 0 }
-}
-
-// The number in the two octets at a place.
-pub fn get_u16(s: &[u8], at: usize) -> u16
-    ensures { result ≡ uint_at s.now at 2 }
-{
-    if s.len() <= at {
-        return 0;
-    }
-    (get_u8(s, at) as u16) * 256 + (get_u8(s, at + 1) as u16)
-}
-
-// The number in the four octets at a place.
-pub fn get_u32(s: &[u8], at: usize) -> u32
-    ensures { result ≡ uint_at s.now at 4 }
-{
-    if s.len() <= at {
-        return 0;
-    }
-    (get_u16(s, at) as u32) * 65536 + (get_u16(s, at + 2) as u32)
-}
-
-// The number in the eight octets at a place.
-pub fn get_u64(s: &[u8], at: usize) -> u64
-    ensures { result ≡ uint_at s.now at 8 }
-{
-    if s.len() <= at {
-        return 0;
-    }
-    (get_u32(s, at) as u64) * 4294967296 + (get_u32(s, at + 4) as u64)
+    u32::from_be_bytes([a, b, c, d])
 }
 
 // The greatest numbers of 0 to 8 octets.
@@ -93,7 +53,7 @@ pub fn place_in(order: OctetOrder, w: usize, i: usize) -> usize
 {
     match order {
         OctetOrder::BigEndian => i,
-        OctetOrder::LittleEndian => saturating_sub(saturating_sub(w, 1), i),
+        OctetOrder::LittleEndian => w.saturating_sub(1).saturating_sub(i),
     }
 }
 
@@ -101,7 +61,7 @@ pub fn place_in(order: OctetOrder, w: usize, i: usize) -> usize
 fn octet(s: &[u8], at: usize, i: usize) -> u8
     ensures { result ≡ get_or s.now (at + i) 0 }
 {
-    if saturating_sub(s.len(), at) <= i {
+    if s.len().saturating_sub(at) <= i {
         return 0;
     }
     s[at + i]
@@ -112,10 +72,8 @@ pub fn get_uint(order: OctetOrder, s: &[u8], at: usize, w: usize) -> u64
     ensures { result ≡ uint_in order s.now at w % 256 ^ 8 }
 {
     let mut v: u64 = 0;
-    let mut i: usize = 0;
-    while i < w {
+    for i in 0..w {
         v = v % 72057594037927936 * 256 + (octet(s, at, place_in(order, w, i)) as u64);
-        i += 1;
     }
     v
 }
@@ -127,14 +85,19 @@ const ASCII_LIMIT: u8 = 128;
 pub fn all_ascii(s: &[u8], at: usize, n: usize) -> bool
     ensures { result ≡ all_ascii s.now at n }
 {
-    // What lies past the end reads 0, so the loop ends there.
-    let left = saturating_sub(s.len(), at);
-    let count = n - saturating_sub(n, left);
+    // What lies past the end reads 0, so the loop ends there; it goes to the end, which is quicker than to stop.
+    let left = s.len().saturating_sub(at);
+    let start = s.len() - left;
     let mut ok = true;
-    let mut i: usize = 0;
-    while i < count {
-        ok = ok & (s[at + i] < ASCII_LIMIT);
-        i += 1;
+    for octet in &s[start..start + n.min(left)] {
+        ok &= *octet < ASCII_LIMIT;
     }
     ok
+}
+
+// The number in the octets at a place, as many as its type has.
+pub fn get<T: Unsigned>(s: &[u8], at: usize) -> T
+    ensures { T.value result ≡ uint_at s.now at T.WIDTH }
+{
+    T::from_number(get_uint(OctetOrder::BigEndian, s, at, T::WIDTH))
 }

@@ -8,6 +8,9 @@ use native.Mathlib.Numerals.{add-one}
 use native.Mathlib.Omega.{arith}
 use borrow.Author.Tests.{ltb-true, ltb-false}
 use lib.Dec.{ltb}
+use lib.ListN.{length, get_or}
+use mathlib.Core.List.{List, [], ◌∷◌}
+use Rattle.std.specs.List.{list_all}
 use Rattle.numbers.specs.Each.{every, first_from}
 use Rattle.numbers.proofs.Stores.{cond_cases}
 
@@ -85,6 +88,26 @@ every_enough n m p l h = go (every m p) refl
         none : (b : Bool) → every n p ≡ b → b ≡ false
         none true e = absurd (false≢true (sym t ∙ every_fewer n p e m l))
         none false e = refl
+
+-- the first number apart from the others
+pub every_front : (n : ℕ) (p : ℕ → Bool) → every (suc n) p ≡ p 0 && every n (λ i. p (suc i))
+unfolding every
+every_front zero p = go (p 0)
+  where
+    go : (b : Bool) → true && b ≡ b && true
+    go true = refl
+    go false = refl
+every_front (suc n) p = ap (λ (b : Bool). b && p (suc n)) (every_front n p) ∙ go (p 0)
+  where
+    go : (b : Bool) → b && every n (λ i. p (suc i)) && p (suc n) ≡ b && (every n (λ i. p (suc i)) && p (suc n))
+    go true = refl
+    go false = refl
+
+-- every element of a list, by its place
+pub every_listed : (p : ℕ → Bool) (xs : List ℕ) → list_all p xs ≡ every (length xs) (λ i. p (get_or xs i 0))
+unfolding every
+every_listed p [] = refl
+every_listed p (x ∷ xs) = ap (λ (b : Bool). p x && b) (every_listed p xs) ∙ sym (every_front (length xs) (λ i. p (get_or (x ∷ xs) i 0)))
 
 -- ---- bools
 

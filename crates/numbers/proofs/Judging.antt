@@ -7,10 +7,13 @@ use mathlib.Core.List.{List, [], ◌∷◌, ◌++◌}
 use Prim.Native.Nat.{ℕ, zero, suc, ◌≤◌}
 use native.Mathlib.Omega.{arith}
 use borrow.Author.Rules.{rules}
-use borrow.Author.Tests.{lt-ltb, le-ltb, le-leb, lt-leb, eq-eqb, ne_eqb, eqb-true, leb-true, not-true}
+use borrow.Author.Tests.{lt-ltb, le-ltb, le-leb, lt-leb, eq-eqb, ne_eqb, eqb-true, eqb-false, leb-true, not-true}
 use lib.Dec.{eqb, leb}
-use Rattle.numbers.proofs.Each.{and_left, and_right}
-use Rattle.numbers.specs.Answers.{Check, ◌when◌, judge, done, Answered}
+use Rattle.std.specs.Prelude.{Result, Ok, Err, IsErrAnd}
+use Rattle.numbers.proofs.Each.{and_left, and_right, every_at}
+use Rattle.numbers.specs.Each.{every}
+use Rattle.numbers.specs.Answers.{Check, ◌when◌, judge, done, Answered, refusal_number, refusal_of, judged, answer_number}
+use Rattle.numbers.specs.declared.refusal.Refusal.{Refusal}
 
 -- what a search for a return needs: the value of each test on the way
 pub ruleset tests = (lt-ltb, le-ltb, le-leb, lt-leb, eq-eqb, ne_eqb, rules)
@@ -93,3 +96,56 @@ answered {number_in = number_in} n e = record { same = e; number = ap number_in 
 pub answered_with_lem : {R : Type 0} {number_in : R → ℕ} {result expected : R} {judged : ℕ} {P : Type 0} → number_in expected ≡ judged
     → (result ≡ expected) × P → Answered number_in result expected judged × P
 answered_with_lem n e = (answered n e.0, e.1)
+
+-- ---- what a call answers
+
+-- each number of a refusal is that of the refusal which has it
+pub refusal_numbered : (n : ℕ) → n ≤ 22 → (n ≡ done → ⊥) → refusal_number (refusal_of n) ≡ n
+unfolding refusal_of every
+refusal_numbered zero l h = absurd (h refl)
+refusal_numbered (suc n) l h =
+    eqb-true (refusal_number (refusal_of (suc n))) (suc n)
+    (every_at 22 (λ i. eqb (refusal_number (refusal_of (suc i))) (suc i)) refl n (omega arith))
+
+-- the number of what a call answers that is judged by a number is that number
+pub judged_number : {A : Type 0} (n : ℕ) (value : A) → n ≤ 22 → answer_number (judged n value) ≡ n
+unfolding judged
+judged_number n value l = go (eqb n done) refl
+  where
+    go : (b : Bool) → eqb n done ≡ b → answer_number (cond b (Ok value) (Err (refusal_of n))) ≡ n
+    go true e = sym (eqb-true n done e)
+    go false e = refusal_numbered n l (λ z. absurd (omega (arith, eqb-false n done e)))
+
+-- an answer that is judged by checks has the number that they are judged by
+pub judged_answered : {A : Type 0} {result : Result A Refusal} (value : A) (cs : List Check) → numbered 1 22 cs ≡ true
+    → result ≡ judged (judge cs) value → Answered answer_number result (judged (judge cs) value) (judge cs)
+judged_answered value cs h e = answered (judged_number (judge cs) value (go (eqb (judge cs) done) refl)) e
+  where
+    go : (b : Bool) → eqb (judge cs) done ≡ b → judge cs ≤ 22
+    go true q = let z = eqb-true (judge cs) done q in omega arith
+    go false q = (judge_numbered 1 22 cs h (eqb-false (judge cs) done q)).1
+
+-- what is answered with a value was judged `done`
+pub judged_ok : {A : Type 0} (n : ℕ) (value : A) {found : A} → judged n value ≡ Ok found → n ≡ done
+unfolding judged
+judged_ok n value {found = found} e = go (eqb n done) refl e
+  where
+    go : (b : Bool) → eqb n done ≡ b → cond b (Ok value) (Err (refusal_of n)) ≡ Ok found → n ≡ done
+    go true q w = eqb-true n done q
+    go false q w = absurd (search rules)
+
+-- a refusal by a number stays it whatever the value would be
+pub judged_err : {A B : Type 0} (n : ℕ) (value : A) (other : B) {refusal : Refusal} → judged n value ≡ Err refusal
+    → judged n other ≡ Err refusal
+unfolding judged
+judged_err n value other {refusal = refusal} e = go (eqb n done) refl e
+  where
+    go : (b : Bool) → eqb n done ≡ b → cond b (Ok value) (Err (refusal_of n)) ≡ Err refusal
+        → cond b (Ok other) (Err (refusal_of n)) ≡ Err refusal
+    go true q w = absurd (search rules)
+    go false q w = search rules
+
+-- a refusal that `?` hands on is the one that was answered
+pub handed_on : {A : Type 0} {refusal : Refusal} {result : Result A Refusal} → IsErrAnd result (λ r. r ≡ refusal) → result ≡ Err refusal
+handed_on {result = Ok value} e = absurd (search rules)
+handed_on {result = Err r} e = cc

@@ -1,7 +1,15 @@
 -- The answer numbers by name, how a call's refusals are judged (01, "Answer numbers"), and what is promised of an answer that is an enum.
-use Rattle.std.specs.Prelude.{ℕ, ◌≡◌, Bool, cond, List, [], ◌∷◌}
+use Rattle.std.specs.Prelude.{ℕ, ◌≡◌, Bool, cond, List, [], ◌∷◌, nat_eq, Result, Ok, Err}
+use Rattle.numbers.specs.Each.{look_up}
+use Rattle.numbers.specs.declared.refusal.Refusal.{Refusal}
+use Rattle.numbers.specs.declared.refusal.Refusal.TheVariants.{UnsoundState, NoSuchServer, ShortMessage, OtherVersion, LengthDiffers}
+use Rattle.numbers.specs.declared.refusal.Refusal.TheVariants.{OtherSession, MessageNotAccepted, BodyLengthWrong, OutOfTurn}
+use Rattle.numbers.specs.declared.refusal.Refusal.TheVariants.{OtherConfiguration, DsnNotAcknowledgeable}
+use Rattle.numbers.specs.declared.refusal.Refusal.TheVariants.{OutputTooShort, NoActiveServer, NothingToSend, TemplateNotFound}
+use Rattle.numbers.specs.declared.refusal.Refusal.TheVariants.{RecordInvalid, RecordTooLong, QueueFull, StoreFull, SettingsOutsideLimits}
+use Rattle.numbers.specs.declared.refusal.Refusal.TheVariants.{UnsoundTable, UnsoundTape}
 
--- ---- the numbers: one name for each row of the table; `Answer` has the same names in the code
+-- ---- the numbers: one name for each row of the table; the cases of `Refusal` have the same
 
 -- 0: done.
 abbrev pub done : ℕ
@@ -123,6 +131,64 @@ answer_numbers =
     ∷ unsound_tape
     ∷ []
 
+-- ---- refusals
+
+-- The number of a refusal, by the row of the table that it has its name from.
+abbrev pub refusal_number : Refusal → ℕ
+refusal_number UnsoundState = unsound_state
+refusal_number NoSuchServer = no_such_server
+refusal_number ShortMessage = short_message
+refusal_number OtherVersion = other_version
+refusal_number LengthDiffers = length_differs
+refusal_number OtherSession = other_session
+refusal_number MessageNotAccepted = message_not_accepted
+refusal_number BodyLengthWrong = body_length_wrong
+refusal_number OutOfTurn = out_of_turn
+refusal_number OtherConfiguration = other_configuration
+refusal_number DsnNotAcknowledgeable = dsn_not_acknowledgeable
+refusal_number OutputTooShort = output_too_short
+refusal_number NoActiveServer = no_active_server
+refusal_number NothingToSend = nothing_to_send
+refusal_number TemplateNotFound = template_not_found
+refusal_number RecordInvalid = record_invalid
+refusal_number RecordTooLong = record_too_long
+refusal_number QueueFull = queue_full
+refusal_number StoreFull = store_full
+refusal_number SettingsOutsideLimits = settings_outside_limits
+refusal_number UnsoundTable = unsound_table
+refusal_number UnsoundTape = unsound_tape
+
+-- All refusals, in the order of their numbers.
+abbrev pub refusals : List Refusal
+refusals =
+    UnsoundState
+    ∷ NoSuchServer
+    ∷ ShortMessage
+    ∷ OtherVersion
+    ∷ LengthDiffers
+    ∷ OtherSession
+    ∷ MessageNotAccepted
+    ∷ BodyLengthWrong
+    ∷ OutOfTurn
+    ∷ OtherConfiguration
+    ∷ DsnNotAcknowledgeable
+    ∷ OutputTooShort
+    ∷ NoActiveServer
+    ∷ NothingToSend
+    ∷ TemplateNotFound
+    ∷ RecordInvalid
+    ∷ RecordTooLong
+    ∷ QueueFull
+    ∷ StoreFull
+    ∷ SettingsOutsideLimits
+    ∷ UnsoundTable
+    ∷ UnsoundTape
+    ∷ []
+
+-- The refusal that has a number; that of an unsound state where none has it.
+unfoldable pub refusal_of : ℕ → Refusal
+refusal_of n = look_up refusal_number (λ r. r) UnsoundState refusals n
+
 -- ---- judging: the first that applies
 
 -- A refusal: its number, and the test that calls for it.
@@ -135,10 +201,19 @@ abbrev pub judge : List Check → ℕ
 judge [] = done
 judge ((number when test) ∷ checks) = cond test number (judge checks)
 
--- ---- an answer that is an enum
+-- ---- what a call answers
+
+-- A value where the number that the call is judged by is `done`, and otherwise the refusal that has the number.
+unfoldable pub judged : {A : Type 0} → ℕ → A → Result A Refusal
+judged n value = cond (nat_eq n done) (Ok value) (Err (refusal_of n))
+
+-- The number of what a call answers: `done`, or the refusal's.
+abbrev pub answer_number : {A : Type 0} → Result A Refusal → ℕ
+answer_number (Ok value) = done
+answer_number (Err refusal) = refusal_number refusal
 
 -- What a contract promises of it: it is the answer that a definition gives, and its number, by the definition that gives one for each of
--- its cases, is the number that the call is judged by (01, "Where each language form belongs").
+-- its cases, is the number that the call is judged by.
 pub record Answered {R : Type 0} (number_in : R → ℕ) (result expected : R) (judged : ℕ) : Type 0 where
   pub same : result ≡ expected
   pub number : number_in result ≡ judged

@@ -1,86 +1,117 @@
 -- wire judges table, template and record together; the first laws put the Configuration ID and the limit of octets in their turn, and the
--- room behind them. An accepted put fills the first unused entries; a refused one stores what was there. Either is the step of the
--- definition.
-use Rattle.std.proofs.Common.{◌≡◌, ℕ, ◌+◌, ◌%◌, ◌<◌, ◌≤◌, Bool, true, false, cond, not, ◌&&◌, eqb, ltb, List, [], ◌∷◌, ◌++◌, length, get_or, set, sym, refl, ◌∙◌, arith, ltb-false, ne_eqb, eqb-true, leb-false}
-use lib.Seq.{set-get_or}
-use borrow.Author.Tests.{not-false, eqb-false}
-use Rattle.octets.specs.Answers.{◌when◌, judge, done, unsound_state}
-use Rattle.octets.proofs.Judging.{passed, judged_first, judged_next}
+-- room behind them. An accepted put is the step of the definition.
+use Rattle.std.proofs.Common.{◌≡◌, ne_eqb, arith, eq-eqb, le-ltb, lt-ltb, ℕ, ◌+◌, ◌%◌, ◌<◌, ◌≤◌, Bool, true, false, cond, not, ◌&&◌, eqb, List, [], ◌∷◌, ◌++◌, length, sym, refl, ◌∙◌, ltb-false, eqb-true, leb-false}
+use borrow.Author.Tests.{not-false}
+use mathlib.Core.Path.{ap}
+use mathlib.Core.Logic.{◌⊎◌, inl, inr}
+use Rattle.octets.specs.Answers.{◌when◌, judge, judged, refusal_of, done, unsound_state, Answered, answer_number}
+use Rattle.octets.proofs.Judging.{passed, judged_first, judged_next, judged_ok}
+use Rattle.std.specs.Prelude.{Result, Ok, Err}
+use Rattle.numbers.specs.declared.refusal.Refusal.{Refusal}
+use Rattle.numbers.specs.declared.refusal.Refusal.TheVariants.{UnsoundTable, TemplateNotFound, RecordInvalid, RecordTooLong}
 use Rattle.octets.proofs.Each.{and_left, and_right}
 use Rattle.wire.specs.Table.{table_sound, configuration_id, is_missing, template_of}
 use Rattle.wire.specs.Record.{record_valid, record_answer}
-use Rattle.wire.specs.Replies.{silent, crane}
+use Rattle.wire.specs.Replies.{crane}
 use Rattle.session.specs.Sound.{sound}
-use Rattle.session.specs.Steps.{put, answer, checks, sound_for, with_due, after, settled, store_after, Outcome, step, put_step, stepped_of}
-use Rattle.session.specs.Steps.{record_checks, room_checks, written}
+use Rattle.session.specs.Steps.{put, answer, checks, sound_for, after, store_after, Outcome, put_step, stepped_of}
+use Rattle.session.specs.Steps.{record_checks, room_checks}
 use Rattle.session.specs.Queue.{held_octets, ring_write, pushed}
-use Rattle.putting.specs.Puttings.{putting_of}
-use Rattle.putting.specs.declared.put.Putting.{Putting}
 use Rattle.session.specs.declared.state.Settings.{Settings}
-use Rattle.session.specs.declared.state.Stepped.{Stepped}
+use Rattle.session.specs.declared.state.Queue.{Queue}
 use Rattle.session.specs.declared.state.State.{State}
 use Rattle.session.proofs.SoundFacts.{sound_facts}
-use Rattle.soundness.proofs.Parts.{parts_of}
-use Rattle.soundness.specs.Parts.{parts_in}
-use Rattle.session.proofs.StepLaws.{settled_same, step_done, step_refused}
+use Rattle.session.proofs.StepLaws.{settled_same, step_done, step_kept, step_err, answered_ok, refused_number}
 
--- wire's answer to a record, with the Configuration ID and the limit of 1,024 octets judged in their turn: whether the table is sound, its
--- ID the session's, the template missing, the record too long, the record valid
-record_judged : (sound same missing long valid : Bool)
-    → let a = judge ((21 when not sound) ∷ (15 when missing) ∷ (16 when not valid) ∷ []) in
-    cond (not (not (eqb a 21) && same)) 21 (cond (eqb a 15) 15 (cond long 17 a))
-    ≡ judge ((21 when not (sound && same)) ∷ (15 when missing) ∷ (17 when long) ∷ (16 when not valid) ∷ [])
-record_judged false same missing long valid = refl
-record_judged true false true long valid = refl
-record_judged true false false long true = refl
-record_judged true false false long false = refl
-record_judged true true true long valid = refl
-record_judged true true false true true = refl
-record_judged true true false true false = refl
-record_judged true true false false true = refl
-record_judged true true false false false = refl
+-- what wire answers to a record
+told_by : Bool → Bool → Bool → Result (Unit {0}) Refusal
+told_by sound missing valid =
+    cond (not sound) (Err UnsoundTable) (cond missing (Err TemplateNotFound) (cond valid (Ok (tt {0})) (Err RecordInvalid)))
 
--- the same of wire's answer a, by what the tests on the way came to: whether the table is the session's, the template missing, the record
--- too long
-pub record_tests : (p : Settings) (table : List ℕ) (id : ℕ) (r : List ℕ) (a : ℕ) (ours : Bool) → a ≡ record_answer table id r
-    → ours ≡ (not (eqb a 21) && eqb (configuration_id table) p.config)
-    → (b c d : Bool) → ours ≡ b → eqb a 15 ≡ c → ltb 1024 (length r) ≡ d
-    → cond (not b) 21 (cond c 15 (cond d 17 a)) ≡ judge (record_checks p table id r)
-unfolding record_answer
-record_tests p table id r a ours e k b c d x y z =
-    rw (sym x, k, sym y, sym z, e)
-    (record_judged (table_sound table) (eqb (configuration_id table) p.config) (is_missing table id) (ltb 1024 (length r))
-    (record_valid table (template_of table id) r))
+module _ (p : Settings) (table : List ℕ) (id : ℕ) (r : List ℕ) where
+  told : judged (record_answer table id r) (tt {0})
+      ≡ told_by (table_sound table) (is_missing table id) (record_valid table (template_of table id) r)
+  unfolding record_answer judged refusal_of told_by
+  told = go (table_sound table) (is_missing table id) (record_valid table (template_of table id) r)
+    where
+      go : (sound missing valid : Bool)
+          → judged (judge ((21 when not sound) ∷ (15 when missing) ∷ (16 when not valid) ∷ [])) (tt {0}) ≡ told_by sound missing valid
+      go false missing valid = refl
+      go true true valid = refl
+      go true false true = refl
+      go true false false = refl
 
--- the record is judged, and then the room: a is what the record was judged, b the room
-module _ (p : Settings) (capacity n held : ℕ) (table : List ℕ) (id : ℕ) (r : List ℕ) (a : ℕ)
-    (e : a ≡ judge (record_checks p table id r)) where
-  pub refused_first : (a ≡ done → ⊥) → a ≡ judge (record_checks p table id r ++ room_checks capacity n held r)
-  refused_first h = e ∙ sym (judged_first (record_checks p table id r) (room_checks capacity n held r) (λ z. h (e ∙ z)))
+  abbrev expected : Result (Unit {0}) Refusal
+  expected = judged (judge (record_checks p table id r)) (tt {0})
 
-  pub passed_first : a ≡ done → (b : ℕ) → b ≡ judge (room_checks capacity n held r)
-      → b ≡ judge (record_checks p table id r ++ room_checks capacity n held r)
-  passed_first z b k = k ∙ sym (judged_next (record_checks p table id r) (room_checks capacity n held r) tt (sym e ∙ z))
+  -- another configuration
+  pub other_table : (configuration_id table ≡ p.config → ⊥) → Err UnsoundTable ≡ expected
+  unfolding judged refusal_of
+  other_table n = go (table_sound table) refl
+    where
+      go : (s : Bool) → table_sound table ≡ s → Err UnsoundTable ≡ expected
+      go true e = rw (e, ne_eqb (configuration_id table) p.config n) refl
+      go false e = rw e refl
 
--- put's answer, as it is judged by parts
-abbrev put_answer : State → List ℕ → List ℕ → ℕ → List ℕ → ℕ
-put_answer s store table id r =
-    judge
-    ((unsound_state when not (sound (parts_in s) && eqb (length store) s.capacity))
-    ∷ (record_checks s.settings table id r ++ room_checks s.capacity s.queue.count (held_octets s.queue) r))
+  -- of the session's configuration, and not too long
+  pub short_record : configuration_id table ≡ p.config → length r ≤ 1024 → judged (record_answer table id r) (tt {0}) ≡ expected
+  unfolding judged refusal_of told_by
+  short_record same l = told ∙ go (table_sound table) (is_missing table id) (record_valid table (template_of table id) r) refl refl refl
+    where
+      go : (s m v : Bool) → table_sound table ≡ s → is_missing table id ≡ m → record_valid table (template_of table id) r ≡ v
+          → told_by s m v ≡ expected
+      go false m v a b c = rw a refl
+      go true true v a b c = rw (a, eq-eqb (configuration_id table) p.config same, b) refl
+      go true false true a b c = rw (a, eq-eqb (configuration_id table) p.config same, b, le-ltb 1024 (length r) l, c) refl
+      go true false false a b c = rw (a, eq-eqb (configuration_id table) p.config same, b, le-ltb 1024 (length r) l, c) refl
 
--- the same, by what the code found on the way: whether the state is sound, and the held octets
-pub answer_of_lem : (s : State) (store table : List ℕ) (id : ℕ) (r : List ℕ) (ok : Bool) (held a : ℕ)
-    → ok ≡ sound (parts_in s) → held ≡ held_octets s.queue
-    → a ≡ judge ((unsound_state when not (ok && eqb (length store) s.capacity))
-    ∷ (record_checks s.settings table id r ++ room_checks s.capacity s.queue.count held r))
-    → a ≡ put_answer s store table id r
-answer_of_lem s store table id r ok held a e k j = rw (← e, ← k) j
+  -- too long: 17 where the table has the template
+  pub long_record : configuration_id table ≡ p.config → 1024 < length r → table_sound table ≡ true → is_missing table id ≡ false
+      → Err RecordTooLong ≡ expected
+  unfolding judged refusal_of
+  long_record same l a b = rw (a, eq-eqb (configuration_id table) p.config same, b, lt-ltb 1024 (length r) l) refl
 
-put_judged : (s : State) (store table : List ℕ) (id : ℕ) (r : List ℕ)
-    → put_answer s store table id r ≡ answer crane 0 (put table id r) s store
-unfolding answer checks
-put_judged s store table id r = rw (parts_of s)
+  -- wire's answers of a template that there is
+  pub present : {found : Result (Unit {0}) Refusal} → judged (record_answer table id r) (tt {0}) ≡ found
+      → (found ≡ Ok (tt {0})) ⊎ (found ≡ Err RecordInvalid)
+      → (table_sound table ≡ true) × (is_missing table id ≡ false)
+  unfolding told_by
+  present {found = found} e h = go (table_sound table) (is_missing table id) (record_valid table (template_of table id) r) (sym told ∙ e) h
+    where
+      go : (s m v : Bool) → told_by s m v ≡ found → (found ≡ Ok (tt {0})) ⊎ (found ≡ Err RecordInvalid) → (s ≡ true) × (m ≡ false)
+      go false m v e (inl k) = let z : ◌≡◌ {A = ℕ} 0 1 = cc in absurd (omega arith)
+      go false m v e (inr k) = let z : ◌≡◌ {A = ℕ} 0 1 = cc in absurd (omega arith)
+      go true true v e (inl k) = let z : ◌≡◌ {A = ℕ} 0 1 = cc in absurd (omega arith)
+      go true true v e (inr k) = let z : ◌≡◌ {A = ℕ} 0 1 = cc in absurd (omega arith)
+      go true false v e h = (refl, refl)
+
+  -- wire's other refusals are the first
+  pub of_table : {refusal : Refusal} → configuration_id table ≡ p.config → judged (record_answer table id r) (tt {0}) ≡ Err refusal
+      → (refusal ≡ RecordInvalid → ⊥) → Err refusal ≡ expected
+  unfolding judged refusal_of told_by
+  of_table {refusal = refusal} same e n =
+      go (table_sound table) (is_missing table id) (record_valid table (template_of table id) r) refl refl (sym told ∙ e)
+    where
+      go : (s m v : Bool) → table_sound table ≡ s → is_missing table id ≡ m → told_by s m v ≡ Err refusal → Err refusal ≡ expected
+      go false m v a b k = sym k ∙ rw a refl
+      go true true v a b k = sym k ∙ rw (a, eq-eqb (configuration_id table) p.config same, b) refl
+      go true false true a b k = let z : ◌≡◌ {A = ℕ} 0 1 = cc in absurd (omega arith)
+      go true false false a b k = let z : refusal ≡ RecordInvalid = cc in absurd (n z)
+
+-- the record is judged, and then the room
+module _ (p : Settings) (capacity n held : ℕ) (table : List ℕ) (id : ℕ) (r : List ℕ) where
+  -- a refusal of the record is the first
+  pub refused_first : {refusal : Refusal} → judged (judge (record_checks p table id r)) (tt {0}) ≡ Err refusal
+      → Err refusal ≡ judged (judge (record_checks p table id r ++ room_checks capacity n held r)) (tt {0})
+  refused_first e =
+      sym (ap (λ (k : ℕ). judged k (tt {0})) (judged_first (record_checks p table id r) (room_checks capacity n held r) (refused_number (tt {0}) e)) ∙ e)
+
+  -- where there is none the room decides
+  pub passed_first : {found : Unit {0}} {result : Result (Unit {0}) Refusal} → judged (judge (record_checks p table id r)) (tt {0}) ≡ Ok found
+      → result ≡ judged (judge (room_checks capacity n held r)) (tt {0})
+      → result ≡ judged (judge (record_checks p table id r ++ room_checks capacity n held r)) (tt {0})
+  passed_first e k =
+      k ∙ sym (ap (λ (k : ℕ). judged k (tt {0})) (judged_next (record_checks p table id r) (room_checks capacity n held r) tt (judged_ok _ (tt {0}) e)))
 
 -- what an accepted put knows
 pub record PutFacts (s : State) (store r : List ℕ) : Type 0 where
@@ -89,163 +120,57 @@ pub record PutFacts (s : State) (store r : List ℕ) : Type 0 where
   pub few : s.queue.count < 64
   pub short : length r ≤ 1024
 
-put_facts : (s : State) (store table : List ℕ) (id : ℕ) (r : List ℕ) → answer crane 0 (put table id r) s store ≡ 0 → PutFacts s store r
-unfolding answer checks
-put_facts s store table id r e =
-    let p = passed ((unsound_state when not (sound_for (put table id r) s store)) ∷ checks crane 0 (put table id r) s store) tt e in
-    let both = not-false (sound s && eqb (length store) s.capacity) p.0 in
-    record {
-      is_sound = and_left (sound s) _ both;
-      stored = eqb-true (length store) s.capacity (and_right (sound s) _ both);
-      few = leb-false 64 s.queue.count p.1.1.1.1.1.0;
-      short = ltb-false 1024 (length r) p.1.1.1.0;
-    }
-
--- the same, by what it was judged
-pub put_known : (s : State) (store table : List ℕ) (id : ℕ) (r : List ℕ) (a : ℕ) → a ≡ put_answer s store table id r → a ≡ 0
-    → PutFacts s store r
-put_known s store table id r a j e = put_facts s store table id r (sym (put_judged s store table id r) ∙ sym j ∙ e)
-
--- ---- what putting changes
-
--- a refused put changes nothing
-pub putting_kept : (s : State) (store table : List ℕ) (id : ℕ) (r : List ℕ) (a : ℕ) (x : Putting) → (a ≡ done → ⊥)
-    → a ≡ put_answer s store table id r → x ≡ record {
-      answer = a;
-      place = 0;
-      len = get_or s.queue.lengths 0 0;
-      template = get_or s.queue.templates 0 0;
-      set = get_or s.queue.receivers 0 0;
-      count = s.queue.count;
-      next = s.next;
-    }
-    → (x ≡ putting_of s id r (put_step s store table id r)) × (store ≡ (put_step s store table id r).store)
-putting_kept s store table id r a x h j q =
-    rw (step_refused crane 0 (put table id r) s store a h (sym (j ∙ put_judged s store table id r)), ne_eqb a done h) (q, refl)
-
--- an accepted one fills the first unused entries
-pub putting_done : (s : State) (store table : List ℕ) (id : ℕ) (r : List ℕ) (a : ℕ) (x : Putting) (n : ℕ) (left : List ℕ)
-    → a ≡ put_answer s store table id r → a ≡ done
-    → x ≡ record {
-      answer = a;
-      place = s.queue.count;
-      len = length r;
-      template = id;
-      set = 0;
-      count = s.queue.count + 1;
-      next = (s.next + 1) % 4294967296;
-    }
-    → n ≡ held_octets s.queue → left ≡ ring_write (length store) store (s.start + n) r
-    → (x ≡ putting_of s id r (put_step s store table id r)) × (left ≡ (put_step s store table id r).store)
-unfolding after pushed store_after
-putting_done s store table id r a x n left j z q k l =
-    let e = sym (put_judged s store table id r) ∙ sym j ∙ z in
-    let f = put_facts s store table id r e in
-    rw (
-      step_done crane 0 (put table id r) s store e,
-      settled_same (after 32 (put table id r) s) (sound_facts s f.is_sound).choice,
-    )
-    (rw z at q, rw (k, f.stored) at l)
-
--- the state with such a change
-abbrev with_put : State → Putting → State
-with_put s c =
-    record {
-      settings = s.settings;
-      capacity = s.capacity;
-      delivery = s.delivery;
-      due = s.due;
-      queue = record {
-        count = c.count;
-        lengths = set s.queue.lengths c.place c.len;
-        templates = set s.queue.templates c.place c.template;
-        receivers = set s.queue.receivers c.place c.set;
-      };
-      start = s.start;
-      next = c.next;
-    }
-
--- what a put looks at of a state: not whether S is due
-abbrev put_parts : State → State
-put_parts s = with_due s s.delivery false
-
--- so it changes the same, and leaves the same store
-put_parts_lem : (s : State) (store table : List ℕ) (id : ℕ) (r : List ℕ)
-    → (putting_of (put_parts s) id r (put_step (put_parts s) store table id r) ≡ putting_of s id r (put_step s store table id r))
-    × ((put_step (put_parts s) store table id r).store ≡ (put_step s store table id r).store)
-unfolding step answer checks sound after settled store_after written
-put_parts_lem s store table id r = go (answer crane 0 (put table id r) s store) (eqb (answer crane 0 (put table id r) s store) done)
-  where
-    outcome : State → ℕ → Bool → Outcome
-    outcome s a b =
-        cond b
-        (record {
-          answer = done;
-          state = settled (after 32 (put table id r) s);
-          store = store_after (put table id r) s store;
-          written = silent;
-        })
-        (record { answer = a; state = s; store = store; written = silent })
-
-    go : (a : ℕ) (b : Bool)
-        → (putting_of (put_parts s) id r (outcome (put_parts s) a b) ≡ putting_of s id r (outcome s a b))
-        × ((outcome (put_parts s) a b).store ≡ (outcome s a b).store)
-    go a true = (refl, refl)
-    go a false = (refl, refl)
-
 module _ (s : State) (store table : List ℕ) (id : ℕ) (r : List ℕ) where
-  -- an outcome's change is made to one of the 64 entries
-  putting_place : (putting_of s id r (put_step s store table id r)).place < 64
-  putting_place = go (eqb (answer crane 0 (put table id r) s store) done) refl
-    where
-      go : (b : Bool) → eqb (answer crane 0 (put table id r) s store) done ≡ b → (putting_of s id r (put_step s store table id r)).place < 64
-      go true q =
-          let e = eqb-true (answer crane 0 (put table id r) s store) done q in
-          rw (step_done crane 0 (put table id r) s store e) (put_facts s store table id r e).few
-      go false q =
-          rw (step_refused crane 0 (put table id r) s store _ (eqb-false (answer crane 0 (put table id r) s store) done q) refl, q)
-          (omega arith)
+  -- what a put is judged, by the sum of the held octets
+  pub put_judged : {held : ℕ} {result : Result (Unit {0}) Refusal} → held ≡ held_octets s.queue
+      → result ≡ judged (judge ((unsound_state when not (sound s && eqb (length store) s.capacity))
+      ∷ (record_checks s.settings table id r ++ room_checks s.capacity s.queue.count held r))) (tt {0})
+      → result ≡ judged (answer crane 0 (put table id r) s store) (tt {0})
+  unfolding answer checks
+  put_judged h e = rw (← h) e
 
-  pub putting_inside : (x : Putting) → x ≡ putting_of (put_parts s) id r (put_step (put_parts s) store table id r) → x.place < 64
-  putting_inside x e = rw (e ∙ (put_parts_lem s store table id r).0) putting_place
+  pub put_facts : answer crane 0 (put table id r) s store ≡ done → PutFacts s store r
+  unfolding answer checks
+  put_facts e =
+      let p = passed ((unsound_state when not (sound_for (put table id r) s store)) ∷ checks crane 0 (put table id r) s store) tt e in
+      let both = not-false (sound s && eqb (length store) s.capacity) p.0 in
+      record {
+        is_sound = and_left (sound s) _ both;
+        stored = eqb-true (length store) s.capacity (and_right (sound s) _ both);
+        few = leb-false 64 s.queue.count p.1.1.1.1.1.0;
+        short = ltb-false 1024 (length r) p.1.1.1.0;
+      }
 
-  -- the state with an outcome's change is the outcome's
-  putting_applied : ◌≡◌ {A = Stepped}
-      (record {
-        answer = (putting_of s id r (put_step s store table id r)).answer;
-        state = with_put s (putting_of s id r (put_step s store table id r));
-      })
-      (stepped_of (put_step s store table id r))
-  unfolding after pushed
-  putting_applied = go (eqb (answer crane 0 (put table id r) s store) done) refl
-    where
-      go : (b : Bool) → eqb (answer crane 0 (put table id r) s store) done ≡ b → ◌≡◌ {A = Stepped}
-          (record {
-            answer = (putting_of s id r (put_step s store table id r)).answer;
-            state = with_put s (putting_of s id r (put_step s store table id r));
-          })
-          (stepped_of (put_step s store table id r))
-      go true q =
-          let e = eqb-true (answer crane 0 (put table id r) s store) done q in
-          let f = put_facts s store table id r e in
-          rw (
-            step_done crane 0 (put table id r) s store e,
-            settled_same (after 32 (put table id r) s) (sound_facts s f.is_sound).choice,
-          )
-      go false q =
-          rw (
-            step_refused crane 0 (put table id r) s store _ (eqb-false (answer crane 0 (put table id r) s store) done q) refl,
-            q,
-            set-get_or s.queue.lengths 0 0,
-            set-get_or s.queue.templates 0 0,
-            set-get_or s.queue.receivers 0 0,
-          )
+  -- a refused put changes nothing
+  pub put_refused : {refusal : Refusal} → judged (answer crane 0 (put table id r) s store) (tt {0}) ≡ Err refusal
+      → let o = put_step s store table id r in
+      Answered answer_number (Err refusal) (stepped_of o) o.answer × (store ≡ o.store)
+  unfolding checks
+  put_refused e = (
+    step_err crane 0 (put table id r) s store (tt {0}) (put_step s store table id r).state refl e,
+    sym (ap (λ (o : Outcome). o.store) (step_kept crane 0 (put table id r) s store (tt {0}) e)),
+  )
 
-  pub put_applied : (x : Putting) (left : List ℕ)
-      → (x ≡ putting_of (put_parts s) id r (put_step (put_parts s) store table id r))
-      × (left ≡ (put_step (put_parts s) store table id r).store)
-      → ◌≡◌ {A = Stepped} (record { answer = x.answer; state = with_put s x }) (stepped_of (put_step s store table id r))
-      × (left ≡ (put_step s store table id r).store)
-  put_applied x left e =
-      let same = put_parts_lem s store table id r in
-      (rw (e.0 ∙ same.0) putting_applied, e.1 ∙ same.1)
+  -- an accepted one fills the first unused entries
+  pub put_done : answer crane 0 (put table id r) s store ≡ done → {q : Queue} {held : ℕ} {left : List ℕ} → q ≡ pushed s.queue id (length r)
+      → held ≡ held_octets s.queue → left ≡ ring_write (length store) store (s.start + held) r
+      → let o = put_step s store table id r in
+      Answered answer_number
+      (Ok (record {
+        settings = s.settings;
+        capacity = s.capacity;
+        delivery = s.delivery;
+        due = s.due;
+        queue = q;
+        start = s.start;
+        next = (s.next + 1) % 4294967296;
+      }))
+      (stepped_of o) o.answer × (left ≡ o.store)
+  unfolding after store_after
+  put_done e q h l =
+      let f = put_facts e in
+      rw (
+        step_done crane 0 (put table id r) s store e,
+        settled_same (after 32 (put table id r) s) (sound_facts s f.is_sound).choice,
+      )
+      (answered_ok refl (rw q refl), rw (h, f.stored) at l)

@@ -1,1 +1,1 @@
-pub mod Puttings
+-- No definitions: what put does stands in `session`.

@@ -16,18 +16,6 @@ use Rattle.session.specs.Queue.{sum_of, ring_place, ring_read, ring_write, ring_
 use Rattle.session.proofs.Rings.{read_length, read_near, read_far, write_run, two_runs}
 use Rattle.queue.specs.Rings.{record_start, ring_stored, ring_copied}
 
--- ---- lengths
-
--- the first n of 64 entries, of which the code takes r
-pub take_few : (xs : List ℕ) (n r : ℕ) → r ≡ min n 64 → length xs ≡ 64 → take r xs ≡ take n xs
-take_few xs n r e l = go (leb n 64) refl
-  where
-    go : (b : Bool) → leb n 64 ≡ b → take r xs ≡ take n xs
-    go true h = let k : r ≡ n = omega (arith, leb-true n 64 h) in rw k
-    go false h =
-        let k = leb-false n 64 h in
-        take_all r xs (omega arith) ∙ sym (take_all n xs (omega arith))
-
 -- ---- places
 
 -- a place past the end of the store, brought back by its length

@@ -2,8 +2,7 @@
 // one was sent to, and in `ring` the octets of the records in the store.
 #![tactic(auto)]
 
-ghost use Rattle.std.specs.Prelude.{◌≡◌, min, take};
-ghost use Rattle.session.specs.Limits.{max_held};
+ghost use Rattle.std.specs.Prelude.{◌≡◌, take};
 ghost use Rattle.session.specs.Queue.{sum_of, has};
 ghost use Rattle.queue.specs.Rings.{record_start};
 
@@ -11,24 +10,13 @@ pub mod ring;
 
 use session::limits::{MAX_HELD, MAX_SERVERS};
 
-// How many of n entries an array of the queue has.
-fn entries_of(n: usize) -> usize
-    ensures { result ≡ min n max_held }
-{
-    if n < MAX_HELD { n } else { MAX_HELD }
-}
-
 // How many octets the first n records have together.
 pub fn octets_to(lengths: &[u16; MAX_HELD], n: usize) -> u32
     ensures { result ≡ sum_of (take n lengths.now) }
 {
-    let part = &lengths[..];
-    let end = entries_of(n);
     let mut sum: u32 = 0;
-    let mut i: usize = 0;
-    while i < end {
-        sum += part[i] as u32;
-        i += 1;
+    for length in &lengths[..n.min(MAX_HELD)] {
+        sum += *length as u32;
     }
     sum
 }

@@ -53,10 +53,10 @@ pub fn ring_read(store: &[u8], at: usize, n: usize, out: &mut [u8], place: usize
     }
     let first = room - at;
     if n <= first {
-        octets::copy_blocks(out, place, &store[at..at + n]);
+        octets::copy(out, place, &store[at..at + n]);
         return;
     }
-    if octets::saturating_sub(out.len(), place) < n {
+    if out.len().saturating_sub(place) < n {
         return;
     }
     octets::copy(out, place, &store[at..]);

@@ -1,45 +1,38 @@
 // A borrowed record and the place of a walk over it, held together. A reader's functions take it apart and leave the work to `walk`.
-ghost use Rattle.std.specs.Prelude.{◌≡◌};
-ghost use Rattle.octets.specs.Answers.{Answered};
+ghost use Rattle.std.specs.Prelude.{◌≡◌, Ok};
+ghost use Rattle.octets.specs.Answers.{Answered, answer_number};
 ghost use Rattle.records.specs.Record.{record_answer};
-ghost use Rattle.records.specs.Walk.{step_of, step_from, step_from_judged, step_answer, Exact, open_of, open_answer};
-ghost use Rattle.readers.specs.Count.{count_of, count_answer};
-ghost use Rattle.records.specs.declared.walk.Opened.TheVariants as opened;
+ghost use Rattle.records.specs.Walk.{step_of, step_from, step_from_judged, Exact, open_of};
+ghost use Rattle.readers.specs.Count.{count_of};
 
-use records::walk::{Cursor, Opened, Step};
+use octets::Refusal;
+use records::walk::{Cursor, Field};
 use tables::table::MAX_KEYS;
 
 // The most fields that a record has: one for each key of its template.
 const MAX_FIELDS: usize = MAX_KEYS as usize;
 
 // The record, and where the walk over it stands: at a cursor, or refused when it was opened.
-#[derive(Clone, Copy)]
+#[derive(Clone, Copy, Debug, PartialEq, Eq)]
 pub struct Reader<'a> {
     pub record: &'a [u8],
-    pub place: Opened,
-}
-
-// What counting the fields of a record answers.
-#[derive(Clone, Copy)]
-pub enum Counted {
-    Fields(usize),
-    Refused(u8),
+    pub place: Result<Cursor, Refusal>,
 }
 
 impl<'a> Reader<'a> {
     // A reader of a record under the template with an ID, at the record's start or refused: 21, 15 or 16.
     pub fn open(t: &[u8], id: u16, record: &'a [u8]) -> Reader<'a>
         ensures { (result.«record» ≡ «record».entry)
-            × Answered open_answer result.place (open_of t.now id «record».now)
+            × Answered answer_number result.place (open_of t.now id «record».now)
             (record_answer t.now id «record».now) }
     {
         let place = records::walk::open_walk(t, id, record);
         Reader { record, place }
     }
 
-    // The field where the reader stands and the cursor after it, the end, or a refusal; that of the opening where it was refused.
-    pub fn step(self, t: &[u8], id: u16) -> Step
-        ensures { Answered step_answer result (step_from t.now id self.entry.«record».now self.entry.place)
+    // The field where the reader stands and the cursor after it, none at the end, or a refusal; that of the opening where it was refused.
+    pub fn step(self, t: &[u8], id: u16) -> Result<Option<(Field, Cursor)>, Refusal>
+        ensures { Answered answer_number result (step_from t.now id self.entry.«record».now self.entry.place)
             (step_from_judged t.now id self.entry.«record».now self.entry.place)
             × Exact t.now self.entry.«record».now result }
     {
@@ -47,7 +40,7 @@ impl<'a> Reader<'a> {
     }
 
     // Where the reader stands.
-    pub fn place(self) -> Opened
+    pub fn place(self) -> Result<Cursor, Refusal>
         ensures { result ≡ self.entry.place }
     {
         self.place
@@ -62,50 +55,44 @@ impl<'a> Reader<'a> {
 
     // A reader of the same record, at a cursor.
     pub fn moved(self, c: Cursor) -> Reader<'a>
-        ensures { (result.«record» ≡ self.entry.«record») × (result.place ≡ opened.At c) }
+        ensures { (result.«record» ≡ self.entry.«record») × (result.place ≡ Ok c) }
     {
         Reader {
             record: self.record,
-            place: Opened::At(c),
+            place: Ok(c),
         }
     }
 }
 
 // Where a reader that is opened stands.
-fn opening(t: &[u8], id: u16, r: &[u8]) -> Opened
+fn opening(t: &[u8], id: u16, r: &[u8]) -> Result<Cursor, Refusal>
     ensures { result ≡ open_of t.now id r.now }
 {
     Reader::open(t, id, r).place()
 }
 
 // The step of a reader at a cursor.
-fn step_at(t: &[u8], id: u16, r: &[u8], c: Cursor) -> Step
+fn step_at(t: &[u8], id: u16, r: &[u8], c: Cursor) -> Result<Option<(Field, Cursor)>, Refusal>
     ensures { result ≡ step_of t.now id r.now c }
 {
     Reader {
         record: r,
-        place: Opened::At(c),
+        place: Ok(c),
     }
     .step(t, id)
 }
 
 // How many fields a record has under the template with an ID; 21, 15 or 16 as for opening.
-pub fn count_fields(t: &[u8], id: u16, r: &[u8]) -> Counted
-    ensures { Answered count_answer result (count_of t.now id r.now)
+pub fn count_fields(t: &[u8], id: u16, r: &[u8]) -> Result<usize, Refusal>
+    ensures { Answered answer_number result (count_of t.now id r.now)
         (record_answer t.now id r.now) }
 {
-    let mut c = match opening(t, id, r) {
-        Opened::At(start) => start,
-        Opened::Refused(answer) => return Counted::Refused(answer),
-    };
-    let mut n = 0;
-    while n < MAX_FIELDS {
-        match step_at(t, id, r, c) {
-            Step::Next(_, next) => c = next,
-            Step::End => return Counted::Fields(n),
-            Step::Refused(answer) => return Counted::Refused(answer),
+    let mut c = opening(t, id, r)?;
+    for n in 0..MAX_FIELDS {
+        match step_at(t, id, r, c)? {
+            Some((_, next)) => c = next,
+            None => return Ok(n),
         }
-        n += 1;
     }
-    Counted::Fields(n)
+    Ok(MAX_FIELDS)
 }

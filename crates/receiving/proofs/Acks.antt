@@ -1,29 +1,24 @@
 -- The DSN minus the first held one plus 1 is computed by two subtractions that wrap; the first law says that the remainders agree. An
--- accepted acknowledgement keeps servers and choice, so what it leaves by parts is what the step leaves. A refused one releases no record
--- and changes nothing.
-use Rattle.std.proofs.Common.{◌≡◌, ℕ, ◌+◌, ◌-◌, ◌%◌, ◌<◌, ◌≤◌, Bool, true, false, cond, ◌&&◌, eqb, List, [], sym, refl, ap, ◌∙◌, append-nil, le_of_lt, add_assoc, mod-eq_of_lt, add-sub_of_le, arith, ltb-false, ne_eqb, eqb-true}
-use mathlib.Core.Bool.{and-true}
+-- accepted acknowledgement keeps servers and choice.
+use Rattle.std.proofs.Common.{◌≡◌, ℕ, ◌+◌, ◌-◌, ◌%◌, ◌<◌, ◌≤◌, Bool, true, false, cond, ◌&&◌, eqb, List, [], sym, refl, ap, ◌∙◌, append-nil, le_of_lt, add_assoc, mod-eq_of_lt, add-sub_of_le, arith, ltb-false, eqb-true}
 use native.Mathlib.Nat.{mod-add-mod, add-mod_right, sub-zero}
 use borrow.Author.Tests.{eqb-false}
-use Rattle.octets.specs.Answers.{judge, done, unsound_state}
+use Rattle.octets.specs.Answers.{judge, judged, refusal_of, done, unsound_state, Answered, answer_number}
+use Rattle.std.specs.Prelude.{Result, Ok, Err}
+use Rattle.numbers.specs.declared.refusal.Refusal.{Refusal}
 use Rattle.octets.proofs.Judging.{passed}
 use Rattle.session.specs.Servers.{chosen, with_counts, acknowledged}
-use Rattle.session.specs.Queue.{octets_to, shifted, drop_front}
+use Rattle.session.specs.Queue.{ring_place, shifted, drop_front}
 use Rattle.session.specs.Sound.{sound}
 use Rattle.wire.specs.Replies.{Encoding}
 use Rattle.session.specs.Steps.{ack_count, ack, checks, answer, after, settled, written, step, wrote_of, output_after, ack_count_by, ack_checks}
-use Rattle.soundness.specs.Parts.{state_of}
-use Rattle.receiving.specs.Requests.{ack_change_of}
-use Rattle.receiving.specs.declared.acknowledge.AckChange.{AckChange}
 use Rattle.session.specs.declared.state.Queue.{Queue}
 use Rattle.session.specs.declared.state.Settings.{Settings}
 use Rattle.session.specs.declared.state.Delivery.{Delivery}
 use Rattle.session.specs.declared.state.State.{State}
 use Rattle.session.specs.declared.state.Wrote.{Wrote}
 use Rattle.session.proofs.SoundFacts.{sound_facts}
-use Rattle.soundness.specs.Parts.{parts_in}
-use Rattle.session.proofs.StepLaws.{settled_same, step_refused, step_done, step_answer_lem}
-use Rattle.session.proofs.Counters.{found_sound, ack_held}
+use Rattle.session.proofs.StepLaws.{settled_same, step_refused, step_done, step_err, answered_ok}
 
 -- ---- numbers that wrap at m
 
@@ -64,37 +59,14 @@ acked_choice p d n e = go (eqb n 0)
     go true = e
     go false = e
 
-acked_counts : (d : Delivery) (n : ℕ)
-    → with_counts d (acknowledged n d).sent (acknowledged n d).reached (acknowledged n d).timer ≡ acknowledged n d
-unfolding acknowledged
-acked_counts d n = go (eqb n 0)
-  where
-    go : (b : Bool) → let g = cond b (with_counts d 0 d.reached d.timer) (with_counts d (d.sent - n) (d.reached - n) 0) in
-        with_counts d g.sent g.reached g.timer ≡ g
-    go true = refl
-    go false = refl
-
--- ---- the answer, and the change
-
--- the state with such a change
-abbrev released_from : State → AckChange → State
-released_from s c =
-    record {
-      settings = s.settings;
-      capacity = s.capacity;
-      delivery = with_counts s.delivery c.sent c.reached c.timer;
-      due = s.due && eqb c.released 0;
-      queue = drop_front s.queue c.released;
-      start = c.start;
-      next = s.next;
-    }
+-- ---- the call
 
 -- a DATA ACK that is not refused names records that the active server was sent
-pub ack_reached : (p : Settings) (d : Delivery) (v config n a : ℕ) → a ≡ judge (ack_checks p d v config n) → a ≡ done → n ≤ d.reached
-ack_reached p d v config n a j e = ltb-false d.reached n (passed (ack_checks p d v config n) tt (sym j ∙ e)).1.1.1.0
+pub ack_reached : (p : Settings) (d : Delivery) (v config n : ℕ) → judge (ack_checks p d v config n) ≡ done → n ≤ d.reached
+ack_reached p d v config n e = ltb-false d.reached n (passed (ack_checks p d v config n) tt e).1.1.1.0
 
 -- how many records a DSN names of a state
-abbrev named_in : ℕ → State → ℕ → ℕ
+abbrev pub named_in : ℕ → State → ℕ → ℕ
 named_in w s dsn = ack_count_by w s.next s.queue.count dsn
 
 module _ (enc : Encoding) (v dsn config : ℕ) (s : State) where
@@ -107,149 +79,75 @@ module _ (enc : Encoding) (v dsn config : ℕ) (s : State) where
   unfolding answer checks ack_count
   ack_judged e = rw e
 
-  pub answered_ack : (a : ℕ) → sound s ≡ true → a ≡ judge (ack_checks s.settings s.delivery v config (named_in enc.width s dsn))
-      → answer enc 0 (ack v dsn config) s [] ≡ a
-  answered_ack a e q = ack_judged e ∙ sym q
+  -- an accepted one was made of a sound state
+  pub ack_sound : answer enc 0 (ack v dsn config) s [] ≡ done → sound s ≡ true
+  ack_sound e = go (sound s) refl
+    where
+      go : (b : Bool) → sound s ≡ b → b ≡ true
+      go true q = refl
+      go false q = let z : ◌≡◌ {A = ℕ} 1 0 = sym (ack_unsound q) ∙ e in absurd (omega (arith, z))
 
-  pub refused_ack : (a : ℕ) (r : AckChange) → (a ≡ done → ⊥) → answer enc 0 (ack v dsn config) s [] ≡ a
-      → r ≡ record {
-        answer = a;
-        released = 0;
-        start = s.start;
-        sent = s.delivery.sent;
-        reached = s.delivery.reached;
-        timer = s.delivery.timer;
-      }
-      → r ≡ ack_change_of (named_in enc.width s dsn) (step enc 0 (ack v dsn config) s [])
-  refused_ack a r h e k = rw (step_refused enc 0 (ack v dsn config) s [] a h e, ne_eqb a done h) k
+  -- and names records that were reached, which are held
+  pub ack_few : answer enc 0 (ack v dsn config) s [] ≡ done
+      → (named_in enc.width s dsn ≤ s.delivery.reached) × ((named_in enc.width s dsn ≤ s.queue.count) × (s.queue.count ≤ 64))
+  ack_few e =
+      let k = ack_sound e in
+      let n = (sound_facts s k).numbers in
+      let r = ack_reached s.settings s.delivery v config (named_in enc.width s dsn) (sym (ack_judged k) ∙ e) in
+      (r, (omega (arith, r, n.reached_held), n.few))
 
   -- the servers stay, and so does the choice
-  pub ack_settled : sound s ≡ true → settled (after enc.width (ack v dsn config) s) ≡ after enc.width (ack v dsn config) s
+  ack_settled : sound s ≡ true → settled (after enc.width (ack v dsn config) s) ≡ after enc.width (ack v dsn config) s
   unfolding after
   ack_settled e =
       settled_same (after enc.width (ack v dsn config) s)
       (acked_choice s.settings s.delivery (ack_count enc.width s dsn) (sound_facts s e).choice)
 
-  pub accepted_ack : (r : AckChange) → sound s ≡ true → answer enc 0 (ack v dsn config) s [] ≡ done
-      → r ≡ record {
-        answer = done;
-        released = named_in enc.width s dsn;
-        start = (s.start + octets_to s.queue (named_in enc.width s dsn)) % s.capacity;
-        sent = (acknowledged (named_in enc.width s dsn) s.delivery).sent;
-        reached = (acknowledged (named_in enc.width s dsn) s.delivery).reached;
-        timer = (acknowledged (named_in enc.width s dsn) s.delivery).timer;
-      }
-      → r ≡ ack_change_of (named_in enc.width s dsn) (step enc 0 (ack v dsn config) s [])
-  unfolding after ack_count
-  accepted_ack r q e k = rw (step_done enc 0 (ack v dsn config) s [] e, ack_settled q) k
-
-  -- an accepted one finds a sound state
-  pub ack_sound : answer enc 0 (ack v dsn config) s [] ≡ done → sound s ≡ true
-  ack_sound e = found_sound enc 0 (ack v dsn config) s [] (step_answer_lem enc 0 (ack v dsn config) s [] ∙ e)
-
--- ---- by parts
-
--- the parts of a state that a DATA ACK looks at
-abbrev ack_parts : State → State
-ack_parts s =
-    state_of s.settings s.capacity s.delivery false s.queue.count s.queue.lengths [] s.queue.receivers s.start
-    s.next
-
--- soundness does not look at the next DSN
-pub ack_sound_parts : (s : State) → sound (parts_in s) ≡ sound (ack_parts s)
-unfolding sound
-ack_sound_parts s = refl
-
-ack_parts_sound : (s : State) → sound (ack_parts s) ≡ sound s
-unfolding sound
-ack_parts_sound s = refl
-
-module _ (enc : Encoding) (v dsn config : ℕ) (s : State) where
-  ack_same : answer enc 0 (ack v dsn config) (ack_parts s) [] ≡ answer enc 0 (ack v dsn config) s []
-  unfolding answer checks ack_count sound
-  ack_same = refl
-
-  -- what is released was held
-  pub released_few : ((ack_change_of (named_in enc.width s dsn) (step enc 0 (ack v dsn config) (ack_parts s) [])).released ≤ s.queue.count)
-      × ((ack_change_of (named_in enc.width s dsn) (step enc 0 (ack v dsn config) (ack_parts s) [])).released ≤ 64)
-  unfolding ack_count
-  released_few = go (eqb (answer enc 0 (ack v dsn config) (ack_parts s) []) done) refl
-    where
-      go : (b : Bool) → eqb (answer enc 0 (ack v dsn config) (ack_parts s) []) done ≡ b
-          → ((ack_change_of (named_in enc.width s dsn) (step enc 0 (ack v dsn config) (ack_parts s) [])).released ≤ s.queue.count)
-          × ((ack_change_of (named_in enc.width s dsn) (step enc 0 (ack v dsn config) (ack_parts s) [])).released ≤ 64)
-      go true q =
-          let e = eqb-true (answer enc 0 (ack v dsn config) (ack_parts s) []) done q in
-          rw (step_done enc 0 (ack v dsn config) (ack_parts s) [] e) (ack_held enc 0 v dsn config (ack_parts s) [] e)
-      go false q =
-          let h = eqb-false (answer enc 0 (ack v dsn config) (ack_parts s) []) done q in
-          rw (step_refused enc 0 (ack v dsn config) (ack_parts s) [] _ h refl, q) (omega arith)
-
-  -- an acknowledgement by parts
-  ack_parts_lem : ◌≡◌ {A = Wrote}
-      (record {
-        answer = (ack_change_of (named_in enc.width s dsn) (step enc 0 (ack v dsn config) (ack_parts s) [])).answer;
-        written = 0;
-        state = released_from s (ack_change_of (named_in enc.width s dsn) (step enc 0 (ack v dsn config) (ack_parts s) []));
-      })
-      (wrote_of (step enc 0 (ack v dsn config) s []))
-  unfolding after written ack_count
-  ack_parts_lem = go (eqb (answer enc 0 (ack v dsn config) s []) done) refl
-    where
-      go : (b : Bool) → eqb (answer enc 0 (ack v dsn config) s []) done ≡ b → ◌≡◌ {A = Wrote}
-          (record {
-            answer = (ack_change_of (named_in enc.width s dsn) (step enc 0 (ack v dsn config) (ack_parts s) [])).answer;
-            written = 0;
-            state = released_from s (ack_change_of (named_in enc.width s dsn) (step enc 0 (ack v dsn config) (ack_parts s) []));
-          })
-          (wrote_of (step enc 0 (ack v dsn config) s []))
-      go true q =
-          let e = eqb-true (answer enc 0 (ack v dsn config) s []) done q in
-          let k = ack_sound enc v dsn config s e in
-          rw (
-            step_done enc 0 (ack v dsn config) (ack_parts s) [] (ack_same ∙ e),
-            step_done enc 0 (ack v dsn config) s [] e,
-            ack_settled enc v dsn config (ack_parts s) (ack_parts_sound s ∙ k),
-            ack_settled enc v dsn config s k,
-            acked_counts s.delivery (named_in enc.width s dsn),
-          )
-      go false q =
-          let h = eqb-false (answer enc 0 (ack v dsn config) s []) done q in
-          rw (
-            step_refused enc 0 (ack v dsn config) (ack_parts s) [] (answer enc 0 (ack v dsn config) s []) h ack_same,
-            step_refused enc 0 (ack v dsn config) s [] (answer enc 0 (ack v dsn config) s []) h refl,
-            q,
-            dropped_none s.queue,
-            and-true s.due,
-          )
-
-  -- the state with such a change: the counters, whether S is due, and the queue, by what was released
-  pub ack_applied : (x : AckChange) (q : Queue) (due : Bool)
-      → x ≡ ack_change_of (named_in enc.width s dsn) (step enc 0 (ack v dsn config) (ack_parts s) [])
-      → q ≡ drop_front s.queue x.released → due ≡ (s.due && eqb x.released 0)
-      → ◌≡◌ {A = Wrote}
-      (record {
-        answer = x.answer;
-        written = 0;
+  -- what it leaves
+  pub ack_done : answer enc 0 (ack v dsn config) s [] ≡ done → {d : Delivery} {q : Queue} {start : ℕ}
+      → d ≡ acknowledged (named_in enc.width s dsn) s.delivery → q ≡ drop_front s.queue (named_in enc.width s dsn)
+      → start ≡ ring_place s.capacity s.start s.queue.lengths (named_in enc.width s dsn)
+      → let o = step enc 0 (ack v dsn config) s [] in
+      Answered answer_number
+      (Ok (record {
         state = record {
           settings = s.settings;
           capacity = s.capacity;
-          delivery = with_counts s.delivery x.sent x.reached x.timer;
-          due = due;
+          delivery = d;
+          due = s.due && eqb (named_in enc.width s dsn) 0;
           queue = q;
-          start = x.start;
+          start = start;
           next = s.next;
         };
-      })
-      (wrote_of (step enc 0 (ack v dsn config) s []))
-  ack_applied x q due e k d = rw (d, k, e) ack_parts_lem
+        written = 0;
+      }))
+      (wrote_of o) o.answer
+  unfolding after written ack_count
+  ack_done e x y z =
+      rw (step_done enc 0 (ack v dsn config) s [] e, ack_settled (ack_sound e)) (answered_ok refl (rw (x, y, z) refl))
+
+  -- a refused one
+  pub ack_refused : {refusal : Refusal} → judged (answer enc 0 (ack v dsn config) s []) (named_in enc.width s dsn) ≡ Err refusal
+      → let o = step enc 0 (ack v dsn config) s [] in Answered answer_number (Err refusal) (wrote_of o) o.answer
+  unfolding checks
+  ack_refused e = step_err enc 0 (ack v dsn config) s [] (named_in enc.width s dsn) _ refl e
+
+-- the value that was answered
+pub named_ok : (n : ℕ) {k found : ℕ} → judged n k ≡ Ok found → k ≡ found
+unfolding judged
+named_ok n {k = k} {found = found} e = go (eqb n done) e
+  where
+    go : (b : Bool) → ◌≡◌ {A = Result ℕ Refusal} (cond b (Ok k) (Err (refusal_of n))) (Ok found) → k ≡ found
+    go true q = cc
+    go false q = let z : ◌≡◌ {A = ℕ} 0 1 = cc in absurd (omega arith)
 
 -- ---- the output
 
 -- a DATA ACK looks at no output and writes none
-pub ack_wrote : (enc : Encoding) (room v dsn config : ℕ) (s : State) (out : List ℕ) (r : Wrote)
-    → r ≡ wrote_of (step enc 0 (ack v dsn config) s [])
-    → (r ≡ wrote_of (step enc room (ack v dsn config) s [])) × (out ≡ output_after out (step enc room (ack v dsn config) s []))
+pub ack_wrote : (enc : Encoding) (room v dsn config : ℕ) (s : State) (out : List ℕ) (r : Result Wrote Refusal)
+    → (let o = step enc 0 (ack v dsn config) s [] in Answered answer_number r (wrote_of o) o.answer)
+    → let o = step enc room (ack v dsn config) s [] in
+    Answered answer_number r (wrote_of o) o.answer × (out ≡ output_after out o)
 unfolding step answer checks written
 ack_wrote enc room v dsn config s out r e = (e, go (eqb (answer enc room (ack v dsn config) s []) done) refl)
   where

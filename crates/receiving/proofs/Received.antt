@@ -1,30 +1,42 @@
 -- Received messages: the call that one makes, by what reading its header, and reading it alone, answer. The form is judged in the order in
 -- which the code reads, so a refusal of the reading is that of `form_answer`.
 use Rattle.std.proofs.Common.{◌≡◌, ℕ, ◌-◌, Bool, true, false, cond, not, ◌||◌, eqb, List, [], ◌∷◌, length, sym, refl, ap, ◌∙◌, subst, arith, eq-eqb, ne_eqb, eqb-true}
-use borrow.Author.Tests.{eqb-false}
-use Rattle.octets.specs.Answers.{Check, ◌when◌, judge, done, other_session, message_not_accepted, body_length_wrong}
+use Rattle.octets.specs.Answers.{Check, ◌when◌, judge, judged, answer_number, refusal_number, refusal_of, done, other_session, message_not_accepted, body_length_wrong}
 use Rattle.octets.proofs.Judging.{judged_first, judged_next}
 use Rattle.wire.specs.Messages.{header_checks, header_answer, header_of, header_answer_for, header_reading_for, header_octets, read_answer, read_of}
 use Rattle.wire.specs.Messages.{session_of, message_number, is_message, body_fits, meaning_of, tmpl_data}
 use Rattle.messages.specs.declared.message.Message.{Message}
 use Rattle.headers.specs.declared.header.Header.{Header}
-use Rattle.headers.specs.declared.header.HeaderReading.TheVariants as header
-use Rattle.messages.specs.declared.message.Reading.TheVariants as reading
+use Rattle.std.specs.Prelude.{Ok, Err}
+use Rattle.numbers.specs.declared.refusal.Refusal.{Refusal}
 use Rattle.wire.proofs.Messages.{header_passed}
+use Rattle.wire.proofs.RoundTrip.{reading_number}
+use Rattle.session.proofs.StepLaws.{refused_number}
 use Rattle.session.specs.Servers.{malformed}
 use Rattle.session.specs.Steps.{move, is_received, form_answer, call_of_message, received}
 use Rattle.receiving.specs.Requests.{call_of_reading}
 use Rattle.session.specs.declared.state.Settings.{Settings}
 
--- ---- what reading a header says
+-- ---- what reading says, by the number that it is judged by
 
-header_told : (b : Bool) (h x : Header) (a : ℕ) → cond b (header.Header x) (header.Refused a) ≡ header.Header h → (b ≡ true) × (x ≡ h)
-header_told true h x a e = (refl, cc)
-header_told false h x a e = let z : ◌≡◌ {A = ℕ} 0 1 = cc in absurd (omega arith)
+value_told : {A : Type 0} (n : ℕ) (x h : A) → judged n x ≡ Ok h → (n ≡ done) × (x ≡ h)
+unfolding judged
+value_told n x h e = go (eqb n done) refl e
+  where
+    go : (b : Bool) → eqb n done ≡ b → cond b (Ok x) (Err (refusal_of n)) ≡ Ok h → (n ≡ done) × (x ≡ h)
+    go true q k = (eqb-true n done q, cc)
+    go false q k = let z : ◌≡◌ {A = ℕ} 0 1 = cc in absurd (omega arith)
 
-refusal_told : (b : Bool) (x : Header) (a k : ℕ) → cond b (header.Header x) (header.Refused a) ≡ header.Refused k → (b ≡ false) × (a ≡ k)
-refusal_told true x a k e = let z : ◌≡◌ {A = ℕ} 0 1 = cc in absurd (omega arith)
-refusal_told false x a k e = (refl, cc)
+-- the call that a reading stands for, by the number that it is judged by
+reading_call : (v n : ℕ) (x : Message) → answer_number (judged n x) ≡ n
+    → call_of_reading v (judged n x) ≡ cond (eqb n done) (call_of_message v x) (move v (malformed n))
+unfolding judged
+reading_call v n x h = go (eqb n done) h
+  where
+    go : (b : Bool) → answer_number (cond b (Ok x) (Err (refusal_of n))) ≡ n
+        → call_of_reading v (cond b (Ok x) (Err (refusal_of n))) ≡ cond b (call_of_message v x) (move v (malformed n))
+    go true k = refl
+    go false k = ap (λ (a : ℕ). move v (malformed a)) k
 
 -- ---- the messages that are accepted
 
@@ -64,12 +76,7 @@ module _ (p : Settings) (v : ℕ) (m : List ℕ) where
   -- one that its form refuses as reading alone does
   by_reading : form_answer p m ≡ read_answer m → call_of_reading v (read_of m) ≡ received p v m
   unfolding received read_of
-  by_reading e = rw e (go (eqb (read_answer m) done) (meaning_of m) (read_answer m))
-    where
-      go : (b : Bool) (x : Message) (a : ℕ)
-          → call_of_reading v (cond b (reading.Message x) (reading.Refused a)) ≡ cond b (call_of_message v x) (move v (malformed a))
-      go true x a = refl
-      go false x a = refl
+  by_reading e = rw e (reading_call v (read_answer m) (meaning_of m) (reading_number m))
 
   -- what is judged behind the header
   abbrev rest : List Check
@@ -79,19 +86,19 @@ module _ (p : Settings) (v : ℕ) (m : List ℕ) where
       ∷ (body_length_wrong when not (body_fits (message_number m) (length m - header_octets)))
       ∷ []
 
-  pub request_refused : (a : ℕ) → header_of m ≡ header.Refused a → move v (malformed a) ≡ received p v m
+  pub request_refused : (r : Refusal) → refusal_number r ≡ header_answer m → header_of m ≡ Err r
+      → move v (malformed (refusal_number r)) ≡ received p v m
   unfolding header_reading_for header_answer_for form_answer
-  request_refused a e =
-      let q = refusal_told (eqb (header_answer m) done) (record { session = session_of m; number = message_number m }) (header_answer m) a e in
-      let h : a ≡ done → ⊥ = λ z. eqb-false (header_answer m) done q.0 (q.1 ∙ z) in
-      by_refusal a h (judged_first (header_checks m) rest (λ z. h (sym q.1 ∙ z)) ∙ q.1)
+  request_refused r n e =
+      let h : header_answer m ≡ done → ⊥ = refused_number (record { session = session_of m; number = message_number m }) e in
+      by_refusal (refusal_number r) (λ z. h (sym n ∙ z)) (judged_first (header_checks m) rest h ∙ sym n)
 
-  module _ (h : Header) (e : header_of m ≡ header.Header h) where
+  module _ (h : Header) (e : header_of m ≡ Ok h) where
     facts : (header_answer m ≡ done) × ((session_of m ≡ h.session) × (message_number m ≡ h.number))
     unfolding header_reading_for
     facts =
-        let q = header_told (eqb (header_answer m) done) h (record { session = session_of m; number = message_number m }) (header_answer m) e in
-        (eqb-true (header_answer m) done q.0, (ap (λ (x : Header). x.session) q.1, ap (λ (x : Header). x.number) q.1))
+        let q = value_told (header_answer m) (record { session = session_of m; number = message_number m }) h e in
+        (q.0, (ap (λ (x : Header). x.session) q.1, ap (λ (x : Header). x.number) q.1))
 
     behind : form_answer p m ≡ judge rest
     unfolding header_answer_for form_answer

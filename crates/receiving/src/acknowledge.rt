@@ -1,34 +1,13 @@
 // DATA ACK: a server acknowledges records, which are released from the front of the queue.
-ghost use Rattle.std.specs.Prelude.{◌≡◌, ◌<◌, ◌≤◌, false, []};
-ghost use Rattle.octets.specs.Answers.{judge, done};
+ghost use Rattle.std.specs.Prelude.{◌≡◌, ◌≤◌, []};
+ghost use Rattle.octets.specs.Answers.{judge, judged, Answered, answer_number};
 ghost use Rattle.session.specs.Limits.{max_held};
 ghost use Rattle.session.specs.Servers.{acknowledged};
 ghost use Rattle.wire.specs.Replies.{crane};
-ghost use Rattle.session.specs.Queue.{ring_place};
-ghost use Rattle.soundness.specs.Parts.{state_of};
-ghost use Rattle.session.specs.Steps.{ack, step, wrote_of, ack_count_by, ack_checks};
-ghost use Rattle.receiving.specs.Requests.{ack_change_of};
+ghost use Rattle.session.specs.Steps.{ack, answer, step, wrote_of, ack_count_by, ack_checks};
 
-use octets::Answer;
-use session::limits::MAX_HELD;
-use session::state::{Active, Delivery, Settings, State, Wrote};
-
-// A DATA ACK's answer, how many records it releases, and what it leaves of the ring's start and of the delivery's counters.
-#[derive(Clone, Copy)]
-pub struct AckChange {
-    // 0, or the number of the refusal
-    pub answer: u8,
-    // how many records are released; 0 after a refusal
-    pub released: usize,
-    // where the first record left begins in the store
-    pub start: usize,
-    // the place of the next record to send
-    pub sent: usize,
-    // how many records were reached
-    pub reached: usize,
-    // the timer's ticks
-    pub timer: u16,
-}
+use octets::Refusal;
+use session::state::{Delivery, Settings, State, Wrote};
 
 // How many records a DATA ACK of this DSN names from the front of the queue. The first held DSN is `count` before the next one; DSNs
 // wrap.
@@ -36,43 +15,40 @@ fn ack_count(next: u32, count: usize, dsn: u32) -> u32
     requires { count ≤ max_held }
     ensures { result ≡ ack_count_by 32 next count dsn }
 {
-    let first = std::num::wrapping_sub_u32(next, count as u32);
-    let place = std::num::wrapping_sub_u32(dsn, first);
-    std::num::wrapping_add_u32(place, 1)
+    let first = next.wrapping_sub(count as u32);
+    let place = dsn.wrapping_sub(first);
+    place.wrapping_add(1)
 }
 
 // A DATA ACK from server v that names n records is judged 2, 9, 10, 11.
-fn ack_answer(p: Settings, d: Delivery, v: u8, config: u8, n: usize) -> u8
-    ensures { result ≡ judge (ack_checks p d v config n) }
+fn check_ack(p: Settings, d: Delivery, v: u8, config: u8, n: usize) -> Result<(), Refusal>
+    ensures { result ≡ judged (judge (ack_checks p d v config n)) tt }
 {
     if p.servers <= v {
-        return Answer::NO_SUCH_SERVER;
+        return Err(Refusal::NoSuchServer);
     }
-    let active = d.active;
-    if !servers::same_active(active, Active::Server(v)) {
-        return Answer::OUT_OF_TURN;
+    if d.active != Some(v) {
+        return Err(Refusal::OutOfTurn);
     }
     if config != p.config {
-        return Answer::OTHER_CONFIGURATION;
+        return Err(Refusal::OtherConfiguration);
     }
     if d.reached < n {
-        return Answer::DSN_NOT_ACKNOWLEDGEABLE;
+        return Err(Refusal::DsnNotAcknowledgeable);
     }
-    Answer::DONE
+    Ok(())
 }
 
-// What a refused DATA ACK changes: nothing.
-fn refuse_ack(answer: u8, d: Delivery, start: usize) -> AckChange
-    ensures { result ≡ record { answer = answer; released = 0; start = start; sent = d.sent; reached = d.reached; timer = d.timer } }
+// How many records a DATA ACK from server v releases. Refused with 1, 2, 9, 10 or 11.
+fn released_by(s: &State, v: u8, dsn: u32, config: u8) -> Result<usize, Refusal>
+    ensures { result ≡ judged (answer crane 0 (ack v dsn config) s.now []) (ack_count_by 32 s.now.next s.now.queue.count dsn) }
 {
-    AckChange {
-        answer,
-        released: 0,
-        start,
-        sent: d.sent,
-        reached: d.reached,
-        timer: d.timer,
+    if !soundness::sound::is_sound(s) {
+        return Err(Refusal::UnsoundState);
     }
+    let n = ack_count(s.next, s.queue.count, dsn) as usize;
+    check_ack(s.settings, s.delivery, v, config, n)?;
+    Ok(n)
 }
 
 // The delivery after a DATA ACK that releases n records.
@@ -85,102 +61,24 @@ fn acknowledge_delivery(d: Delivery, n: usize) -> Delivery
         next.sent = 0;
         return next;
     }
-    next.sent = octets::saturating_sub(d.sent, n);
+    next.sent = d.sent.saturating_sub(n);
     next.reached = d.reached - n;
     next.timer = 0;
     next
 }
 
-// What a DATA ACK changes that releases n records: their octets are free. The servers stay, and so does the choice.
-fn accept_ack(
-    capacity: usize,
-    d: Delivery,
-    lengths: &[u16; MAX_HELD],
-    start: usize,
-    n: usize,
-) -> AckChange
-    requires { (n ≤ d.reached) × (start < capacity) }
-    ensures { result ≡ record {
-      answer = done;
-      released = n;
-      start = ring_place capacity start lengths.now n;
-      sent = (acknowledged n d).sent;
-      reached = (acknowledged n d).reached;
-      timer = (acknowledged n d).timer;
-    } }
+// A DATA ACK from server v, which releases the records that it names: their octets are free. The servers stay, and so does the choice.
+// Refused with 1, 2, 9, 10 or 11.
+pub(crate) fn acknowledge(mut s: State, v: u8, dsn: u32, config: u8) -> Result<Wrote, Refusal>
+    ensures { let o = step crane 0 (ack v dsn config) s [] in Answered answer_number result (wrote_of o) o.answer }
 {
-    let moved = acknowledge_delivery(d, n);
-    AckChange {
-        answer: Answer::DONE,
-        released: n,
-        start: queue::record_start(capacity, start, lengths, n),
-        sent: moved.sent,
-        reached: moved.reached,
-        timer: moved.timer,
-    }
-}
-
-// What a DATA ACK changes, by the parts of a state that it looks at.
-fn ack_change<'a>(
-    p: Settings,
-    capacity: usize,
-    d: Delivery,
-    count: usize,
-    lengths: &'a [u16; MAX_HELD],
-    receivers: &'a [u16; MAX_HELD],
-    start: usize,
-    next: u32,
-    v: u8,
-    dsn: u32,
-    config: u8,
-) -> AckChange
-    ensures { let s = state_of p capacity d false count lengths.now [] receivers.now start next in
-        result ≡ ack_change_of (ack_count_by 32 next count dsn) (step crane 0 (ack v dsn config) s []) }
-{
-    if !soundness::sound::parts_sound(p, capacity, d, count, lengths, receivers, start) {
-        return refuse_ack(Answer::UNSOUND_STATE, d, start);
-    }
-    let n = ack_count(next, count, dsn) as usize;
-    let answer = ack_answer(p, d, v, config, n);
-    if answer != Answer::DONE {
-        return refuse_ack(answer, d, start);
-    }
-    accept_ack(capacity, d, lengths, start, n)
-}
-
-// A DATA ACK from server v. Refused with 1, 2, 9, 10 or 11.
-pub(crate) fn acknowledge(s: State, v: u8, dsn: u32, config: u8) -> Wrote
-    ensures { result ≡ wrote_of (step crane 0 (ack v dsn config) s []) }
-{
-    let p = s.settings;
-    let d = s.delivery;
-    let lengths = s.queue.lengths;
-    let receivers = s.queue.receivers;
-    let change = ack_change(
-        p,
-        s.capacity,
-        d,
-        s.queue.count,
-        &lengths,
-        &receivers,
-        s.start,
-        s.next,
-        v,
-        dsn,
-        config,
-    );
-    let queue = crate::release::queue_after(s.queue, change.released);
-    let due = s.due & (change.released == 0);
-    let mut state = s;
-    state.delivery.sent = change.sent;
-    state.delivery.reached = change.reached;
-    state.delivery.timer = change.timer;
-    state.due = due;
-    state.queue = queue;
-    state.start = change.start;
-    Wrote {
-        answer: change.answer,
+    let n = released_by(&s, v, dsn, config)?;
+    s.start = queue::record_start(s.capacity, s.start, &s.queue.lengths, n);
+    s.delivery = acknowledge_delivery(s.delivery, n);
+    s.due = s.due & (n == 0);
+    crate::release::release(&mut s.queue, n);
+    Ok(Wrote {
+        state: s,
         written: 0,
-        state,
-    }
+    })
 }

@@ -4,11 +4,10 @@ ghost use Rattle.wire.specs.Messages.{read_of};
 ghost use Rattle.session.specs.Steps.{is_received, call_of_message, received};
 ghost use Rattle.receiving.specs.Requests.{call_of_request, call_of_reading};
 
-use octets::Answer;
+use octets::Refusal;
 use session::state::Settings;
 use transitions::transition::Move;
-use wire::header::HeaderReading;
-use wire::message::{Message, Reading};
+use wire::message::Message;
 
 // A DATA ACK with its DSN and Configuration ID, or a transition.
 #[derive(Clone, Copy)]
@@ -17,12 +16,11 @@ pub enum Request {
     Move(Move),
 }
 
-// A message that moves nothing, by the number of its refusal.
-fn refuse_message(answer: u8) -> Request
-    ensures { result ≡ Request.Move (Move.Malformed answer) }
+// A message that moves nothing, by its refusal.
+fn refuse_message(refusal: Refusal) -> Request
+    ensures { result ≡ Request.Move (Move.Malformed refusal) }
 {
-    let m = Move::Malformed(answer);
-    Request::Move(m)
+    Request::Move(Move::Malformed(refusal))
 }
 
 // Whether an exporter accepts the messages with this number.
@@ -45,14 +43,14 @@ fn decode_message(message: Message) -> Request
         Message::StartAck {
             session: _,
             boot_time: _,
-        } => refuse_message(Answer::MESSAGE_NOT_ACCEPTED),
+        } => refuse_message(Refusal::MessageNotAccepted),
         Message::Stop { session: _ } => Request::Move(Move::Stop),
-        Message::StopAck { session: _ } => refuse_message(Answer::MESSAGE_NOT_ACCEPTED),
-        Message::TmplData { session: _ } => refuse_message(Answer::MESSAGE_NOT_ACCEPTED),
+        Message::StopAck { session: _ } => refuse_message(Refusal::MessageNotAccepted),
+        Message::TmplData { session: _ } => refuse_message(Refusal::MessageNotAccepted),
         Message::FinalTmplDataAck { session: _, config } => Request::Move(Move::Agree(config)),
         Message::StartNegotiate { session: _ } => Request::Move(Move::Negotiate),
-        Message::StartNegotiateAck { session: _ } => refuse_message(Answer::MESSAGE_NOT_ACCEPTED),
-        Message::Data(_) => refuse_message(Answer::MESSAGE_NOT_ACCEPTED),
+        Message::StartNegotiateAck { session: _ } => refuse_message(Refusal::MessageNotAccepted),
+        Message::Data(_) => refuse_message(Refusal::MessageNotAccepted),
         Message::DataAck {
             session: _,
             dsn,
@@ -67,8 +65,8 @@ fn decode_body(message: &[u8]) -> Request
 {
     let reading = wire::read::read_message(message);
     match reading {
-        Reading::Message(m) => decode_message(m),
-        Reading::Refused(a) => refuse_message(a),
+        Ok(m) => decode_message(m),
+        Err(refusal) => refuse_message(refusal),
     }
 }
 
@@ -78,15 +76,15 @@ pub(crate) fn decode(p: Settings, message: &[u8]) -> Request
 {
     let header = wire::read::read_header(message);
     match header {
-        HeaderReading::Header(h) => {
+        Ok(h) => {
             if h.session != p.session {
-                return refuse_message(Answer::OTHER_SESSION);
+                return refuse_message(Refusal::OtherSession);
             }
             if !is_received(h.number) {
-                return refuse_message(Answer::MESSAGE_NOT_ACCEPTED);
+                return refuse_message(Refusal::MessageNotAccepted);
             }
             decode_body(message)
         }
-        HeaderReading::Refused(a) => refuse_message(a),
+        Err(refusal) => refuse_message(refusal),
     }
 }

@@ -6,59 +6,28 @@ ghost use Rattle.session.specs.Queue.{shifted, drop_front};
 use session::limits::MAX_HELD;
 use session::state::Queue;
 
-// The entries from n on, moved to the front, with 0 in those that this frees.
-fn shift(entries: &[u16; MAX_HELD], n: usize) -> [u16; MAX_HELD]
+// The entries from n on, moved to the front, with 0 in those that this frees. One by one: with `copy_from_slice` no proof was found.
+fn shift(entries: [u16; MAX_HELD], n: usize) -> [u16; MAX_HELD]
     requires { n ≤ max_held }
-    ensures { result ≡ shifted entries.now n }
+    ensures { result ≡ shifted entries n }
 {
-    let part = &entries[..];
     let mut moved = [0u16; MAX_HELD];
-    let end = MAX_HELD - n;
-    let mut i: usize = 0;
-    while i < end {
-        moved[i] = part[n + i];
-        i += 1;
+    for i in 0..MAX_HELD - n {
+        moved[i] = entries[n + i];
     }
     moved
 }
 
-// The queue without its first n records.
-fn release_queue<'a>(
-    count: usize,
-    lengths: &'a [u16; MAX_HELD],
-    templates: &'a [u16; MAX_HELD],
-    receivers: &'a [u16; MAX_HELD],
-    n: usize,
-) -> Queue
-    requires { (n ≤ count) × (n ≤ max_held) }
-    ensures { result ≡ drop_front (record {
-      count = count;
-      lengths = lengths.now;
-      templates = templates.now;
-      receivers = receivers.now;
-    }) n }
-{
-    let moved_lengths = shift(lengths, n);
-    let moved_templates = shift(templates, n);
-    let moved_receivers = shift(receivers, n);
-    Queue {
-        count: count - n,
-        lengths: moved_lengths,
-        templates: moved_templates,
-        receivers: moved_receivers,
-    }
-}
-
-// The queue without its first n records; the same one where none is released.
-pub(crate) fn queue_after(q: Queue, n: usize) -> Queue
-    requires { (n ≤ q.count) × (n ≤ max_held) }
-    ensures { result ≡ drop_front q n }
+// Takes the first n records out of the queue; where none is released it stays as it is.
+pub(crate) fn release(q: &mut Queue, n: usize)
+    requires { (n ≤ q.old.count) × (n ≤ max_held) }
+    ensures { q.new ≡ drop_front q.old n }
 {
     if n == 0 {
-        return q;
+        return;
     }
-    let lengths = q.lengths;
-    let templates = q.templates;
-    let receivers = q.receivers;
-    release_queue(q.count, &lengths, &templates, &receivers, n)
+    q.count -= n;
+    q.lengths = shift(q.lengths, n);
+    q.templates = shift(q.templates, n);
+    q.receivers = shift(q.receivers, n);
 }

@@ -11,7 +11,8 @@ use borrow.Author.Tests.{le-ltb, lt-ltb, leb-true, leb-false}
 use lib.Dec.{eqb, leb, ltb}
 use lib.IntN.{pos, neg_ℤ, sub_ℕ}
 use lib.ListN.{get_or}
-use Rattle.octets.specs.Answers.{done, record_invalid, Answered}
+use Rattle.std.specs.Prelude.{Ok, Err, Some, None}
+use Rattle.octets.specs.Answers.{done, answer_number, refusal_of, Answered}
 use Rattle.octets.specs.Numbers.{place_in, uint_in, Octets}
 use Rattle.numbers.specs.declared.OctetOrder.{OctetOrder}
 use Rattle.numbers.specs.declared.OctetOrder.TheVariants.{BigEndian, LittleEndian}
@@ -23,11 +24,11 @@ use Rattle.tables.specs.Table.{table_order, key_at, key_type, template_of, find_
 use Rattle.tables.specs.declared.table.Template.{Template}
 use Rattle.records.specs.Record.{field_length}
 use Rattle.records.specs.Walk.{signed_at, value_at, integer_of, twos_complement_at, integer_at, field_of, next_key, step_under, step_judged}
-use Rattle.records.specs.Walk.{step_of, step_answer, Exact}
+use Rattle.records.specs.Walk.{step_of, Exact}
 use Rattle.records.specs.declared.walk.Value.TheVariants as value
 use Rattle.records.specs.declared.walk.Cursor.{Cursor}
-use Rattle.records.specs.declared.walk.Step.{Step}
-use Rattle.records.specs.declared.walk.Step.TheVariants as step
+use Rattle.records.specs.Step.{Step}
+use Rattle.numbers.specs.declared.refusal.Refusal.TheVariants.{RecordInvalid}
 use Rattle.records.proofs.WalkLaws.{step_number}
 
 -- minus k is a difference of which the second is larger by k
@@ -131,10 +132,10 @@ step_exact t id r c octet =
     go : (found last missing : Bool) → integer_of (value_at order type r c.at) ≡ integer_at order type r c.at
         → Exact t r
         (cond found
-        (cond last step.End
-        (cond missing (step.Refused record_invalid)
-        (step.Next (field_of order type r c.at) (record { index = k + 1; at = c.at + field_length order type r c.at }))))
-        (step.Refused (find_answer t id)))
+        (cond last (Ok None)
+        (cond missing (Err RecordInvalid)
+        (Ok (Some (field_of order type r c.at, record { index = k + 1; at = c.at + field_length order type r c.at })))))
+        (Err (refusal_of (find_answer t id))))
     go false last missing e = tt
     go true true missing e = tt
     go true false true e = tt
@@ -142,7 +143,7 @@ step_exact t id r c octet =
 
 -- What is promised of a step, from its equation: its number is the one that it is judged by, and its value is exact.
 pub stepped : (t : List ℕ) (id : ℕ) (r : List ℕ) (c : Cursor) (s : Step) → Octets r → s ≡ step_of t id r c
-    → Answered step_answer s (step_of t id r c) (step_judged t id r c) × Exact t r s
+    → Answered answer_number s (step_of t id r c) (step_judged t id r c) × Exact t r s
 stepped t id r c s octet e = (answered (step_number t id r c) e, rw e (step_exact t id r c octet))
 
 -- where no number is read, the octets hold no integer, whatever they are

@@ -1,8 +1,9 @@
 -- Going through a record field by field (01, "Template table"; 02, ask 6).
-use Rattle.std.specs.Prelude.{ℕ, zero, suc, ◌+◌, ◌-◌, ◌*◌, ◌^◌, ◌≡◌, Bool, cond, not, ◌&&◌, List, [], ◌∷◌, ◌++◌, map, eqb, leb, ltb, ℤ, pos, neg_ℤ, get_or, take, drop}
+use Rattle.std.specs.Prelude.{ℕ, zero, suc, ◌+◌, ◌-◌, ◌*◌, ◌^◌, ◌≡◌, Bool, cond, not, ◌&&◌, List, [], ◌∷◌, ◌++◌, map, eqb, leb}
 use Rattle.std.proofs.Math.Option.{Option, none, some}
 use Rattle.std.proofs.Math.IntN.{sub_ℕ}
-use Rattle.octets.specs.Answers.{◌when◌, judge, done, record_invalid}
+use Rattle.std.specs.Prelude.{ltb, ℤ, pos, neg_ℤ, get_or, take, drop, Result, Ok, Err, Some, None}
+use Rattle.octets.specs.Answers.{◌when◌, judge, judged, done, record_invalid, refusal_number, refusal_of}
 use Rattle.octets.specs.Numbers.{place_in, uint_in}
 use Rattle.octets.specs.Each.{first_from}
 use Rattle.numbers.specs.declared.OctetOrder.{OctetOrder}
@@ -14,10 +15,9 @@ use Rattle.records.specs.declared.walk.Value.{Value}
 use Rattle.records.specs.declared.walk.Value.TheVariants.{Octets, Number, Negative}
 use Rattle.records.specs.declared.walk.Field.{Field}
 use Rattle.records.specs.declared.walk.Cursor.{Cursor}
-use Rattle.records.specs.declared.walk.Opened.{Opened}
-use Rattle.records.specs.declared.walk.Opened.TheVariants as opened
-use Rattle.records.specs.declared.walk.Step.{Step}
-use Rattle.records.specs.declared.walk.Step.TheVariants as step
+use Rattle.records.specs.Step.{Step}
+use Rattle.numbers.specs.declared.refusal.Refusal.{Refusal}
+use Rattle.numbers.specs.declared.refusal.Refusal.TheVariants.{RecordInvalid}
 
 -- `Number n` is n and `Negative n` is minus n. In two's complement, u in w octets is u where it lies below half of 256 to the w, and
 -- otherwise minus what it lacks of 256 to the w.
@@ -69,9 +69,9 @@ unfoldable pub step_under : List ℕ → Template → List ℕ → Cursor → St
 step_under t m r c =
     let k = next_key t m c.index in
     let field = field_of (table_order t) (key_type t (key_at m.keys k)) r c.at in
-    cond (leb m.count k) step.End
-    (cond (eqb field.len 0) (step.Refused record_invalid)
-    (step.Next field (record { index = k + 1; at = c.at + field.len })))
+    cond (leb m.count k) (Ok None)
+    (cond (eqb field.len 0) (Err RecordInvalid)
+    (Ok (Some (field, record { index = k + 1; at = c.at + field.len }))))
 
 -- An enabled key is left, and no valid field of its type begins where the cursor stands.
 abbrev pub field_missing : List ℕ → Template → List ℕ → Cursor → Bool
@@ -86,42 +86,31 @@ step_judged t id r c = judge (template_checks t id ++ ((record_invalid when fiel
 -- It answers what the step under the template does, or the refusal.
 unfoldable pub step_of : List ℕ → ℕ → List ℕ → Cursor → Step
 step_of t id r c =
-    cond (eqb (find_answer t id) done) (step_under t (template_of t id) r c) (step.Refused (find_answer t id))
+    cond (eqb (find_answer t id) done) (step_under t (template_of t id) r c) (Err (refusal_of (find_answer t id)))
 
 -- Before the first key, at the first octet.
 abbrev pub walk_start : Cursor
 walk_start = record { index = 0; at = 0 }
 
 -- Opening is judged over the whole record, 21, 15, 16.
-unfoldable pub open_of : List ℕ → ℕ → List ℕ → Opened
-open_of t id r = cond (eqb (record_answer t id r) done) (opened.At walk_start) (opened.Refused (record_answer t id r))
+unfoldable pub open_of : List ℕ → ℕ → List ℕ → Result Cursor Refusal
+open_of t id r = judged (record_answer t id r) walk_start
 
 -- A step from where an opening stands: a walk whose opening was refused answers that refusal at every step.
-unfoldable pub step_from : List ℕ → ℕ → List ℕ → Opened → Step
-step_from t id r (opened.At c) = step_of t id r c
-step_from t id r (opened.Refused a) = step.Refused a
+unfoldable pub step_from : List ℕ → ℕ → List ℕ → Result Cursor Refusal → Step
+step_from t id r (Ok c) = step_of t id r c
+step_from t id r (Err refusal) = Err refusal
 
 -- Its number: that of the step at a cursor, or the refusal's again.
-abbrev pub step_from_judged : List ℕ → ℕ → List ℕ → Opened → ℕ
-step_from_judged t id r (opened.At c) = step_judged t id r c
-step_from_judged t id r (opened.Refused a) = a
+abbrev pub step_from_judged : List ℕ → ℕ → List ℕ → Result Cursor Refusal → ℕ
+step_from_judged t id r (Ok c) = step_judged t id r c
+step_from_judged t id r (Err refusal) = refusal_number refusal
 
 -- The value of a field that a step under a table answers stands for the integer in the field's octets; the end and a refusal have no value.
 abbrev pub Exact : List ℕ → List ℕ → Step → Type 0
-Exact t r (step.Next f c) = integer_of f.value ≡ integer_at (table_order t) f.kind r f.at
-Exact t r step.End = Unit {0}
-Exact t r (step.Refused a) = Unit {0}
-
--- The answer number of an opening: 0, or the refusal's.
-abbrev pub open_answer : Opened → ℕ
-open_answer (opened.At c) = done
-open_answer (opened.Refused a) = a
-
--- The answer number of a step: 0 for a field and for the end, or the refusal's.
-abbrev pub step_answer : Step → ℕ
-step_answer (step.Next f c) = done
-step_answer step.End = done
-step_answer (step.Refused a) = a
+Exact t r (Ok (Some (f, c))) = integer_of f.value ≡ integer_at (table_order t) f.kind r f.at
+Exact t r (Ok None) = Unit {0}
+Exact t r (Err refusal) = Unit {0}
 
 -- ---- the enabled keys
 
@@ -138,9 +127,9 @@ enabled_keys t m = enabled_from t m 0 m.count
 
 -- What follows a step: where it answered a field and a cursor, what `next` makes of them, and otherwise `stop`.
 abbrev pub after_step : {A : Type 0} → (Field → Cursor → A) → A → Step → A
-after_step next stop (step.Next f c) = next f c
-after_step next stop step.End = stop
-after_step next stop (step.Refused a) = stop
+after_step next stop (Ok (Some (f, c))) = next f c
+after_step next stop (Ok None) = stop
+after_step next stop (Err refusal) = stop
 
 -- The fields that at most n steps from a cursor visit, up to the first answer that is no field.
 unfoldable pub visited : (Cursor → Step) → ℕ → Cursor → List Field

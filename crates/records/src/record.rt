@@ -1,24 +1,26 @@
 // Records: the length of a field, and whether octets are a valid record under a template.
 ghost use Rattle.std.specs.Prelude.{◌≡◌, ◌+◌, ◌-◌, ◌*◌, ◌≤◌, ◌<◌, eqb, length, get_or};
+ghost use Rattle.octets.specs.Answers.{Answered, answer_number, judged};
 ghost use Rattle.octets.specs.Each.{first_from};
-ghost use Rattle.tables.specs.Table.{key_octets, key_at, is_enabled};
+ghost use Rattle.tables.specs.Table.{key_octets, key_at, key_type, is_enabled};
 ghost use Rattle.field_types.specs.FieldTypes.{width_of};
 ghost use Rattle.records.specs.Record.{fixed_length, blob_length, string_length, terminated_length, field_length, length_under};
 ghost use Rattle.records.specs.Record.{record_valid, record_answer};
 
 use field_types::field_type::FieldType;
-use octets::{Answer, OctetOrder};
-use tables::table::{FLAGS_AT, Found, KEY_ATTRIBUTES_AT, KEY_OCTETS, KEY_TYPE_AT, Template};
+use octets::{OctetOrder, Refusal};
+use tables::table::{FLAGS_AT, KEY_ATTRIBUTES_AT, KEY_OCTETS, KEY_TYPE_AT, Template};
 
 // The octets of the 32-bit length in front of a string or blob.
 pub const LENGTH_OCTETS: usize = 4;
 
-// The length of the field of a type of a fixed width at a place, 0 where none is valid there.
+// The length of the field of a type of a fixed width at a place, 0 where none is valid there. Here and below 0 and no `Option`: no field
+// has the length 0, and the definitions say it so.
 fn fixed_length(kind: u16, width: usize, r: &[u8], at: usize) -> usize
     requires { (width ≡ width_of kind) × (0 < width) }
     ensures { result ≡ fixed_length kind r.now at }
 {
-    if octets::saturating_sub(r.len(), at) < width {
+    if r.len().saturating_sub(at) < width {
         return 0;
     }
     if kind != FieldType::BOOLEAN {
@@ -34,11 +36,11 @@ fn fixed_length(kind: u16, width: usize, r: &[u8], at: usize) -> usize
 fn blob_length(order: OctetOrder, r: &[u8], at: usize) -> usize
     ensures { result ≡ blob_length order r.now at }
 {
-    if octets::saturating_sub(r.len(), at) < LENGTH_OCTETS {
+    if r.len().saturating_sub(at) < LENGTH_OCTETS {
         return 0;
     }
     let n = crate::within::u32_in(order, r, at) as usize;
-    if octets::saturating_sub(r.len(), at + LENGTH_OCTETS) < n {
+    if r.len().saturating_sub(at + LENGTH_OCTETS) < n {
         return 0;
     }
     LENGTH_OCTETS + n
@@ -62,14 +64,12 @@ fn string_length(order: OctetOrder, r: &[u8], at: usize) -> usize
 fn first_zero(r: &[u8], at: usize) -> usize
     ensures { result ≡ first_from at (length r.now - at) (λ p. eqb (get_or r.now p 0) 0) }
 {
-    let mut p = at;
-    while p < r.len() {
+    for p in at..r.len() {
         if r[p] == 0 {
             return p;
         }
-        p += 1;
     }
-    p
+    at.max(r.len())
 }
 
 // The length of the null terminated string at a place, 0 where none is valid there.
@@ -116,7 +116,17 @@ pub(crate) fn is_enabled(t: &[u8], m: Template, k: usize) -> bool
     requires { m.keys + key_octets * k + key_octets ≤ length t.now }
     ensures { result ≡ is_enabled t.now (key_at m.keys k) }
 {
-    crate::within::u32_at(t, m.keys + KEY_OCTETS * k + KEY_ATTRIBUTES_AT) == 0
+    let at = m.keys + KEY_OCTETS * k + KEY_ATTRIBUTES_AT;
+    octets::u32_of(t[at], t[at + 1], t[at + 2], t[at + 3]) == 0
+}
+
+// The number of the type of key k of a template.
+pub(crate) fn kind_of(t: &[u8], m: Template, k: usize) -> u16
+    requires { m.keys + key_octets * k + key_octets ≤ length t.now }
+    ensures { result ≡ key_type t.now (key_at m.keys k) }
+{
+    let at = m.keys + KEY_OCTETS * k + KEY_TYPE_AT;
+    octets::u16_of(t[at], t[at + 1])
 }
 
 // The length of key k's field at a place of a record; 0 for a disabled key, and where none is valid there.
@@ -126,7 +136,7 @@ fn length_under(t: &[u8], m: Template, r: &[u8], k: usize, at: usize) -> usize
 {
     // As in `field_length`, written out here: every field of every record that is judged comes this way.
     if is_enabled(t, m, k) {
-        let kind = crate::within::u16_at(t, m.keys + KEY_OCTETS * k + KEY_TYPE_AT);
+        let kind = kind_of(t, m, k);
         let width = FieldType { number: kind }.width() as usize;
         if 0 < width {
             return fixed_length(kind, width, r, at);
@@ -141,33 +151,27 @@ fn fields_valid(t: &[u8], m: Template, r: &[u8]) -> bool
     requires { m.keys + key_octets * m.count ≤ length t.now }
     ensures { result ≡ record_valid t.now m r.now }
 {
-    let count = m.count;
     let mut at: usize = 0;
-    let mut k: usize = 0;
-    while k < count {
+    for k in 0..m.count {
         let n = length_under(t, m, r, k, at);
         if is_enabled(t, m, k) & (n == 0) {
             return false;
         }
         at += n;
-        k += 1;
     }
     at == r.len()
 }
 
-// 0 for a valid record under the template with an ID, 21 for an unsound table, 15 for an ID that it does not have, 16 for a record that is
-// not valid under it.
-pub fn record_answer(t: &[u8], id: u16, r: &[u8]) -> u8
-    ensures { result ≡ record_answer t.now id r.now }
+// Whether a record is valid under the template with an ID: 21 for an unsound table, 15 for an ID that it does not have, 16 for a record
+// that is not valid under it. Table, ID and record are three parameters here and in the walk, as C hands them over.
+pub fn check_record(t: &[u8], id: u16, r: &[u8]) -> Result<(), Refusal>
+    ensures { Answered answer_number result (judged (record_answer t.now id r.now) tt)
+        (record_answer t.now id r.now) }
 {
     // `&t[..]` lends the table anew: to pass the parameter on would copy it first.
-    match tables::table::find_template(&t[..], id) {
-        Found::At(m) => {
-            if fields_valid(t, m, r) {
-                return Answer::DONE;
-            }
-            Answer::RECORD_INVALID
-        }
-        Found::Refused(answer) => answer,
+    let template = tables::table::find_template(&t[..], id)?;
+    if !fields_valid(t, template, r) {
+        return Err(Refusal::RecordInvalid);
     }
+    Ok(())
 }

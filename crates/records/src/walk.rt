@@ -1,17 +1,17 @@
 // The field walk: the fields of a borrowed record, one by one, by a cursor that is passed by value.
 ghost use Rattle.std.specs.Prelude.{◌≡◌, ◌+◌, ◌-◌, ◌*◌, ◌≤◌, length};
-ghost use Rattle.octets.specs.Answers.{Answered};
+ghost use Rattle.octets.specs.Answers.{Answered, answer_number};
 ghost use Rattle.tables.specs.Table.{key_octets};
 ghost use Rattle.records.specs.Record.{record_answer};
-ghost use Rattle.records.specs.Walk.{signed_at, value_at, next_key, step_under, step_judged, step_of, step_from, step_from_judged, step_answer};
-ghost use Rattle.records.specs.Walk.{Exact, open_of, open_answer};
+ghost use Rattle.records.specs.Walk.{signed_at, value_at, next_key, step_under, step_judged, step_of, step_from, step_from_judged};
+ghost use Rattle.records.specs.Walk.{Exact, open_of};
 
 use field_types::field_type::FieldType;
-use octets::{Answer, OctetOrder};
-use tables::table::{Found, Template};
+use octets::{OctetOrder, Refusal};
+use tables::table::Template;
 
 // The value of a field: octets where it is no number, a number, or a number below 0 by its size.
-#[derive(Clone, Copy)]
+#[derive(Clone, Copy, Debug, PartialEq, Eq)]
 pub enum Value {
     Octets,
     Number(u64),
@@ -19,7 +19,7 @@ pub enum Value {
 }
 
 // A field of a record: the number of its type, the place of its first octet, how many octets it has with its length or zero, its value.
-#[derive(Clone, Copy)]
+#[derive(Clone, Copy, Debug, PartialEq, Eq)]
 pub struct Field {
     pub kind: u16,
     pub at: usize,
@@ -28,25 +28,10 @@ pub struct Field {
 }
 
 // Where a walk stands: the next key of the template, and the place in the record where the next field begins.
-#[derive(Clone, Copy)]
+#[derive(Clone, Copy, Debug, PartialEq, Eq)]
 pub struct Cursor {
     pub index: usize,
     pub at: usize,
-}
-
-// What opening a walk answers.
-#[derive(Clone, Copy)]
-pub enum Opened {
-    At(Cursor),
-    Refused(u8),
-}
-
-// What a step answers.
-#[derive(Clone, Copy)]
-pub enum Step {
-    Next(Field, Cursor),
-    End,
-    Refused(u8),
 }
 
 // The two's complement number in the w octets at a place, in an order.
@@ -83,83 +68,78 @@ fn next_key(t: &[u8], m: Template, index: usize) -> usize
     requires { m.keys + key_octets * m.count ≤ length t.now }
     ensures { result ≡ next_key t.now m index }
 {
-    let count = m.count;
-    let mut k = index;
-    while k < count {
+    for k in index..m.count {
         if crate::record::is_enabled(t, m, k) {
             return k;
         }
-        k += 1;
     }
-    k
+    index.max(m.count)
 }
 
 // A step under a template.
-fn step_under(t: &[u8], m: Template, r: &[u8], c: Cursor) -> Step
+fn step_under(
+    t: &[u8],
+    m: Template,
+    r: &[u8],
+    c: Cursor,
+) -> Result<Option<(Field, Cursor)>, Refusal>
     requires { m.keys + key_octets * m.count ≤ length t.now }
     ensures { result ≡ step_under t.now m r.now c }
 {
     let at = c.at;
     let k = next_key(t, m, c.index);
     if m.count <= k {
-        return Step::End;
+        return Ok(None);
     }
-    let kind = crate::within::u16_at(
-        t,
-        m.keys + tables::table::KEY_OCTETS * k + tables::table::KEY_TYPE_AT,
-    );
+    let kind = crate::record::kind_of(t, m, k);
     let order = tables::table::order_of(t[tables::table::FLAGS_AT]);
     let len = crate::record::field_length(order, kind, r, at);
     if len == 0 {
-        return Step::Refused(Answer::RECORD_INVALID);
+        return Err(Refusal::RecordInvalid);
     }
     let value = value_at(order, kind, r, at);
-    Step::Next(
-        Field {
-            kind,
-            at,
-            len,
-            value,
-        },
-        Cursor {
-            index: k + 1,
-            at: at + len,
-        },
-    )
+    let field = Field {
+        kind,
+        at,
+        len,
+        value,
+    };
+    let next = Cursor {
+        index: k + 1,
+        at: at + len,
+    };
+    Ok(Some((field, next)))
 }
 
 // Opens a walk over a record under the template with an ID: 21, 15 or 16 as for the whole record, or the walk's start.
-pub fn open_walk(t: &[u8], id: u16, r: &[u8]) -> Opened
-    ensures { Answered open_answer result (open_of t.now id r.now)
+pub fn open_walk(t: &[u8], id: u16, r: &[u8]) -> Result<Cursor, Refusal>
+    ensures { Answered answer_number result (open_of t.now id r.now)
         (record_answer t.now id r.now) }
 {
     // Both are lent anew, since to pass parameters on would copy them first.
-    let answer = crate::record::record_answer(&t[..], id, &r[..]);
-    if answer == Answer::DONE {
-        return Opened::At(Cursor { index: 0, at: 0 });
-    }
-    Opened::Refused(answer)
+    crate::record::check_record(&t[..], id, &r[..])?;
+    Ok(Cursor { index: 0, at: 0 })
 }
 
-// The field at a cursor and the cursor after it; the end where no enabled key is left; 21, 15, or 16 for a field that is not valid.
-pub fn step_walk(t: &[u8], id: u16, r: &[u8], c: Cursor) -> Step
-    ensures { Answered step_answer result (step_of t.now id r.now c)
+// The field at a cursor and the cursor after it; none where no enabled key is left; 21, 15, or 16 for a field that is not valid.
+pub fn step_walk(t: &[u8], id: u16, r: &[u8], c: Cursor) -> Result<Option<(Field, Cursor)>, Refusal>
+    ensures { Answered answer_number result (step_of t.now id r.now c)
         (step_judged t.now id r.now c) × Exact t.now r.now result }
 {
     // `&t[..]` lends the table anew: to pass the parameter on would copy it first.
-    match tables::table::find_template(&t[..], id) {
-        Found::At(m) => step_under(t, m, r, c),
-        Found::Refused(answer) => Step::Refused(answer),
-    }
+    let template = tables::table::find_template(&t[..], id)?;
+    step_under(t, template, r, c)
 }
 
 // A step from where an opening stands; the refusal again where it was refused.
-pub fn step_from(t: &[u8], id: u16, r: &[u8], place: Opened) -> Step
-    ensures { Answered step_answer result (step_from t.now id r.now place)
+pub fn step_from(
+    t: &[u8],
+    id: u16,
+    r: &[u8],
+    place: Result<Cursor, Refusal>,
+) -> Result<Option<(Field, Cursor)>, Refusal>
+    ensures { Answered answer_number result (step_from t.now id r.now place)
         (step_from_judged t.now id r.now place) × Exact t.now r.now result }
 {
-    match place {
-        Opened::At(c) => step_walk(t, id, r, c),
-        Opened::Refused(answer) => Step::Refused(answer),
-    }
+    step_walk(t, id, r, place?)
 }

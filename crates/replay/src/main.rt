@@ -29,12 +29,9 @@ fn replay(rt: &impl Print, tape: &[u8], store: &mut [u8]) -> io::Result<()>
     let mut text = [0u8; LINE_OCTETS];
     let mut turn = tape::replay::open_tape(tape, store, &mut text);
     print(rt, &text, turn.len)?;
-    let mut turns = turn.progress.left;
-    while 0 < turns {
-        let progress = turn.progress;
-        turn = tape::replay::take_event(progress, tape, store, &mut out, &mut text);
+    for _ in 0..turn.progress.left {
+        turn = tape::replay::take_event(turn.progress, tape, store, &mut out, &mut text);
         print(rt, &text, turn.len)?;
-        turns -= 1;
     }
     Ok(())
 }
@@ -48,7 +45,7 @@ fn lend(rt: &impl Print, tape: &[u8], store: &mut [u8]) -> io::Result<()>
 }
 
 // Reads until the input ends or a buffer is full, and gives how many octets it put at the buffer's start. A read that fails, also one that
-// a signal interrupts, ends it with that error.
+// a signal interrupts, ends it with that error. A `while`, since how much a read gives is not known before.
 fn read_full<R: Read>(input: &mut R, buffer: &mut [u8]) -> io::Result<usize>
     ensures within { IfOk result (λ n. n ≤ length buffer.new) }
     ensures octets { IfOk result (λ n. Consumes (R.remaining input.old) (R.remaining input.new)

@@ -1,35 +1,31 @@
 -- A batch, message by message: how far it is between two turns, that a message more takes it one further, and that it is the whole where it
 -- ends. What a single call's step is comes from `Sends`.
-use Rattle.std.proofs.Common.{◌≡◌, ℕ, zero, suc, ◌+◌, ◌-◌, ◌%◌, ◌<◌, ◌≤◌, max, Bool, true, false, cond, not, ◌&&◌, ◌||◌, eqb, ltb, leb, List, [], ◌∷◌, ◌++◌, length, get_or, take, drop, set, sym, refl, ap, ◌∙◌, append_assoc, append-nil, add-zero, add_assoc, mod-lt, zero-add, arith, length-append, length-drop, length-set, take-append-drop, drop_of_length-le, length-take-le, drop-drop, take_at, drop_at, ltb-false, lt-ltb, eq-eqb, ne_eqb, eqb-true, le-leb}
+use Rattle.std.proofs.Common.{◌≡◌, ℕ, zero, suc, ◌+◌, ◌-◌, ◌%◌, ◌<◌, ◌≤◌, true, false, not, ◌&&◌, eqb, List, [], ◌∷◌, ◌++◌, length, get_or, take, drop, sym, refl, ap, ◌∙◌, subst, append_assoc, append-nil, add-zero, add_assoc, mod-lt, zero-add, arith, length-append, length-drop, length-set, take-append-drop, drop_of_length-le, length-take-le, drop-drop, take_at, drop_at, eq-eqb, ne_eqb, le-leb}
 use native.Mathlib.Nat.{mod-add-mod}
-use native.Mathlib.Decide.{ℕ_discrete}
-use borrow.Author.Tests.{not-true, eqb-false}
-use Rattle.octets.specs.Answers.{◌when◌, judge, done, unsound_state, output_too_short, nothing_to_send}
+use Rattle.octets.specs.Answers.{◌when◌, judge, judged, refusal_of, answer_number, done, unsound_state, output_too_short, nothing_to_send}
+use Rattle.octets.proofs.Judging.{judged_number}
+use Rattle.batches.proofs.Batches.{batch_numbered}
 use Rattle.octets.proofs.Stores.{sets_first}
-use Rattle.wire.specs.Messages.{Placed, layout_of}
+use Rattle.wire.specs.Messages.{Placed}
 use Rattle.wire.specs.Replies.{crane}
-use Rattle.messages.specs.declared.message.DataHead.{DataHead}
-use Rattle.messages.specs.declared.message.Message.TheVariants.{Data}
-use Rattle.messages.specs.declared.message.Written.{Written}
-use Rattle.messages.specs.declared.message.Written.TheVariants.{Octets, Refused}
+use Rattle.std.specs.Prelude.{Result, Ok, Err}
+use Rattle.numbers.specs.declared.refusal.Refusal.{Refusal}
 use Rattle.session.specs.Servers.{is_nobody}
-use Rattle.session.specs.Queue.{sum_of, ring_read, marked_set}
+use Rattle.session.specs.Queue.{sum_of, marked}
 use Rattle.session.specs.Sound.{sound}
-use Rattle.session.specs.Steps.{head_of, next_data, answer, checks, Outcome, step, octets_written, output_after}
+use Rattle.session.specs.Steps.{next_data, answer, checks, after, Outcome, step, octets_written, output_after}
 use Rattle.batches.specs.Batches.{BatchOutcome, batch, batch_of, output_after_batch}
 use Rattle.session.specs.declared.state.State.{State}
 use Rattle.session.specs.declared.state.Batch.{Batch}
-use Rattle.session.specs.declared.state.Wrote.{Wrote}
-use Rattle.sending.specs.Sendings.{SendFacts, with_sendings, Sent}
-use Rattle.sending.specs.declared.batch.Batching.{Batching}
-use Rattle.sending.proofs.Sends.{send_answer, send_refused, octets_next, head_parts, next_octets, sent_octets, sending_done, short_output, sent_applied}
+use Rattle.sending.specs.Sendings.{SendFacts}
+use Rattle.sending.proofs.Sends.{early_checks, send_refused, octets_next, sent_done, short_output}
 use Rattle.queue.specs.Rings.{record_start}
 use Rattle.queue.proofs.Rings.{start_inside}
 use Rattle.session.proofs.Arrays.{sum_more}
 use Rattle.session.proofs.SoundFacts.{sound_facts}
 use Rattle.session.proofs.SoundKept.{Sized, kept_sound}
-use Rattle.session.proofs.StepLaws.{step_refused}
-use Rattle.soundness.proofs.Parts.{parts_of}
+use Rattle.session.proofs.StepLaws.{step_refused, step_answer_lem, refused_number}
+use Rattle.session.specs.Servers.{sent_one}
 use Rattle.session.proofs.Written.{octets_fit_lem}
 
 -- ---- single turns
@@ -72,65 +68,26 @@ nothing_left room s store l h =
 
 -- ---- a batch that sends nothing
 
--- at a given number of 0 only an unsound state or store is refused
-none_asked_lem : (room : ℕ) (s : State) (store : List ℕ) (a : ℕ) → a ≡ send_answer s store
-    → batch 0 room s store ≡ record { answer = cond (eqb a unsound_state) unsound_state done; count = 0; state = s; octets = [] }
+-- no message is asked for: only an unsound state or store is refused
+pub none_asked : (s : State) (store out : List ℕ) {found : Result (Unit {0}) Refusal}
+    → found ≡ judged (judge ((unsound_state when not (sound s && eqb (length store) s.capacity)) ∷ [])) (tt {0})
+    → let b = batch 0 (length out) s store in
+    (◌≡◌ {A = Batch} (record { state = s; answer = found; count = 0; written = 0 }) (batch_of b)) × (out ≡ output_after_batch out b)
 unfolding batch
-none_asked_lem room s store a e = go (sound s && eqb (length store) s.capacity) refl (is_nobody s.delivery.active) (leb s.queue.count s.delivery.sent) refl refl
-  where
-    go : (b : Bool) → (sound s && eqb (length store) s.capacity) ≡ b → (x y : Bool) → is_nobody s.delivery.active ≡ x
-        → leb s.queue.count s.delivery.sent ≡ y
-        → ◌≡◌ {A = BatchOutcome}
-        (record { answer = judge ((unsound_state when not (sound s && eqb (length store) s.capacity)) ∷ []); count = 0; state = s; octets = [] })
-        (record { answer = cond (eqb a unsound_state) unsound_state done; count = 0; state = s; octets = [] })
-    go false q x y h i = let k : a ≡ 1 = e ∙ rw (parts_of s, q) refl in rw (q, k) refl
-    go true q true y h i = let k : a ≡ 13 = e ∙ rw (parts_of s, q, h) refl in rw (q, k) refl
-    go true q false true h i = let k : a ≡ 14 = e ∙ rw (parts_of s, q, h, i) refl in rw (q, k) refl
-    go true q false false h i = let k : a ≡ 0 = e ∙ rw (parts_of s, q, h, i) refl in rw (q, k) refl
+none_asked s store out e = (rw e refl, refl)
 
--- no message is asked for, or the first call is refused before the output is looked at
-pub none_sent : (n : ℕ) (s : State) (store out : List ℕ) (a : ℕ) → a ≡ send_answer s store → (eqb n 0 || not (eqb a done)) ≡ true
-    → batch n (length out) s store
-    ≡ record { answer = cond (eqb n 0) (cond (eqb a unsound_state) unsound_state done) a; count = 0; state = s; octets = [] }
-none_sent n s store out a e h = go (ℕ_discrete n 0)
+-- the first call is refused before the output is looked at
+pub none_sent : (n : ℕ) (s : State) (store out : List ℕ) {found : Result (Unit {0}) Refusal} {refusal : Refusal} → (n ≡ 0 → ⊥)
+    → found ≡ judged (judge (early_checks s store)) (tt {0}) → found ≡ Err refusal
+    → let b = batch n (length out) s store in
+    (◌≡◌ {A = Batch} (record { state = s; answer = found; count = 0; written = 0 }) (batch_of b)) × (out ≡ output_after_batch out b)
+none_sent n s store out h e k =
+    let d = refused_number (tt {0}) (sym e ∙ k) in
+    let q = batch_stopped n (length out) s store _ (some_of h) d (sym (send_refused s store out d)) in
+    (rw (q, e) refl, rw q refl)
   where
-    go : Dec (n ≡ 0) → batch n (length out) s store
-        ≡ record { answer = cond (eqb n 0) (cond (eqb a unsound_state) unsound_state done) a; count = 0; state = s; octets = [] }
-    go (yes z) = rw z (none_asked_lem (length out) s store a e)
-    go (no z) =
-        let f : eqb n 0 ≡ false = ne_eqb n 0 z in
-        let d : a ≡ done → ⊥ = eqb-false a done (not-true (eqb a done) (sym (ap (λ (b : Bool). b || not (eqb a done)) f) ∙ h)) in
-        rw f (batch_stopped n (length out) s store a (some_of z) d (sym (e ∙ send_refused s store out (λ y. d (e ∙ y)))))
-      where
-        some_of : (n ≡ 0 → ⊥) → 0 < n
-        some_of y = omega (arith, y)
-
--- else the call is not refused before the output is looked at
-pub asked : (n a : ℕ) → (eqb n 0 || not (eqb a done)) ≡ false → a ≡ done
-asked n a h = go (eqb n 0) (eqb a done) refl h
-  where
-    go : (x y : Bool) → eqb a done ≡ y → (x || not y) ≡ false → a ≡ done
-    go true y e k = let z : ◌≡◌ {A = ℕ} 0 1 = cc in absurd (omega arith)
-    go false true e k = eqb-true a done e
-    go false false e k = let z : ◌≡◌ {A = ℕ} 0 1 = cc in absurd (omega arith)
-
--- so that it hands back the state and the output as they came
-pub unsent : (n : ℕ) (s : State) (store out : List ℕ) (a e : ℕ) (r : Batching) → e ≡ send_answer s store
-    → (eqb n 0 || not (eqb e done)) ≡ true → a ≡ cond (eqb n 0) (cond (eqb e unsound_state) unsound_state done) e
-    → r ≡ record { answer = a; count = 0; written = 0; sent = s.delivery.sent; reached = s.delivery.reached }
-    → let b = batch n (length out) s store in Sent s b r s.queue.receivers × (out ≡ output_after_batch out b)
-unsent n s store out a e r j h k m =
-    let q = none_sent n s store out e j h in (
-      record {
-        answered = ap (λ (x : Batching). x.answer) m ∙ k ∙ sym (ap (λ (b : BatchOutcome). b.answer) q);
-        counted = ap (λ (x : Batching). x.count) m ∙ sym (ap (λ (b : BatchOutcome). b.count) q);
-        written = ap (λ (x : Batching). x.written) m ∙ sym (ap (λ (b : BatchOutcome). length b.octets) q);
-        left =
-            ap (λ (x : Batching). with_sendings s x.sent x.reached s.queue.receivers) m
-            ∙ sym (ap (λ (b : BatchOutcome). b.state) q);
-      },
-      sym (ap (output_after_batch out) q),
-    )
+    some_of : (n ≡ 0 → ⊥) → 0 < n
+    some_of y = omega (arith, y)
 
 -- ---- between two turns
 
@@ -250,20 +207,12 @@ module _ (n : ℕ) (out₀ store : List ℕ) (s₀ : State) where
         ∙ take-append-drop written out)
 
     -- and it hands back what it should
-    pub under_sent : (r : Batching) (a sent reached : ℕ) (receivers : List ℕ) → batch n (length out₀) s₀ store ≡ ended a
-        → r ≡ record { answer = a; count = n - left; written = written; sent = sent; reached = reached }
-        → with_sendings s₀ sent reached receivers ≡ s → Sent s₀ (batch n (length out₀) s₀ store) r receivers
-    under_sent r a sent reached receivers e k f =
-        record {
-          answered = ap (λ (x : Batching). x.answer) k ∙ sym (ap (λ (b : BatchOutcome). b.answer) e);
-          counted = ap (λ (x : Batching). x.count) k ∙ sym (ap (λ (b : BatchOutcome). b.count) e);
-          written =
-              ap (λ (x : Batching). x.written) k ∙ sym (length-take-le written out u.inside)
-              ∙ sym (ap (λ (b : BatchOutcome). length b.octets) e);
-          left =
-              ap (λ (x : Batching). with_sendings s₀ x.sent x.reached receivers) k ∙ f
-              ∙ sym (ap (λ (b : BatchOutcome). b.state) e);
-        }
+    pub under_sent : (a : ℕ) → batch n (length out₀) s₀ store ≡ ended a
+        → ◌≡◌ {A = Batch} (record { state = s; answer = judged a (tt {0}); count = n - left; written = written })
+        (batch_of (batch n (length out₀) s₀ store))
+    under_sent a e =
+        ap (λ (i : ℕ). record { state = s; answer = judged a (tt {0}); count = n - left; written = i }) (sym (length-take-le written out u.inside))
+        ∙ sym (ap batch_of e)
 
 -- what a part of the output is put back to
 pub part_back : (a : ℕ) (xs ys : List ℕ) → take a xs ++ (ys ++ drop (length xs - a) (drop a xs)) ≡ take a xs ++ ys
@@ -271,40 +220,20 @@ part_back a xs ys =
     ap (λ (l : List ℕ). take a xs ++ (ys ++ l)) (drop_of_length-le (drop a xs) {i = length xs - a} (omega (arith, length-drop a xs)))
     ∙ ap (λ (l : List ℕ). take a xs ++ l) (append-nil ys)
 
--- ---- a turn
-
-module _ (s : State) (store part after' octets : List ℕ) (r : Written) (f : SendFacts s store) (o : octets ≡ octets_next s store)
-    (p : Placed octets part r after') where
-  -- the message was written: so is the single call's
-  pub turn_done : (m : ℕ) → r ≡ Octets m
-      → let x = step crane (length part) next_data s store in
-      let i = s.delivery.sent in
-      (x.answer ≡ done)
-      × ((m ≡ length (octets_written x))
-      × ((with_sendings s (i + 1) (max s.delivery.reached (i + 1))
-      (set s.queue.receivers i (marked_set s.delivery.active (get_or s.queue.receivers i 0))) ≡ x.state)
-      × (after' ≡ output_after part x)))
-  turn_done m e =
-      let d = sending_done s store part after' octets r m (sent_octets s m) f o e p refl in
-      let w = sent_applied s store part (sent_octets s m) d.0 in (
-        sym (ap (λ (x : Wrote). x.answer) w),
-        (ap (λ (x : Wrote). x.written) w, (ap (λ (x : Wrote). x.state) w, d.1)),
-      )
-
-  -- it was not: the single call is refused, and the output stays
-  pub turn_refused : (a : ℕ) → r ≡ Refused a
-      → (a ≡ output_too_short) × ((answer crane (length part) next_data s store ≡ a) × (after' ≡ part))
-  turn_refused a e = short_output s store part after' octets r a f o e p
-
 -- ---- the loop
 
--- Between two turns: the batch is under way, the state is live and differs in what was sent alone, and the next record begins at a place.
+-- Between two turns: the batch is under way, the state is live, and the next record begins at a place.
 pub record Turned (n : ℕ) (out₀ store : List ℕ) (s₀ : State) (left written : ℕ) (s : State) (out : List ℕ) (at : ℕ) : Type 0 where
   pub under : Under n out₀ store s₀ left written s out
   pub live : Live s store
   pub sized : Sized s.queue
-  pub same : with_sendings s₀ s.delivery.sent s.delivery.reached s.queue.receivers ≡ s
   pub place : at ≡ record_start s.capacity s.start s.queue.lengths s.delivery.sent
+
+-- by another number that is the same
+pub turned_by : {n : ℕ} {out₀ store : List ℕ} {s₀ : State} {left rest written : ℕ} {s : State} {out : List ℕ} {at : ℕ} → left ≡ rest
+    → Turned n out₀ store s₀ left written s out at → Turned n out₀ store s₀ rest written s out at
+turned_by {n = n} {out₀ = out₀} {store = store} {s₀ = s₀} {written = written} {s = s} {out = out} {at = at} e t =
+    subst (λ (k : ℕ). Turned n out₀ store s₀ k written s out at) e t
 
 -- before the first turn
 pub turned_first : (n : ℕ) (out store : List ℕ) (s : State) (at : ℕ) → SendFacts s store → Sized s.queue
@@ -314,46 +243,33 @@ turned_first n out store s at f z e =
       under = under_first n out store s;
       live = record { is_sound = f.is_sound; stored = f.stored; some = f.some };
       sized = z;
-      same = refl;
       place = e;
     }
 
 module _ (n : ℕ) (out₀ store : List ℕ) (s₀ : State) (left written : ℕ) (s : State) (out : List ℕ) (at : ℕ)
     (t : Turned n out₀ store s₀ left written s out at) where
   -- what is handed back where it ends, and the output
-  abbrev Ended : ℕ → Batching → List ℕ → Type 0
-  Ended a r out' =
-      r ≡ record { answer = a; count = n - left; written = written; sent = s.delivery.sent; reached = s.delivery.reached }
-      → let b = batch n (length out₀) s₀ store in Sent s₀ b r s.queue.receivers × (out' ≡ output_after_batch out₀ b)
+  abbrev Ended : ℕ → List ℕ → Type 0
+  Ended a out' =
+      let b = batch n (length out₀) s₀ store in
+      (◌≡◌ {A = Batch} (record { state = s; answer = judged a (tt {0}); count = n - left; written = written }) (batch_of b))
+      × (out' ≡ output_after_batch out₀ b)
 
-  ended_with : (a : ℕ) (r : Batching) (out' : List ℕ) → batch n (length out₀) s₀ store ≡ ended n out₀ store s₀ left written s out t.under a
-      → out' ≡ out → Ended a r out'
-  ended_with a r out' e o k =
+  ended_with : (a : ℕ) (out' : List ℕ) → batch n (length out₀) s₀ store ≡ ended n out₀ store s₀ left written s out t.under a
+      → out' ≡ out → Ended a out'
+  ended_with a out' e o =
       let u = t.under in (
-        under_sent n out₀ store s₀ left written s out u r a _ _ _ e k t.same,
+        under_sent n out₀ store s₀ left written s out u a e,
         o ∙ under_output n out₀ store s₀ left written s out u a e,
       )
 
-  -- no message is left, or no record
-  pub turned_ended : (a : ℕ) (r : Batching) → (ltb 0 left && ltb s.delivery.sent s.queue.count) ≡ false
-      → a ≡ cond (eqb left 0) done nothing_to_send → Ended a r out
-  turned_ended a r h e = go (ℕ_discrete left 0)
-    where
-      go : Dec (left ≡ 0) → Ended a r out
-      go (yes z) =
-          let q : a ≡ done = e ∙ ap (λ (b : Bool). cond b done nothing_to_send) (eq-eqb left 0 z) in
-          ended_with a r out (under_number n out₀ store s₀ left written s out t.under z t.live
-          ∙ ap (ended n out₀ store s₀ left written s out t.under) (sym q)) refl
-      go (no z) =
-          let q : a ≡ nothing_to_send = e ∙ ap (λ (b : Bool). cond b done nothing_to_send) (ne_eqb left 0 z) in
-          let some : 0 < left = pos_of_ne z in
-          let m : s.queue.count ≤ s.delivery.sent =
-          ltb-false s.delivery.sent s.queue.count (sym (ap (λ (b : Bool). b && ltb s.delivery.sent s.queue.count) (lt-ltb 0 left some)) ∙ h) in
-          ended_with a r out (under_nothing n out₀ store s₀ left written s out t.under some t.live m
-          ∙ ap (ended n out₀ store s₀ left written s out t.under) (sym q)) refl
-        where
-          pos_of_ne : (left ≡ 0 → ⊥) → 0 < left
-          pos_of_ne y = omega (arith, y)
+  -- no message is left
+  pub turned_ended : left ≡ 0 → Ended done out
+  turned_ended z = ended_with done out (under_number n out₀ store s₀ left written s out t.under z t.live) refl
+
+  -- no record is left
+  pub turned_nothing : 0 < left → s.queue.count ≤ s.delivery.sent → Ended nothing_to_send out
+  turned_nothing h m = ended_with nothing_to_send out (under_nothing n out₀ store s₀ left written s out t.under h t.live m) refl
 
   module _ (more : s.delivery.sent < s.queue.count) where
     pub turned_facts : SendFacts s store
@@ -367,94 +283,88 @@ module _ (n : ℕ) (out₀ store : List ℕ) (s₀ : State) (left written : ℕ)
         let l = mod-lt (s.start + sum_of (take s.delivery.sent s.queue.lengths)) {m = s.capacity} (omega (arith, f)) in
         omega (arith, e, l)
 
-    module _ (head : DataHead) (len : ℕ) (r : Written) (part part' : List ℕ) (pp : part ≡ drop written out)
-        (hh : head ≡ head_of 32 (head_parts s)) (ll : len ≡ get_or s.queue.lengths s.delivery.sent 0)
-        (p : Placed (layout_of (Data head) (ring_read (length store) store at len)) part r part') where
-      turned_octets : layout_of (Data head) (ring_read (length store) store at len) ≡ octets_next s store
-      turned_octets =
-          ap (λ (i : ℕ). layout_of (Data head) (ring_read (length store) store at i)) ll
-          ∙ next_octets s store head (length store) at hh t.live.stored t.place
-          (sound_facts s t.live.is_sound).numbers.inside
-
+    module _ (r : Result ℕ Refusal) (part part' : List ℕ) (pp : part ≡ drop written out) (p : Placed (octets_next s store) part r part') where
       -- the single call's outcome
       abbrev call : Outcome
       call = step crane (length (drop written out)) next_data s store
 
       -- the message was written
-      turned_done : (k : ℕ) → r ≡ Octets k
-          → let i = s.delivery.sent in
-          (call.answer ≡ done)
+      turned_done : (k : ℕ) → r ≡ Ok k
+          → (call.answer ≡ done)
           × ((k ≡ length (octets_written call))
-          × ((with_sendings s (i + 1) (max s.delivery.reached (i + 1))
-          (set s.queue.receivers i (marked_set s.delivery.active (get_or s.queue.receivers i 0))) ≡ call.state)
-          × (part' ≡ output_after (drop written out) call)))
-      turned_done k e = turn_done s store (drop written out) part' _ r turned_facts turned_octets (rw pp at p) k e
+          × ((after 32 next_data s ≡ call.state) × (part' ≡ output_after (drop written out) call)))
+      turned_done k e =
+          let d = sent_done s store (drop written out) part' r k turned_facts (rw pp at p) e in
+          (step_answer_lem crane (length (drop written out)) next_data s store ∙ d.0, d.1)
 
       -- so it fits the rest of the output
-      pub turned_fits : (k : ℕ) → r ≡ Octets k → written + k ≤ length out
+      pub turned_fits : (k : ℕ) → r ≡ Ok k → written + k ≤ length out
       turned_fits k e =
           let d = turned_done k e in
           let f = octets_fit_lem (length (drop written out)) next_data s store in
           omega (arith, d.1.0, f, length-drop written out, t.under.inside)
 
       -- a turn more
-      pub turned_more : (k : ℕ) (out' : List ℕ) (set' reached' at' : ℕ) → 0 < left → r ≡ Octets k → out' ≡ take written out ++ part'
-          → set' ≡ marked_set s.delivery.active (get_or s.queue.receivers s.delivery.sent 0)
-          → reached' ≡ max s.delivery.reached (s.delivery.sent + 1)
-          → at' ≡ (at + len) % s.capacity
-          → Turned n out₀ store s₀ (left - 1) (written + k)
-          (with_sendings s (s.delivery.sent + 1) reached' (set s.queue.receivers s.delivery.sent set')) out' at'
-      turned_more k out' set' reached' at' some e oo ss rr aa =
-          let i = s.delivery.sent in
+      pub turned_more : (k : ℕ) (out' : List ℕ) (s' : State) (at' : ℕ) → 0 < left → r ≡ Ok k → out' ≡ take written out ++ part'
+          → s' ≡ after 32 next_data s → at' ≡ (at + get_or s.queue.lengths s.delivery.sent 0) % s'.capacity
+          → Turned n out₀ store s₀ (left - 1) (written + k) s' out' at'
+      unfolding after sent_one marked
+      turned_more k out' s' at' some e oo ss aa =
           let d = turned_done k e in
-          let s' : State = with_sendings s (i + 1) reached' (set s.queue.receivers i set') in
-          let q : s' ≡ call.state =
-          ap (λ (j : ℕ). with_sendings s (i + 1) j (set s.queue.receivers i set')) rr
-          ∙ ap (λ (j : ℕ). with_sendings s (i + 1) (max s.delivery.reached (i + 1)) (set s.queue.receivers i j)) ss
-          ∙ d.1.1.0 in
-          let known : sound s' ≡ true =
-          ap sound q ∙ kept_sound crane (length (drop written out)) next_data s store t.sized t.live.is_sound in
+          let known : sound (after 32 next_data s) ≡ true =
+          ap sound d.1.1.0 ∙ kept_sound crane (length (drop written out)) next_data s store t.sized t.live.is_sound in
+          let u =
+          under_more n out₀ store s₀ left written s out t.under k out' s' some d.0 d.1.0 (ss ∙ d.1.1.0)
+          (oo ∙ ap (λ (l : List ℕ). take written out ++ l) d.1.1.1) in
           record {
-            under =
-                under_more n out₀ store s₀ left written s out t.under k out' s' some d.0 d.1.0 q
-                (oo ∙ ap (λ (l : List ℕ). take written out ++ l) d.1.1.1);
-            live = record { is_sound = known; stored = t.live.stored; some = t.live.some };
-            sized = record {
-              lengths = t.sized.lengths;
-              templates = t.sized.templates;
-              receivers = length-set s.queue.receivers i set' ∙ t.sized.receivers;
-            };
-            same = ap (λ (z : State). with_sendings z (i + 1) reached' (set s.queue.receivers i set')) t.same;
-            place = aa ∙ next_start;
+            under = u;
+            live = rw ss (record { is_sound = known; stored = t.live.stored; some = t.live.some });
+            sized = rw ss
+                (record {
+                  lengths = t.sized.lengths;
+                  templates = t.sized.templates;
+                  receivers = length-set s.queue.receivers s.delivery.sent _ ∙ t.sized.receivers;
+                });
+            place = rw ss (rw ss at aa ∙ next_start);
           }
         where
-          next_start : (at + len) % s.capacity ≡ record_start s.capacity s.start s.queue.lengths (s.delivery.sent + 1)
+          next_start : (at + get_or s.queue.lengths s.delivery.sent 0) % s.capacity
+              ≡ record_start s.capacity s.start s.queue.lengths (s.delivery.sent + 1)
           next_start =
               let f = (sound_facts s t.live.is_sound).numbers in
               let xs = s.queue.lengths in
               let i = s.delivery.sent in
+              let len = get_or xs i 0 in
               ap (λ (j : ℕ). (j + len) % s.capacity) (t.place ∙ start_inside s.capacity s.start xs i f.inside)
               ∙ mod-add-mod (s.start + sum_of (take i xs)) s.capacity len
               ∙ ap (λ (j : ℕ). j % s.capacity)
               (add_assoc s.start (sum_of (take i xs)) len
-              ∙ ap (λ (j : ℕ). s.start + (sum_of (take i xs) + j)) ll
               ∙ ap (λ (j : ℕ). s.start + j) (sym (sum_more xs i (omega (arith, more, f.few, t.sized.lengths)))))
               ∙ sym (start_inside s.capacity s.start xs (i + 1) f.inside)
 
       -- the message does not fit
-      pub turned_refused : (a : ℕ) (res : Batching) (out' : List ℕ) → 0 < left → r ≡ Refused a → out' ≡ take written out ++ part'
-          → Ended a res out'
-      turned_refused a res out' some e oo =
-          let d = turn_refused s store (drop written out) part' _ r turned_facts turned_octets (rw pp at p) a e in
-          ended_with a res out'
-          (under_stopped n out₀ store s₀ left written s out t.under a some (λ z. absurd (omega (arith, z, d.0))) d.1.0)
-          (oo ∙ ap (λ (l : List ℕ). take written out ++ l) d.1.1 ∙ take-append-drop written out)
+      pub turned_refused : (a : Refusal) (out' : List ℕ) → 0 < left → r ≡ Err a → out' ≡ take written out ++ part'
+          → let b = batch n (length out₀) s₀ store in
+          (◌≡◌ {A = Batch} (record { state = s; answer = Err a; count = n - left; written = written }) (batch_of b))
+          × (out' ≡ output_after_batch out₀ b)
+      unfolding judged refusal_of
+      turned_refused a out' some e oo =
+          let d = short_output s store (drop written out) part' r a turned_facts (rw pp at p) e in
+          let k =
+          ended_with output_too_short out'
+          (under_stopped n out₀ store s₀ left written s out t.under output_too_short some (λ z. absurd (omega (arith, z))) d.1.0)
+          (oo ∙ ap (λ (l : List ℕ). take written out ++ l) d.1.1 ∙ take-append-drop written out) in
+          (rw d.0 k.0, k.1)
 
--- ---- the call
+-- what is handed back, by a count that is the same
+pub counted_as : (s : State) (answer : Result (Unit {0}) Refusal) (written i j : ℕ) {b : Batch} → i ≡ j
+    → (◌≡◌ {A = Batch} (record { state = s; answer = answer; count = j; written = written }) b)
+    → ◌≡◌ {A = Batch} (record { state = s; answer = answer; count = i; written = written }) b
+counted_as s answer written i j e k = ap (λ (n : ℕ). record { state = s; answer = answer; count = n; written = written }) e ∙ k
 
--- what is stored into the state is what the batch leaves
-pub batch_applied : (s : State) (b : BatchOutcome) (r : Batching) (receivers : List ℕ) → Sent s b r receivers
-    → ◌≡◌ {A = Batch}
-    (record { answer = r.answer; count = r.count; written = r.written; state = with_sendings s r.sent r.reached receivers })
-    (batch_of b)
-batch_applied s b r receivers k = rw (k.answered, k.counted, k.written, k.left) refl
+-- the number of what a batch answers is the number that it stopped with
+pub with_number : (n room : ℕ) (s : State) (store : List ℕ) {x : Batch} {O : Type 0} → (x ≡ batch_of (batch n room s store)) × O
+    → (x ≡ batch_of (batch n room s store)) × ((answer_number x.answer ≡ (batch n room s store).answer) × O)
+with_number n room s store e =
+    let number = judged_number (batch n room s store).answer (tt {0}) (batch_numbered n room s store) in
+    (e.0, (ap (λ (b : Batch). answer_number b.answer) e.0 ∙ number, e.1))

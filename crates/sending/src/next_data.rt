@@ -1,67 +1,45 @@
 // Sending the next record of the queue.
-ghost use Rattle.std.specs.Prelude.{◌≡◌, ◌+◌, ◌^◌, ◌<◌, ◌≤◌, max, false, not, ◌&&◌, [], ◌∷◌, length, ◌==◌, slice_index};
-ghost use Rattle.octets.specs.Answers.{◌when◌, judge, done, unsound_state};
+ghost use Rattle.std.specs.Prelude.{◌≡◌, ◌^◌, ◌<◌, ◌≤◌, not, ◌&&◌, [], ◌∷◌, length, ◌==◌, slice_index};
+ghost use Rattle.octets.specs.Answers.{◌when◌, judge, judged, Answered, answer_number, unsound_state};
 ghost use Rattle.wire.specs.Messages.{max_record_octets, Placed, layout_of};
+ghost use Rattle.wire.specs.Replies.{layout};
 ghost use Rattle.messages.specs.declared.message.Message.TheVariants.{Data};
 ghost use Rattle.session.specs.Limits.{max_servers, max_held};
 ghost use Rattle.session.specs.Queue.{marked_set, ring_read};
 ghost use Rattle.session.specs.Sound.{sound};
-ghost use Rattle.sending.specs.Sendings.{SendFacts, sending_of};
-ghost use Rattle.soundness.specs.Parts.{Below, state_of};
-ghost use Rattle.session.specs.Steps.{dsn_at_by, is_first, is_duplicate, head_of, send_checks, next_data_step, wrote_of, output_after};
+ghost use Rattle.queue.specs.Rings.{record_start};
+ghost use Rattle.sending.specs.Sendings.{SendFacts};
+ghost use Rattle.soundness.specs.Parts.{Below};
+ghost use Rattle.session.specs.Steps.{dsn_at_by, is_first, is_duplicate, head_of, send_checks, next_data, written, after};
+ghost use Rattle.session.specs.Steps.{next_data_step, wrote_of, output_after};
 
-use octets::Answer;
-use session::limits::MAX_HELD;
-use session::state::{Active, Delivery, Queue, Settings, State, Wrote};
-use wire::message::{DataHead, Written};
+use octets::Refusal;
+use session::state::{Settings, State, Wrote};
+use wire::message::DataHead;
 
-// A sending's answer, how many octets it wrote, the place of its record with the set of servers that this was sent to, and what it leaves
-// of the delivery's counters.
-#[derive(Clone, Copy)]
-pub struct Sending {
-    // 0, or the number of the refusal
-    pub answer: u8,
-    // how many octets were written
-    pub written: usize,
-    // which entry of the sets is stored, below 64; 0 after a refusal
-    pub place: usize,
-    // the set of servers that stands there
-    pub set: u16,
-    // the place of the next record to send
-    pub sent: usize,
-    // how many records were reached
-    pub reached: usize,
+// The state is sound and the lent store of the length set, else 1. `stored`: the length of the lent store.
+pub(crate) fn check_usable(s: &State, stored: usize) -> Result<(), Refusal>
+    ensures { result ≡ judged (judge ((unsound_state when not (sound s.now && stored == s.now.capacity)) ∷ [])) tt }
+{
+    if !(soundness::sound::is_sound(s) & (stored == s.capacity)) {
+        return Err(Refusal::UnsoundState);
+    }
+    Ok(())
 }
 
-// 0 where there is a record to send and a server to send it to, by the parts of the state that soundness looks at and the length of the
-// lent store; else 1, 13 or 14.
-pub(crate) fn send_answer<'a>(
-    p: Settings,
-    capacity: usize,
-    d: Delivery,
-    count: usize,
-    lengths: &'a [u16; MAX_HELD],
-    receivers: &'a [u16; MAX_HELD],
-    start: usize,
-    stored: usize,
-) -> u8
-    ensures { let s = state_of p capacity d false count lengths.now [] receivers.now start 0 in
-        result ≡ judge ((unsound_state when not (sound s && stored == capacity)) ∷ send_checks d count) }
+// There is a record to send and a server to send it to, else 1, 13 or 14. `stored`: the length of the lent store.
+pub(crate) fn check_send(s: &State, stored: usize) -> Result<(), Refusal>
+    ensures { result ≡ judged (judge ((unsound_state when not (sound s.now && stored == s.now.capacity))
+        ∷ send_checks s.now.delivery s.now.queue.count)) tt }
 {
-    if !soundness::sound::parts_sound(p, capacity, d, count, lengths, receivers, start) {
-        return Answer::UNSOUND_STATE;
+    check_usable(s, stored)?;
+    if s.delivery.active.is_none() {
+        return Err(Refusal::NoActiveServer);
     }
-    if stored != capacity {
-        return Answer::UNSOUND_STATE;
+    if s.queue.count <= s.delivery.sent {
+        return Err(Refusal::NothingToSend);
     }
-    let active = d.active;
-    if servers::is_nobody(active) {
-        return Answer::NO_ACTIVE_SERVER;
-    }
-    if count <= d.sent {
-        return Answer::NOTHING_TO_SEND;
-    }
-    Answer::DONE
+    Ok(())
 }
 
 // Whether the record at place i has S.
@@ -72,13 +50,13 @@ fn is_first(due: bool, i: usize) -> bool
 }
 
 // Whether a record that was sent to a set of servers is a duplicate for the active one.
-fn is_duplicate(p: Settings, active: Active, set: u16) -> bool
+fn is_duplicate(p: Settings, active: Option<u8>, set: u16) -> bool
     requires { Below max_servers active × (set < 2 ^ p.servers) }
     ensures { result ≡ is_duplicate p active set }
 {
     match active {
-        Active::Nobody => false,
-        Active::Server(v) => crate::sets::has_other(set, v),
+        None => false,
+        Some(v) => crate::sets::has_other(set, v),
     }
 }
 
@@ -87,223 +65,89 @@ fn dsn_at(next: u32, count: usize, i: usize) -> u32
     requires { (count ≤ max_held) × (i ≤ max_held) }
     ensures { result ≡ dsn_at_by 32 next count i }
 {
-    let first = std::num::wrapping_sub_u32(next, count as u32);
-    std::num::wrapping_add_u32(first, i as u32)
+    let first = next.wrapping_sub(count as u32);
+    first.wrapping_add(i as u32)
 }
 
 // The head of the next DATA.
-pub(crate) fn next_head<'a>(
-    p: Settings,
-    d: Delivery,
-    due: bool,
-    count: usize,
-    templates: &'a [u16; MAX_HELD],
-    receivers: &'a [u16; MAX_HELD],
-    next: u32,
-) -> DataHead
-    requires { (count ≤ max_held) × ((d.sent < max_held)
-        × (Below max_servers d.active × (slice_index receivers.now d.sent < 2 ^ p.servers))) }
-    ensures { result ≡ head_of 32 (state_of p 0 d due count [] templates.now receivers.now 0 next) }
+fn next_head(s: &State) -> DataHead
+    requires { (s.now.queue.count ≤ max_held) × ((s.now.delivery.sent < max_held) × (Below max_servers s.now.delivery.active
+        × (slice_index s.now.queue.receivers s.now.delivery.sent < 2 ^ s.now.settings.servers))) }
+    ensures { result ≡ head_of 32 s.now }
 {
-    let active = d.active;
-    let i = d.sent;
+    let i = s.delivery.sent;
     DataHead {
-        session: p.session,
-        template: templates[i],
-        config: p.config,
-        first: is_first(due, i),
-        duplicate: is_duplicate(p, active, receivers[i]),
-        dsn: dsn_at(next, count, i),
+        session: s.settings.session,
+        template: s.queue.templates[i],
+        config: s.settings.config,
+        first: is_first(s.due, i),
+        duplicate: is_duplicate(s.settings, s.delivery.active, s.queue.receivers[i]),
+        dsn: dsn_at(s.next, s.queue.count, i),
     }
 }
 
 // Writes a DATA whose record lies in the store from a place on.
-pub(crate) fn write_record(
+fn write_record(
     head: DataHead,
     store: &[u8],
     at: usize,
     len: usize,
     out: &mut [u8],
-) -> Written
+) -> Result<usize, Refusal>
     requires { (at < length store.now) × ((len ≤ length store.now) × (len ≤ max_record_octets)) }
     ensures { let octets = ring_read (length store.now) store.now at len in
         Placed (layout_of (Data head) octets) out.old result out.new }
 {
-    let written = wire::write::write_data_head(head, len, out);
-    match written {
-        Written::Octets(n) => {
-            queue::ring::ring_read(store, at, len, out, wire::message::DATA_HEAD_OCTETS);
-            Written::Octets(n)
-        }
-        Written::Refused(a) => Written::Refused(a),
-    }
+    let n = wire::write::write_data_head(head, len, out)?;
+    queue::ring::ring_read(store, at, len, out, wire::message::DATA_HEAD_OCTETS);
+    Ok(n)
+}
+
+// Writes the record at place "sent", which lies in the store from a place on, as DATA, if there is room for it.
+pub(crate) fn write_next(
+    s: &State,
+    store: &[u8],
+    at: usize,
+    out: &mut [u8],
+) -> Result<usize, Refusal>
+    requires { SendFacts s.now store.now × (at ≡ record_start s.now.capacity s.now.start s.now.queue.lengths s.now.delivery.sent) }
+    ensures { Placed (layout (written 32 next_data s.now store.now)) out.old result out.new }
+{
+    let len = s.queue.lengths[s.delivery.sent] as usize;
+    let head = next_head(s);
+    write_record(head, store, at, len, out)
 }
 
 // A set of servers with the active one.
-pub(crate) fn marked_set(active: Active, set: u16) -> u16
+fn marked_set(active: Option<u8>, set: u16) -> u16
     requires { Below max_servers active }
     ensures { result ≡ marked_set active set }
 {
     match active {
-        Active::Nobody => set,
-        Active::Server(v) => crate::sets::with_server(set, v),
+        None => set,
+        Some(v) => crate::sets::with_server(set, v),
     }
 }
 
-// The larger of two numbers.
-pub(crate) fn larger(a: usize, b: usize) -> usize
-    ensures { result ≡ max a b }
+// The state after the record at place "sent" was sent: its set has the active server.
+pub(crate) fn mark_sent(s: &mut State)
+    requires { (s.old.delivery.sent < max_held) × Below max_servers s.old.delivery.active }
+    ensures { s.new ≡ after 32 next_data s.old }
 {
-    if a < b {
-        return b;
-    }
-    a
-}
-
-// What a refused sending changes: nothing. The set of the first record stays as it is.
-fn refuse_sending(answer: u8, d: Delivery, set: u16) -> Sending
-    ensures { result ≡ record { answer = answer; written = 0; place = 0; set = set; sent = d.sent; reached = d.reached } }
-{
-    Sending {
-        answer,
-        written: 0,
-        place: 0,
-        set,
-        sent: d.sent,
-        reached: d.reached,
-    }
-}
-
-// What a sending of n octets changes: one more record was sent, and its set has the active server.
-fn accept_sending(d: Delivery, set: u16, n: usize) -> Sending
-    requires { (d.sent < max_held) × Below max_servers d.active }
-    ensures { result ≡ record {
-      answer = done;
-      written = n;
-      place = d.sent;
-      set = marked_set d.active set;
-      sent = d.sent + 1;
-      reached = max d.reached (d.sent + 1);
-    } }
-{
-    let active = d.active;
-    let i = d.sent;
-    Sending {
-        answer: Answer::DONE,
-        written: n,
-        place: i,
-        set: marked_set(active, set),
-        sent: i + 1,
-        reached: larger(d.reached, i + 1),
-    }
-}
-
-// A length as a count, so that reading an entry and widening it are proved apart.
-pub(crate) fn wide(len: u16) -> usize
-    ensures { result ≡ len }
-{
-    len as usize
-}
-
-// Writes the record at place "sent" as DATA to the output, if there is room for it.
-fn send<'a, 'b>(
-    p: Settings,
-    capacity: usize,
-    d: Delivery,
-    due: bool,
-    count: usize,
-    lengths: &'a [u16; MAX_HELD],
-    templates: &'a [u16; MAX_HELD],
-    receivers: &'a [u16; MAX_HELD],
-    start: usize,
-    next: u32,
-    store: &'b [u8],
-    out: &mut [u8],
-) -> Sending
-    requires { SendFacts (state_of p capacity d due count lengths.now templates.now receivers.now start next) store.now }
-    ensures { let s = state_of p capacity d due count lengths.now templates.now receivers.now start next in
-        let o = next_data_step s store.now out.old in
-        (result ≡ sending_of s o) × (out.new ≡ output_after out.old o) }
-{
-    let i = d.sent;
-    let at = queue::record_start(capacity, start, lengths, i);
-    let len = wide(lengths[i]);
-    let head = next_head(p, d, due, count, templates, receivers, next);
-    let written = write_record(head, store, at, len, out);
-    match written {
-        Written::Octets(n) => accept_sending(d, receivers[i], n),
-        Written::Refused(a) => refuse_sending(a, d, receivers[0]),
-    }
-}
-
-// What sending the next record answers and changes, by the parts of a state.
-fn next_change<'a, 'b>(
-    p: Settings,
-    capacity: usize,
-    d: Delivery,
-    due: bool,
-    count: usize,
-    lengths: &'a [u16; MAX_HELD],
-    templates: &'a [u16; MAX_HELD],
-    receivers: &'a [u16; MAX_HELD],
-    start: usize,
-    next: u32,
-    store: &'b [u8],
-    out: &mut [u8],
-) -> Sending
-    ensures { let s = state_of p capacity d due count lengths.now templates.now receivers.now start next in
-        let o = next_data_step s store.now out.old in
-        (result ≡ sending_of s o) × (out.new ≡ output_after out.old o) }
-{
-    let stored = store.len();
-    let answer = send_answer(p, capacity, d, count, lengths, receivers, start, stored);
-    if answer != Answer::DONE {
-        return refuse_sending(answer, d, receivers[0]);
-    }
-    send(
-        p, capacity, d, due, count, lengths, templates, receivers, start, next, store, out,
-    )
+    let i = s.delivery.sent;
+    s.queue.receivers[i] = marked_set(s.delivery.active, s.queue.receivers[i]);
+    s.delivery.sent = i + 1;
+    s.delivery.reached = s.delivery.reached.max(i + 1);
 }
 
 // Sends the next unsent record as DATA to the active server, into the output. Refused with 1, 13, 14 or 12.
-pub fn next_data(s: State, store: &[u8], out: &mut [u8]) -> Wrote
-    ensures { (result ≡ wrote_of (next_data_step s store.now out.old))
-        × (out.new ≡ output_after out.old (next_data_step s store.now out.old)) }
+pub fn next_data(mut s: State, store: &[u8], out: &mut [u8]) -> Result<Wrote, Refusal>
+    ensures { let o = next_data_step s store.now out.old in
+        Answered answer_number result (wrote_of o) o.answer × (out.new ≡ output_after out.old o) }
 {
-    let p = s.settings;
-    let d = s.delivery;
-    let lengths = s.queue.lengths;
-    let templates = s.queue.templates;
-    let mut receivers = s.queue.receivers;
-    let change = next_change(
-        p,
-        s.capacity,
-        d,
-        s.due,
-        s.queue.count,
-        &lengths,
-        &templates,
-        &receivers,
-        s.start,
-        s.next,
-        store,
-        out,
-    );
-    let place = change.place;
-    receivers[place] = change.set;
-    let queue = Queue {
-        count: s.queue.count,
-        lengths,
-        templates,
-        receivers,
-    };
-    let mut state = s;
-    state.delivery.sent = change.sent;
-    state.delivery.reached = change.reached;
-    state.queue = queue;
-    Wrote {
-        answer: change.answer,
-        written: change.written,
-        state,
-    }
+    check_send(&s, store.len())?;
+    let at = queue::record_start(s.capacity, s.start, &s.queue.lengths, s.delivery.sent);
+    let written = write_next(&s, store, at, out)?;
+    mark_sent(&mut s);
+    Ok(Wrote { state: s, written })
 }

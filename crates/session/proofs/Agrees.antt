@@ -9,7 +9,7 @@ use lib.ListN.{length, get_or, drop}
 use Rattle.session.specs.Queue.{Entry, has, held}
 use Rattle.session.specs.Sound.{sound}
 use Rattle.session.specs.History.{Writing, Ledger, History, dsn_of, any_writing, written_in, first_written}
-use Rattle.session.specs.declared.state.Active.TheVariants.{Server}
+use Rattle.std.specs.Prelude.{Some}
 use Rattle.session.specs.declared.state.Settings.{Settings}
 use Rattle.session.specs.declared.state.Queue.{Queue}
 use Rattle.session.specs.declared.state.State.{State}
@@ -45,7 +45,7 @@ pub record Core (w : ℕ) (l : Ledger) (s : State) (store : List ℕ) : Type 0 w
   -- what was written first in it is the first place behind those released before it
   pub first : first_written l.writings l.activation (l.released_before + 1) ≡ l.released_before + 1
   -- each place that was reached was written to the active server in its activation
-  pub since : (v k : ℕ) → s.delivery.active ≡ Server v → l.released < k → k ≤ l.released + s.delivery.reached
+  pub since : (v k : ℕ) → s.delivery.active ≡ Some v → l.released < k → k ≤ l.released + s.delivery.reached
       → written_in l.writings k v l.activation ≡ true
   -- and none beyond those was
   pub until : (v k : ℕ) → written_in l.writings k v l.activation ≡ true → k ≤ l.released + s.delivery.reached

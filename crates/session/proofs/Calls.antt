@@ -31,8 +31,7 @@ use Rattle.session.specs.History.{Ledger, History, dsn_of, ack_place, delivery_a
 use Rattle.session.specs.History.{first_written}
 use Rattle.session.specs.Claim.{Session, InRange, entry_at, next_place, is_duplicate_for, due_reply, octets_together, due_checks, Named}
 use Rattle.session.specs.Claim.{is_first_in, ReleasedBy, Acknowledgeable, CallClaim, Account}
-use Rattle.session.specs.declared.state.Active.{Active}
-use Rattle.session.specs.declared.state.Active.TheVariants.{Nobody, Server}
+use Rattle.std.specs.Prelude.{Option, Some, None}
 use Rattle.session.specs.declared.state.Delivery.{Delivery}
 use Rattle.session.specs.declared.state.State.{State}
 use Rattle.session.proofs.SoundFacts.{SoundFacts, sound_facts, active_same}
@@ -203,11 +202,11 @@ module _ (enc : Encoding) (room : ℕ) (h : History) (s : State) (store : List �
       let e : h.ledger.released + (s.delivery.sent + 1) - 1 ≡ h.ledger.released + s.delivery.sent = omega arith in
       ap (λ (n : ℕ). get_or h.ledger.records n no_entry) e ∙ held_entry a s.delivery.sent g
 
-  duplicate_at : (v : Active) → s.delivery.sent < s.queue.count
+  duplicate_at : (v : Option ℕ) → s.delivery.sent < s.queue.count
       → is_duplicate s.settings v (get_or s.queue.receivers s.delivery.sent 0)
       ≡ is_duplicate_for v h.ledger.writings (h.ledger.released + (s.delivery.sent + 1))
-  duplicate_at Nobody g = refl
-  duplicate_at (Server v) g =
+  duplicate_at None g = refl
+  duplicate_at (Some v) g =
       duplicate_same s.settings.servers v (get_or s.queue.receivers s.delivery.sent 0) h.ledger.writings
       (h.ledger.released + (s.delivery.sent + 1))
       (λ u. a.core.stock.marks s.delivery.sent u g)
@@ -384,7 +383,7 @@ module _ (enc : Encoding) (room : ℕ) (h : History) (s : State) (store : List �
   ledger_releases tick i e q lo hi = let y : ⊥ = omega arith in absurd y
   ledger_releases (move v m) i e q lo hi = let y : ⊥ = omega arith in absurd y
   ledger_releases (ack v d config) i e q lo hi =
-      let active : s.delivery.active ≡ Server v =
+      let active : s.delivery.active ≡ Some v =
       acknowledger enc h.ledger s store wide a.is_sound a.sized a.core room v d config e in
       let n : ack_count w s d ≤ s.delivery.reached =
       acked enc h.ledger s store wide a.is_sound a.sized a.core room v d config e in
@@ -408,7 +407,7 @@ module _ (enc : Encoding) (room : ℕ) (h : History) (s : State) (store : List �
   within_reached v q (inr x) = (omega (arith, x.0), a.core.until v q x.1)
 
   -- so its DATA ACK names no more than was reached, and passes every test
-  ack_accepted_lem : (v q : ℕ) → s.delivery.active ≡ Server v → Acknowledgeable h v q
+  ack_accepted_lem : (v q : ℕ) → s.delivery.active ≡ Some v → Acknowledgeable h v q
       → judge (checks enc room (ack v (dsn_of w s.settings q) s.settings.config) s store) ≡ done
   unfolding checks
   ack_accepted_lem v q active x =
@@ -423,7 +422,7 @@ module _ (enc : Encoding) (room : ℕ) (h : History) (s : State) (store : List �
       (ack_dsn enc h.ledger s store wide a.is_sound a.sized c d (dsn_below q)) in
       let below : v < s.settings.servers =
       chosen_below s.settings.priorities s.delivery.servers s.settings.servers v (sym facts.choice ∙ active) in
-      let turn : same_active s.delivery.active (Server v) ≡ true = rw active (active_same (Server v)) in
+      let turn : same_active s.delivery.active (Some v) ≡ true = rw active (active_same (Some v)) in
       rw (
         lt-leb s.settings.servers v below,
         turn,
@@ -502,7 +501,7 @@ module _ (enc : Encoding) (room : ℕ) (h : History) (s : State) (store : List �
       }
 
 -- of the places that are not released, exactly the reached ones were written to the active server in its activation
-pub reached_written : {w : ℕ} {h : History} {s : State} {store : List ℕ} → Agrees w h s store → (v q : ℕ) → h.delivery.active ≡ Server v
+pub reached_written : {w : ℕ} {h : History} {s : State} {store : List ℕ} → Agrees w h s store → (v q : ℕ) → h.delivery.active ≡ Some v
     → h.ledger.released < q
     → written_in h.ledger.writings q v h.ledger.activation ≡ leb q (h.ledger.released + h.delivery.reached)
 reached_written {w} {h} {s} {store} a v q active lo =

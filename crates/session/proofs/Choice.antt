@@ -14,8 +14,7 @@ use Rattle.session.specs.Servers.{server, phase_at, is_agreed, beats, choose, Be
 use Rattle.session.specs.Servers.{changed, activated, settle}
 use Rattle.session.specs.declared.state.Phase.TheVariants.{Closed, Late}
 use Rattle.session.specs.declared.state.Server as server_of
-use Rattle.session.specs.declared.state.Active.{Active}
-use Rattle.session.specs.declared.state.Active.TheVariants.{Nobody, Server}
+use Rattle.std.specs.Prelude.{Option, Some, None}
 use Rattle.session.specs.declared.state.Settings.{Settings}
 use Rattle.session.specs.declared.state.Delivery.{Delivery}
 use Rattle.session.proofs.QueueLaws.{last_cases}
@@ -54,26 +53,26 @@ choice priorities servers (suc n) =
           lowest = λ u l x e. absurd (omega (arith, k u l x));
         }
 
-    go : (a : Active) → IsChoice priorities servers n a → (g : Bool) → is_agreed (phase_at servers n) ≡ g → (t : Bool)
-        → beats priorities n a ≡ t → IsChoice priorities servers (suc n) (cond (g && t) (Server n) a)
-    go Nobody h false p t q = each (λ u. is_agreed (phase_at servers u) ≡ false) h p
-    go Nobody h true p true q = new p (λ u l x. absurd (false≢true (sym (h u l) ∙ x)))
-    go Nobody h true p false q = absurd (false≢true (sym q))
-    go (Server v) h false p t q = more v h (λ x. absurd (false≢true (sym p ∙ x)))
-    go (Server v) h true p true q = new p (λ u l x. omega (arith, h.highest u l x, ltb-true (get_or priorities v 0) (get_or priorities n 0) q))
-    go (Server v) h true p false q = more v h (λ x. ltb-false (get_or priorities v 0) (get_or priorities n 0) q)
+    go : (a : Option ℕ) → IsChoice priorities servers n a → (g : Bool) → is_agreed (phase_at servers n) ≡ g → (t : Bool)
+        → beats priorities n a ≡ t → IsChoice priorities servers (suc n) (cond (g && t) (Some n) a)
+    go None h false p t q = each (λ u. is_agreed (phase_at servers u) ≡ false) h p
+    go None h true p true q = new p (λ u l x. absurd (false≢true (sym (h u l) ∙ x)))
+    go None h true p false q = absurd (false≢true (sym q))
+    go (Some v) h false p t q = more v h (λ x. absurd (false≢true (sym p ∙ x)))
+    go (Some v) h true p true q = new p (λ u l x. omega (arith, h.highest u l x, ltb-true (get_or priorities v 0) (get_or priorities n 0) q))
+    go (Some v) h true p false q = more v h (λ x. ltb-false (get_or priorities v 0) (get_or priorities n 0) q)
 
 -- where none is agreed nobody is chosen; that none is agreed where nobody is chosen is a case of `choice`
 nobody_none : (priorities : List ℕ) (servers : List server_of.Server) (n : ℕ) → ((u : ℕ) → u < n → is_agreed (phase_at servers u) ≡ false)
-    → choose priorities servers n ≡ Nobody
+    → choose priorities servers n ≡ None
 nobody_none priorities servers n h = go (choose priorities servers n) refl (choice priorities servers n)
   where
-    go : (a : Active) → choose priorities servers n ≡ a → IsChoice priorities servers n a → choose priorities servers n ≡ Nobody
-    go Nobody e k = e
-    go (Server v) e k = absurd (false≢true (sym (h v k.inside) ∙ k.agreed))
+    go : (a : Option ℕ) → choose priorities servers n ≡ a → IsChoice priorities servers n a → choose priorities servers n ≡ None
+    go None e k = e
+    go (Some v) e k = absurd (false≢true (sym (h v k.inside) ∙ k.agreed))
 
 -- who is chosen is one of the servers
-pub chosen_below : (priorities : List ℕ) (servers : List server_of.Server) (n v : ℕ) → choose priorities servers n ≡ Server v → v < n
+pub chosen_below : (priorities : List ℕ) (servers : List server_of.Server) (n v : ℕ) → choose priorities servers n ≡ Some v → v < n
 chosen_below priorities servers n v e = (subst (IsChoice priorities servers n) e (choice priorities servers n)).inside
 
 -- with v late, the others that were agreed are
@@ -100,14 +99,14 @@ other_chosen priorities servers v (suc n) =
     rw (late_phase servers v n, ← other_chosen priorities servers v n)
     (go (not (eqb n v) && is_agreed (phase_at servers n)) (choose priorities (set servers v (server Late)) n))
   where
-    one : (b : ℕ) (t : Bool) → not (is_nobody (cond t (Server n) (Server b))) ≡ true
+    one : (b : ℕ) (t : Bool) → not (is_nobody (cond t (Some n) (Some b))) ≡ true
     one b true = refl
     one b false = refl
 
-    go : (g : Bool) (a : Active) → not (is_nobody (cond (g && beats priorities n a) (Server n) a)) ≡ g || not (is_nobody a)
+    go : (g : Bool) (a : Option ℕ) → not (is_nobody (cond (g && beats priorities n a) (Some n) a)) ≡ g || not (is_nobody a)
     go false a = refl
-    go true Nobody = refl
-    go true (Server b) = one b (ltb (get_or priorities b 0) (get_or priorities n 0))
+    go true None = refl
+    go true (Some b) = one b (ltb (get_or priorities b 0) (get_or priorities n 0))
 
 -- after the choice is made anew it is the servers'
 pub settle_choice : (p : Settings) (d : Delivery) → (settle p d).active ≡ chosen p (settle p d)
@@ -126,5 +125,5 @@ each_closed (suc m) zero = refl
 each_closed (suc m) (suc u) = each_closed m u
 
 -- and nobody is chosen
-pub all_closed : (priorities : List ℕ) (m n : ℕ) → choose priorities (replicate m (server Closed)) n ≡ Nobody
+pub all_closed : (priorities : List ℕ) (m n : ℕ) → choose priorities (replicate m (server Closed)) n ≡ None
 all_closed priorities m n = nobody_none priorities (replicate m (server Closed)) n (λ u l. ap is_agreed (each_closed m u))

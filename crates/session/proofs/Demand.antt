@@ -11,7 +11,7 @@ use Rattle.octets.specs.Answers.{done, settings_outside_limits}
 use Rattle.session.specs.Servers.{changed}
 use Rattle.session.specs.Queue.{held_from, held}
 use Rattle.session.specs.Sound.{settings_sound}
-use Rattle.session.specs.Steps.{modulus, Call, put, next_data, tick, ack, move, fresh, refused_state, set_up}
+use Rattle.session.specs.Steps.{Made, modulus, Call, put, next_data, tick, ack, move, fresh, refused_state, set_up}
 use Rattle.session.specs.History.{History, delivery_after, ledger_after, after_accepted, after_call, fresh_history, any_writing}
 use Rattle.session.specs.History.{first_written}
 use Rattle.session.specs.Claim.{Invocation, Session, dsn_bits, Exporter, outcome, advance, run, begin, AnsweredCall, transcript}
@@ -19,7 +19,6 @@ use Rattle.session.specs.Claim.{history_from, Premises, InRange, AllInRange, nex
 use Rattle.session.specs.Claim.{history_of, Demand3, Demand3Of64}
 use Rattle.session.specs.declared.state.Settings.{Settings}
 use Rattle.session.specs.declared.state.State.{State}
-use Rattle.session.specs.declared.state.Made.{Made}
 use Rattle.session.proofs.Places.{wide_modulus, dsn_first}
 use Rattle.session.proofs.Agrees.{Agrees}
 use Rattle.session.proofs.SoundKept.{fresh_sound}

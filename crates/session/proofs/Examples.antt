@@ -1,5 +1,6 @@
 -- The starred boundary examples hold: each row is shown by computing the definitions on it.
 use mathlib.Core.Path.{refl}
+use Rattle.octets.specs.Answers.{judged}
 use Rattle.octets.specs.Numbers.{number_of, uint_in, octets_in}
 use Rattle.octets.specs.Each.{every, first_from}
 use Rattle.wire.specs.FieldTypes.{is_type, width_of}
@@ -16,7 +17,7 @@ pub examples : AllHold stars
 unfolding number_of uint_in octets_in every first_from is_type width_of is_message body_fits message_of layout_of read_answer data_head_of meaning_of
     read_of part_at part_of key_sound block_end head_sound padding_sound block_sound block_at table_sound template_index template_at fixed_length
     field_length field_at record_valid record_answer choose changed settle acknowledged sum_of has drop_front settings_sound numbers_sound sound
-    ack_count answer checks after settled store_after written step
+    ack_count answer checks after settled store_after written step judged
 examples = (
   (refl, (refl, refl)),
   (

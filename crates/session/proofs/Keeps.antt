@@ -24,8 +24,7 @@ use Rattle.session.specs.Steps.{after, settled, store_after}
 use Rattle.session.specs.History.{Writing, Ledger, with_activation, dsn_of, ack_place, delivery_after, written_by, ledger_after, any_writing}
 use Rattle.session.specs.History.{written_in, first_written}
 use Rattle.session.specs.Claim.{InRange}
-use Rattle.session.specs.declared.state.Active.{Active}
-use Rattle.session.specs.declared.state.Active.TheVariants.{Nobody, Server}
+use Rattle.std.specs.Prelude.{Option, Some, None}
 use Rattle.session.specs.declared.state.Delivery.{Delivery}
 use Rattle.session.specs.declared.state.State.{State}
 use Rattle.session.proofs.Choice.{chosen_below}
@@ -46,9 +45,9 @@ pub begun_released : (b : Bool) (l : Ledger) → (begun b l).released ≡ l.rele
 begun_released true l = refl
 begun_released false l = refl
 
-pub written_released : (v : Active) (q : ℕ) (l : Ledger) → (written_by v q l).released ≡ l.released
-written_released Nobody q l = refl
-written_released (Server v) q l = refl
+pub written_released : (v : Option ℕ) (q : ℕ) (l : Ledger) → (written_by v q l).released ≡ l.released
+written_released None q l = refl
+written_released (Some v) q l = refl
 
 -- with n more, as many are released as before exactly where as many were, and n is 0
 pub none_more : (released n before : ℕ) → before ≤ released → eqb released before && eqb n 0 ≡ eqb (released + n) before
@@ -175,7 +174,7 @@ module _ (enc : Encoding) (l : Ledger) (s : State) (store : List ℕ) (wide : 64
   f = sound_facts s is_sound
 
   -- the active server exists
-  below : (v : ℕ) → s.delivery.active ≡ Server v → v < s.settings.servers
+  below : (v : ℕ) → s.delivery.active ≡ Some v → v < s.settings.servers
   below v e = chosen_below s.settings.priorities s.delivery.servers s.settings.servers v (sym f.choice ∙ e)
 
   put_keeps : (room : ℕ) (table : List ℕ) (id : ℕ) (r : List ℕ) → judge (checks enc room (put table id r) s store) ≡ done
@@ -220,7 +219,7 @@ module _ (enc : Encoding) (l : Ledger) (s : State) (store : List ℕ) (wide : 64
       }
 
   -- where nothing was written in the activation, nothing was sent and nothing released in it
-  nothing_released : (v : ℕ) → s.delivery.active ≡ Server v → written_during l.writings l.activation ≡ false
+  nothing_released : (v : ℕ) → s.delivery.active ≡ Some v → written_during l.writings l.activation ≡ false
       → (s.delivery.sent ≡ 0) × (l.released ≡ l.released_before)
   nothing_released v ea none = (
     omega (arith, unreached (ℕ_discrete s.delivery.reached 0), f.numbers.sent_reached),
@@ -238,7 +237,7 @@ module _ (enc : Encoding) (l : Ledger) (s : State) (store : List ℕ) (wide : 64
       unreleased (no x) = absurd (false≢true (sym none ∙ c.opened (omega (arith, x, c.origin))))
 
   -- the place written first in the activation, or the next one if nothing was written, is the first behind those released before it
-  pub first_place : (v : ℕ) → s.delivery.active ≡ Server v
+  pub first_place : (v : ℕ) → s.delivery.active ≡ Some v
       → first_written l.writings l.activation (l.released + (s.delivery.sent + 1)) ≡ l.released_before + 1
   first_place v ea = go (written_during l.writings l.activation) refl
     where
@@ -248,7 +247,7 @@ module _ (enc : Encoding) (l : Ledger) (s : State) (store : List ℕ) (wide : 64
       go false e = none_written _ _ _ e ∙ omega (arith, nothing_released v ea e)
 
   -- next data, where server v is active
-  next_at : (v : ℕ) → s.delivery.active ≡ Server v → s.delivery.sent < s.queue.count
+  next_at : (v : ℕ) → s.delivery.active ≡ Some v → s.delivery.sent < s.queue.count
       → Core w (ledger_after w s.settings next_data s.delivery l) (after w next_data s) store
   unfolding ledger_after after sent_one marked any_writing first_written record_at
   next_at v ea h =
@@ -301,7 +300,7 @@ module _ (enc : Encoding) (l : Ledger) (s : State) (store : List ℕ) (wide : 64
       recent u j e lo hi (no n) =
           or_right (eqb (l.released + (s.delivery.sent + 1)) j && eqb v u && eqb l.activation l.activation)
           (written_in l.writings j u l.activation)
-          (c.since u j (ea ∙ ap Server e) lo (omega (arith, f.numbers.sent_reached)))
+          (c.since u j (ea ∙ ap Some e) lo (omega (arith, f.numbers.sent_reached)))
 
   next_keeps : (room : ℕ) → judge (checks enc room next_data s store) ≡ done
       → Core w (ledger_after w s.settings next_data s.delivery l) (after w next_data s) store
@@ -330,11 +329,11 @@ module _ (enc : Encoding) (l : Ledger) (s : State) (store : List ℕ) (wide : 64
   acked room v d config e = ltb-false _ _ (passed (checks enc room (ack v d config) s store) tt e).1.1.1.0
 
   -- and comes from the active server
-  pub acknowledger : (room v d config : ℕ) → judge (checks enc room (ack v d config) s store) ≡ done → s.delivery.active ≡ Server v
+  pub acknowledger : (room v d config : ℕ) → judge (checks enc room (ack v d config) s store) ≡ done → s.delivery.active ≡ Some v
   unfolding checks
   acknowledger room v d config e =
-      same_active_lem s.delivery.active (Server v)
-      (not-false (same_active s.delivery.active (Server v)) (passed (checks enc room (ack v d config) s store) tt e).1.0)
+      same_active_lem s.delivery.active (Some v)
+      (not-false (same_active s.delivery.active (Some v)) (passed (checks enc room (ack v d config) s store) tt e).1.0)
 
   -- the number of a DATA ACK is that of the place so many behind the released ones
   pub ack_dsn : (d : ℕ) → d < modulus w → dsn_of w s.settings (l.released + ack_count w s d) ≡ d
@@ -353,7 +352,7 @@ module _ (enc : Encoding) (l : Ledger) (s : State) (store : List ℕ) (wide : 64
       (ack_below d) (ack_dsn d h)
 
   -- a DATA ACK of the active server that names no more records than were reached
-  ack_at : (v d config : ℕ) → d < modulus w → s.delivery.active ≡ Server v → ack_count w s d ≤ s.delivery.reached
+  ack_at : (v d config : ℕ) → d < modulus w → s.delivery.active ≡ Some v → ack_count w s d ≤ s.delivery.reached
       → Core w (ledger_after w s.settings (ack v d config) s.delivery l) (after w (ack v d config) s) store
   unfolding ledger_after after drop_front
   ack_at v d config h active b =

@@ -14,8 +14,8 @@ use Rattle.session.specs.Limits.{max_servers, max_threshold, min_store_octets, m
 use Rattle.session.specs.Servers.{same_active, chosen}
 use Rattle.session.specs.Queue.{held_octets, has}
 use Rattle.session.specs.Sound.{settings_sound, numbers_sound, entry_sound, activation_sound, sound}
-use Rattle.session.specs.declared.state.Active.{Active}
-use Rattle.session.specs.declared.state.Active.TheVariants.{Nobody, Server}
+use Rattle.std.specs.Prelude.{Option, Some, None, nat_eq}
+use Rattle.std.specs.Option.{option_eq}
 use Rattle.session.specs.declared.state.Settings.{Settings}
 use Rattle.session.specs.declared.state.Delivery.{Delivery}
 use Rattle.session.specs.declared.state.State.{State}
@@ -134,15 +134,22 @@ numbers_hold p room d count start f =
 -- ---- sound states
 
 -- two choices that are the same
-pub same_active_lem : (a b : Active) → same_active a b ≡ true → a ≡ b
-same_active_lem Nobody Nobody e = refl
-same_active_lem Nobody (Server b) e = absurd (false≢true e)
-same_active_lem (Server a) Nobody e = absurd (false≢true e)
-same_active_lem (Server a) (Server b) e = ap Server (eqb-true a b e)
+pub same_active_lem : (a b : Option ℕ) → same_active a b ≡ true → a ≡ b
+same_active_lem None None e = refl
+same_active_lem None (Some b) e = absurd (false≢true e)
+same_active_lem (Some a) None e = absurd (false≢true e)
+same_active_lem (Some a) (Some b) e = ap Some (eqb-true a b e)
 
-pub active_same : (a : Active) → same_active a a ≡ true
-active_same Nobody = refl
-active_same (Server v) = eq-eqb v v refl
+-- comparing two choices as options tells the same
+pub active_eq : (a b : Option ℕ) → option_eq nat_eq a b ≡ same_active a b
+active_eq None None = refl
+active_eq None (Some b) = refl
+active_eq (Some a) None = refl
+active_eq (Some a) (Some b) = refl
+
+pub active_same : (a : Option ℕ) → same_active a a ≡ true
+active_same None = refl
+active_same (Some v) = eq-eqb v v refl
 
 -- no activation: nothing sent, nothing reached, no timer
 pub record IdleFacts (d : Delivery) : Type 0 where
@@ -150,7 +157,7 @@ pub record IdleFacts (d : Delivery) : Type 0 where
   pub reached : d.reached ≡ 0
   pub timer : d.timer ≡ 0
 
-idle_facts : (d : Delivery) (receivers : List ℕ) → activation_sound d receivers Nobody ≡ true → IdleFacts d
+idle_facts : (d : Delivery) (receivers : List ℕ) → activation_sound d receivers None ≡ true → IdleFacts d
 idle_facts d receivers e =
     let at = both_at (eqb d.sent 0 ∷ eqb d.reached 0 ∷ eqb d.timer 0 ∷ []) in
     record { sent = eqb-true _ _ (at 0 e); reached = eqb-true _ _ (at 1 e); timer = eqb-true _ _ (at 2 e) }
@@ -179,8 +186,8 @@ pub record SoundFacts (s : State) : Type 0 where
   pub known : (i : ℕ) → i < s.queue.count → get_or s.queue.receivers i 0 < 2 ^ s.settings.servers
   pub fits : held_octets s.queue ≤ s.capacity
   pub choice : s.delivery.active ≡ chosen s.settings s.delivery
-  pub idle : s.delivery.active ≡ Nobody → IdleFacts s.delivery
-  pub received : (v : ℕ) → s.delivery.active ≡ Server v → (i : ℕ) → i < s.delivery.reached
+  pub idle : s.delivery.active ≡ None → IdleFacts s.delivery
+  pub received : (v : ℕ) → s.delivery.active ≡ Some v → (i : ℕ) → i < s.delivery.reached
       → has (get_or s.queue.receivers i 0) v ≡ true
 
 pub sound_facts : (s : State) → sound s ≡ true → SoundFacts s
@@ -192,7 +199,7 @@ sound_facts s e =
     let at = all_at (clauses s) in
     let entry : (i : ℕ) → i < q.count → entry_sound p.servers q.lengths q.receivers i ≡ true =
     every_at q.count (entry_sound p.servers q.lengths q.receivers) (at 1 e) in
-    let sent : (a : Active) → d.active ≡ a → activation_sound d q.receivers a ≡ true =
+    let sent : (a : Option ℕ) → d.active ≡ a → activation_sound d q.receivers a ≡ true =
     λ a k. ap (activation_sound d q.receivers) (sym k) ∙ at 4 e in
     record {
       numbers = numbers_facts p s.capacity d q.count s.start (at 0 e);
@@ -204,8 +211,8 @@ sound_facts s e =
           (entry i l));
       fits = leb-true _ _ (at 2 e);
       choice = same_active_lem d.active (chosen p d) (at 3 e);
-      idle = λ k. idle_facts d q.receivers (sent Nobody k);
-      received = λ v k. every_at d.reached (λ i. has (get_or q.receivers i 0) v) (sent (Server v) k);
+      idle = λ k. idle_facts d q.receivers (sent None k);
+      received = λ v k. every_at d.reached (λ i. has (get_or q.receivers i 0) v) (sent (Some v) k);
     }
 
 -- a state of which these facts hold is sound
@@ -227,9 +234,9 @@ facts_sound s f =
       sent d.active refl,
     )
   where
-    sent : (a : Active) → s.delivery.active ≡ a → activation_sound s.delivery s.queue.receivers a ≡ true
-    sent Nobody k = let e = f.idle k in rw (e.sent, e.reached, e.timer)
-    sent (Server v) k = every_intro s.delivery.reached (λ i. has (get_or s.queue.receivers i 0) v) (f.received v k)
+    sent : (a : Option ℕ) → s.delivery.active ≡ a → activation_sound s.delivery s.queue.receivers a ≡ true
+    sent None k = let e = f.idle k in rw (e.sent, e.reached, e.timer)
+    sent (Some v) k = every_intro s.delivery.reached (λ i. has (get_or s.queue.receivers i 0) v) (f.received v k)
 
 -- a state that passed the test, and one that failed it, by what the test came to
 pub passed_sound : (s : State) (b : Bool) → b ≡ sound s → not b ≡ false → sound s ≡ true

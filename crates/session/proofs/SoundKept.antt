@@ -24,16 +24,14 @@ use Rattle.session.specs.Servers.{late_servers, another_agreed, expired, ticked_
 use Rattle.session.specs.Queue.{sum_of, octets_to, held_octets, has, with, marked_set, pushed, drop_front, marked}
 use Rattle.session.specs.Limits.{max_servers, max_held}
 use Rattle.session.specs.Sound.{settings_sound, sound}
-use Rattle.session.specs.Steps.{Call, put, next_data, tick, ack, move, ack_count, checks, sound_for, answer, with_delivery, after}
+use Rattle.session.specs.Steps.{Made, Call, put, next_data, tick, ack, move, ack_count, checks, sound_for, answer, with_delivery, after}
 use Rattle.session.specs.Steps.{settled, step, fresh, refused_state, set_up}
 use Rattle.session.specs.declared.state.Server as server_of
-use Rattle.session.specs.declared.state.Active.{Active}
-use Rattle.session.specs.declared.state.Active.TheVariants.{Nobody, Server}
+use Rattle.std.specs.Prelude.{Option, Some, None}
 use Rattle.session.specs.declared.state.Settings.{Settings}
 use Rattle.session.specs.declared.state.Delivery.{Delivery}
 use Rattle.session.specs.declared.state.Queue.{Queue}
 use Rattle.session.specs.declared.state.State.{State}
-use Rattle.session.specs.declared.state.Made.{Made}
 use Rattle.session.proofs.Arrays.{sum_more}
 use Rattle.session.proofs.SoundFacts.{SettingsFacts, NumbersFacts, IdleFacts, SoundFacts, settings_facts, sound_facts, facts_sound}
 use Rattle.session.proofs.Choice.{chosen_below, settle_choice, all_closed}
@@ -102,8 +100,8 @@ record Fit (s : State) : Type 0 where
   short : (i : ℕ) → i < s.queue.count → get_or s.queue.lengths i 0 ≤ max_record_octets
   known : (i : ℕ) → i < s.queue.count → get_or s.queue.receivers i 0 < 2 ^ s.settings.servers
   fits : held_octets s.queue ≤ s.capacity
-  idle : s.delivery.active ≡ Nobody → IdleFacts s.delivery
-  received : (v : ℕ) → s.delivery.active ≡ Server v → (i : ℕ) → i < s.delivery.reached → has (get_or s.queue.receivers i 0) v ≡ true
+  idle : s.delivery.active ≡ None → IdleFacts s.delivery
+  received : (v : ℕ) → s.delivery.active ≡ Some v → (i : ℕ) → i < s.delivery.reached → has (get_or s.queue.receivers i 0) v ≡ true
 
 -- the choice made anew makes it sound
 settle_fit : (s : State) → Fit s → sound (settled s) ≡ true
@@ -151,7 +149,7 @@ pub record Calm (p : Settings) (d e : Delivery) : Type 0 where
   pub reached : e.reached ≡ d.reached
   pub sent : e.sent ≤ d.sent
   pub timer : d.timer < p.duration → e.timer < p.duration
-  pub rest : d.active ≡ Nobody → d.timer ≡ 0 → e.timer ≡ 0
+  pub rest : d.active ≡ None → d.timer ≡ 0 → e.timer ≡ 0
 
 -- moved servers
 pub move_calm : {p : Settings} {d : Delivery} (servers : List server_of.Server) → Calm p d (with_servers d servers)
@@ -162,11 +160,11 @@ pub tick_calm : (p : Settings) (d : Delivery) → 0 < p.duration → Calm p d (t
 unfolding ticked expired
 tick_calm p d patient = go d.active refl
   where
-    go : (a : Active) → d.active ≡ a → Calm p d (ticked_for p d a)
-    go Nobody e = record { active = refl; reached = refl; sent = omega arith; timer = λ h. patient; rest = λ x h. refl }
-    go (Server v) e = at (ltb d.reached p.threshold) (eqb (d.timer + 1) p.duration) refl (another_agreed p v d)
+    go : (a : Option ℕ) → d.active ≡ a → Calm p d (ticked_for p d a)
+    go None e = record { active = refl; reached = refl; sent = omega arith; timer = λ h. patient; rest = λ x h. refl }
+    go (Some v) e = at (ltb d.reached p.threshold) (eqb (d.timer + 1) p.duration) refl (another_agreed p v d)
       where
-        never : {X : Type 0} → d.active ≡ Nobody → X
+        never : {X : Type 0} → d.active ≡ None → X
         never x = let z : ◌≡◌ {A = ℕ} 0 1 = cc in let y : ⊥ = omega arith in absurd y
 
         at : (a b : Bool) → eqb (d.timer + 1) p.duration ≡ b → (k : Bool)
@@ -187,9 +185,9 @@ tick_calm p d patient = go d.active refl
 
 -- ---- the calls
 
-pub active_some : (a : Active) → is_nobody a ≡ false → (v : ℕ) × (a ≡ Server v)
-active_some Nobody e = absurd (false≢true (sym e))
-active_some (Server v) e = (v, refl)
+pub active_some : (a : Option ℕ) → is_nobody a ≡ false → (v : ℕ) × (a ≡ Some v)
+active_some None e = absurd (false≢true (sym e))
+active_some (Some v) e = (v, refl)
 
 -- a delivery with n records fewer reached and the same choice
 pub record Lower (p : Settings) (n : ℕ) (d e : Delivery) : Type 0 where
@@ -197,7 +195,7 @@ pub record Lower (p : Settings) (n : ℕ) (d e : Delivery) : Type 0 where
   pub reached : e.reached ≡ d.reached - n
   pub sent : e.sent ≤ e.reached
   pub timer : e.timer < p.duration
-  pub rest : d.active ≡ Nobody → e.timer ≡ 0
+  pub rest : d.active ≡ None → e.timer ≡ 0
 
 module _ (s : State) (z : Sized s.queue) (f : SoundFacts s) where
   -- a queue whose entries are those from n on, and a delivery with n records fewer reached, whether S is due or not
@@ -231,7 +229,7 @@ module _ (s : State) (z : Sized s.queue) (f : SoundFacts s) where
         known = λ i l. rw (receivers i (omega arith)) (f.known (n + i) (omega arith));
         fits = fits;
         idle = λ e.
-            let a : s.delivery.active ≡ Nobody = sym m.active ∙ e in
+            let a : s.delivery.active ≡ None = sym m.active ∙ e in
             let y : s.delivery.reached ≡ 0 = (f.idle a).reached in
             record { sent = omega (arith, m.reached, m.sent); reached = omega (arith, m.reached); timer = m.rest a };
         received = λ v e i l.
@@ -328,7 +326,7 @@ module _ (s : State) (z : Sized s.queue) (f : SoundFacts s) where
       }
 
   -- the next record sent to server v
-  next_fit : (w v : ℕ) → s.delivery.active ≡ Server v → s.delivery.sent < s.queue.count → Fit (after w next_data s)
+  next_fit : (w v : ℕ) → s.delivery.active ≡ Some v → s.delivery.sent < s.queue.count → Fit (after w next_data s)
   unfolding after sent_one marked
   next_fit w v a h =
       let k = f.numbers in

@@ -17,8 +17,7 @@ use Rattle.session.specs.Sound.{sound}
 use Rattle.session.specs.Steps.{tick, answer, checks, after, settled, with_delivery, Outcome, step}
 use Rattle.session.specs.Timer.{with_sent_and_timer, Runs, OtherAgreed, TurnedLate, TimerRule}
 use Rattle.session.specs.declared.state.Server as server_of
-use Rattle.session.specs.declared.state.Active.{Active}
-use Rattle.session.specs.declared.state.Active.TheVariants.{Nobody, Server}
+use Rattle.std.specs.Prelude.{Option, Some, None}
 use Rattle.session.specs.declared.state.Delivery.{Delivery}
 use Rattle.session.specs.declared.state.State.{State}
 use Rattle.session.proofs.SoundFacts.{sound_facts}
@@ -71,7 +70,7 @@ module _ (enc : Encoding) (s : State) (is_sound : sound s ≡ true) where
 
   -- ---- the counters alone
 
-  stopped_nobody : s.delivery.active ≡ Nobody → (step enc 0 tick s []).state ≡ with_sent_and_timer s s.delivery.sent 0
+  stopped_nobody : s.delivery.active ≡ None → (step enc 0 tick s []).state ≡ with_sent_and_timer s s.delivery.sent 0
   unfolding ticked
   stopped_nobody e = same_choice s.delivery.sent 0 (rw e refl)
 
@@ -79,9 +78,9 @@ module _ (enc : Encoding) (s : State) (is_sound : sound s ≡ true) where
   unfolding ticked
   stopped_below l = same_choice s.delivery.sent 0 (go s.delivery.active)
     where
-      go : (a : Active) → ticked_for s.settings s.delivery a ≡ with_counts s.delivery s.delivery.sent s.delivery.reached 0
-      go Nobody = refl
-      go (Server v) = rw (lt-ltb s.delivery.reached s.settings.threshold l)
+      go : (a : Option ℕ) → ticked_for s.settings s.delivery a ≡ with_counts s.delivery s.delivery.sent s.delivery.reached 0
+      go None = refl
+      go (Some v) = rw (lt-ltb s.delivery.reached s.settings.threshold l)
 
   -- ---- the timer runs
 
@@ -128,10 +127,10 @@ module _ (enc : Encoding) (s : State) (is_sound : sound s ≡ true) where
       (ran_out_lem v r e ∙ rw (finds s.delivery.servers v s.settings.servers o.server o.exists o.other o.agreed))
 
   -- somebody is chosen then, and not v
-  others_turn : (v : ℕ) → OtherAgreed s v → (a : Active) → chosen s.settings (late_state v).delivery ≡ a → (a ≢ Nobody) × (a ≢ Server v)
+  others_turn : (v : ℕ) → OtherAgreed s v → (a : Option ℕ) → chosen s.settings (late_state v).delivery ≡ a → (a ≢ None) × (a ≢ Some v)
   others_turn v o a e = (
     λ n. false≢true
-        (sym (ap (λ (x : Active). not (is_nobody x)) (e ∙ n))
+        (sym (ap (λ (x : Option ℕ). not (is_nobody x)) (e ∙ n))
         ∙ other_chosen s.settings.priorities s.delivery.servers v s.settings.servers
         ∙ finds s.delivery.servers v s.settings.servers o.server o.exists o.other o.agreed),
     λ n. false≢true
@@ -144,9 +143,9 @@ module _ (enc : Encoding) (s : State) (is_sound : sound s ≡ true) where
   unfolding changed
   choice_changed v r o = rw r.active (go (chosen s.settings (late_state v).delivery) refl)
     where
-      go : (a : Active) → chosen s.settings (late_state v).delivery ≡ a → not (same_active a (Server v)) ≡ true
-      go Nobody e = refl
-      go (Server u) e = rw (ne_eqb u v (λ x. (others_turn v o (Server u) e).1 (ap Server x)))
+      go : (a : Option ℕ) → chosen s.settings (late_state v).delivery ≡ a → not (same_active a (Some v)) ≡ true
+      go None e = refl
+      go (Some u) e = rw (ne_eqb u v (λ x. (others_turn v o (Some u) e).1 (ap Some x)))
 
   turned_late : (v : ℕ) → Runs s v → s.delivery.timer + 1 ≡ s.settings.duration → OtherAgreed s v
       → TurnedLate s v (step enc 0 tick s []).state

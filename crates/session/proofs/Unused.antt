@@ -17,7 +17,7 @@ use Rattle.session.specs.Servers.{with_servers, with_counts, Transition, start, 
 use Rattle.session.specs.Servers.{transition, sent_one, acknowledged, late_servers, other_agreed, expired, ticked_for, ticked}
 use Rattle.session.specs.Queue.{record_at}
 use Rattle.session.specs.Sound.{settings_sound, activation_sound, numbers_sound, sound}
-use Rattle.session.specs.Steps.{ack_count, Call, put, next_data, tick, ack, move, form_answer, received, is_duplicate, head_of, reply_to}
+use Rattle.session.specs.Steps.{Made, ack_count, Call, put, next_data, tick, ack, move, form_answer, received, is_duplicate, head_of, reply_to}
 use Rattle.session.specs.Steps.{written, transition_checks, checks, sound_for, answer, with_due, after, settled, store_after, Outcome}
 use Rattle.session.specs.Steps.{step, fresh, refused_set_up, set_up}
 use Rattle.session.specs.Claim.{Exporter, begin}
@@ -27,12 +27,10 @@ use Rattle.session.specs.Unused.{with_priorities, SameUsed, with_entries, cut_to
 use Rattle.session.specs.declared.state.Phase.{Phase}
 use Rattle.session.specs.declared.state.Phase.TheVariants.{Closed, Started, Offered, Agreed, Late}
 use Rattle.session.specs.declared.state.Server as server_of
-use Rattle.session.specs.declared.state.Active.{Active}
-use Rattle.session.specs.declared.state.Active.TheVariants.{Nobody, Server}
+use Rattle.std.specs.Prelude.{Option, Some, None}
 use Rattle.session.specs.declared.state.Settings.{Settings}
 use Rattle.session.specs.declared.state.Delivery.{Delivery}
 use Rattle.session.specs.declared.state.State.{State}
-use Rattle.session.specs.declared.state.Made.{Made}
 use Rattle.session.proofs.Choice.{chosen_below}
 use Rattle.session.proofs.Calls.{after_settings}
 use Rattle.session.proofs.InOctets.{settings_stay}
@@ -66,11 +64,11 @@ unfolding choose
 choose_same a b n servers zero h l = refl
 choose_same a b n servers (suc k) h l =
     rw (choose_same a b n servers k (λ v j. h v (omega arith)) (omega arith), phase_take n servers k (omega arith))
-    (ap (λ (x : Bool). cond (is_agreed (phase_at servers k) && x) (Server k) (choose a servers k)) (go (choose a servers k) refl))
+    (ap (λ (x : Bool). cond (is_agreed (phase_at servers k) && x) (Some k) (choose a servers k)) (go (choose a servers k) refl))
   where
-    go : (c : Active) → choose a servers k ≡ c → beats b k c ≡ beats a k c
-    go Nobody e = refl
-    go (Server v) e = rw (h v (omega (arith, chosen_below a servers k v e)), h k (omega arith)) refl
+    go : (c : Option ℕ) → choose a servers k ≡ c → beats b k c ≡ beats a k c
+    go None e = refl
+    go (Some v) e = rw (h v (omega (arith, chosen_below a servers k v e)), h k (omega arith)) refl
 
 other_same : (n : ℕ) (servers : List server_of.Server) (v k : ℕ) → k ≤ n → other_agreed (take n servers) v k ≡ other_agreed servers v k
 unfolding other_agreed
@@ -93,9 +91,9 @@ abbrev outcome_with : List ℕ → ℕ → Outcome → Outcome
 outcome_with q n o = record { answer = o.answer; state = with_entries q n o.state; store = o.store; written = o.written }
 
 module _ (q : List ℕ) (n : ℕ) where
-  duplicate_same : (p : Settings) (a : Active) (m : ℕ) → is_duplicate (with_priorities q p) a m ≡ is_duplicate p a m
-  duplicate_same p Nobody m = refl
-  duplicate_same p (Server v) m = refl
+  duplicate_same : (p : Settings) (a : Option ℕ) (m : ℕ) → is_duplicate (with_priorities q p) a m ≡ is_duplicate p a m
+  duplicate_same p None m = refl
+  duplicate_same p (Some v) m = refl
 
   written_same : (w : ℕ) (c : Call) (s : State) (store : List ℕ) → written w c (with_entries q n s) store ≡ written w c s store
   unfolding written head_of record_at
@@ -177,9 +175,9 @@ module _ (q : List ℕ) (n : ℕ) where
   unfolding ticked
   ticked_same p d l = go d.active
     where
-      go : (a : Active) → ticked_for (with_priorities q p) (delivery_with n d) a ≡ delivery_with n (ticked_for p d a)
-      go Nobody = refl
-      go (Server v) =
+      go : (a : Option ℕ) → ticked_for (with_priorities q p) (delivery_with n d) a ≡ delivery_with n (ticked_for p d a)
+      go None = refl
+      go (Some v) =
           rw (expired_same p v d l)
           (each (ltb d.reached p.threshold) (eqb (d.timer + 1) p.duration) (with_counts d d.sent d.reached 0) (expired p v d)
           (with_counts d d.sent d.reached (d.timer + 1)))
@@ -219,10 +217,10 @@ module _ (q : List ℕ) (n : ℕ) where
       rw (chosen_same s.settings d h)
       (ap (λ (x : Delivery). with_due (with_entries q n s) x (new || s.due)) (of_cond (delivery_with n) new (activated d c) d))
 
-  activation_same : (d : Delivery) (receivers : List ℕ) (a : Active)
+  activation_same : (d : Delivery) (receivers : List ℕ) (a : Option ℕ)
       → activation_sound (delivery_with n d) receivers a ≡ activation_sound d receivers a
-  activation_same d receivers Nobody = refl
-  activation_same d receivers (Server v) = refl
+  activation_same d receivers None = refl
+  activation_same d receivers (Some v) = refl
 
   sound_same : (s : State) → Enough q n s.settings → sound (with_entries q n s) ≡ sound s
   unfolding sound numbers_sound settings_sound

@@ -19,8 +19,7 @@ use Rattle.session.specs.Steps.{modulus, Call, put, next_data, tick, ack, move, 
 use Rattle.session.specs.Steps.{set_up}
 use Rattle.session.specs.History.{Writing, Ledger, History, dsn_of, place_of, ack_place, after_call, fresh_history, any_writing, written_in}
 use Rattle.session.specs.History.{first_written}
-use Rattle.session.specs.declared.state.Active.{Active}
-use Rattle.session.specs.declared.state.Active.TheVariants as active
+use Rattle.std.specs.Prelude.{Option, Some, None}
 use Rattle.session.specs.declared.state.Settings.{Settings}
 use Rattle.session.specs.declared.state.State.{State}
 
@@ -125,9 +124,9 @@ abbrev pub written_to_other : List Writing → ℕ → ℕ → Bool
 written_to_other ws q v = any_writing (λ x. eqb x.place q && not (eqb x.server v)) ws
 
 -- D: the place was written to a server other than the active one.
-abbrev pub is_duplicate_for : Active → List Writing → ℕ → Bool
-is_duplicate_for active.Nobody writings q = false
-is_duplicate_for (active.Server v) writings q = written_to_other writings q v
+abbrev pub is_duplicate_for : Option ℕ → List Writing → ℕ → Bool
+is_duplicate_for None writings q = false
+is_duplicate_for (Some v) writings q = written_to_other writings q v
 
 -- S (02, ask 2): the place is the one with which the activation began, the first behind those released before it, and none was released
 -- since.
@@ -185,7 +184,7 @@ due_checks z capacity room h hs next_data =
 due_checks z capacity room h hs tick = []
 due_checks z capacity room h hs (ack v d config) =
     (no_such_server when leb z.settings.servers v)
-    ∷ (out_of_turn when not (same_active h.delivery.active (active.Server v)))
+    ∷ (out_of_turn when not (same_active h.delivery.active (Some v)))
     ∷ (other_configuration when not (eqb config z.settings.config))
     ∷ (dsn_not_acknowledgeable when not (is_reached z h d))
     ∷ []
@@ -209,7 +208,7 @@ pub record ReleasedBy (h : History) (c : Call) (q : ℕ) : Type 0 where
   pub dsn : ℕ
   pub config : ℕ
   pub acknowledges : c ≡ ack server dsn config
-  pub is_active : h.delivery.active ≡ active.Server server
+  pub is_active : h.delivery.active ≡ Some server
   pub was_written : written_in h.ledger.writings q server h.ledger.activation ≡ true
 
 -- Server v can acknowledge place q: it is the released number, or a place behind it that was written to v in the present activation.
@@ -238,7 +237,7 @@ pub record CallClaim (z : Session) (capacity room : ℕ) (h : History) (hs : Lis
       → ReleasedBy h c q
   -- a DATA ACK of the active server and the session's configuration is accepted where it names the released number or a place that was
   -- written to that server in its activation, sent again or not: so it is never answered 11
-  pub ack_accepted : (v q : ℕ) → c ≡ ack v (dsn_of (dsn_bits z) z.settings q) z.settings.config → h.delivery.active ≡ active.Server v
+  pub ack_accepted : (v q : ℕ) → c ≡ ack v (dsn_of (dsn_bits z) z.settings q) z.settings.config → h.delivery.active ≡ Some v
       → Acknowledgeable h v q → o.answer ≡ done
   -- a sentence of the demand, which follows from `answered`: under a sound table of the session's Configuration ID a valid record of at
   -- most 1,024 octets is refused exactly where 64 are held or its octets do not fit beside the held ones
@@ -281,7 +280,7 @@ pub record Claim (z : Session) (x : Exporter) (ks : List AnsweredCall) (EachCall
   -- DATA ACK, 0 before the first
   pub last : (history_of z ks).ledger.released ≡ last_named (dsn_bits z) z.settings fresh_history 0 ks
   -- of the places that are not released, exactly the first `reached` were written to the active server in its activation
-  pub reached : let h = history_of z ks in (v q : ℕ) → h.delivery.active ≡ active.Server v → h.ledger.released < q
+  pub reached : let h = history_of z ks in (v q : ℕ) → h.delivery.active ≡ Some v → h.ledger.released < q
       → written_in h.ledger.writings q v h.ledger.activation ≡ leb q (h.ledger.released + h.delivery.reached)
   -- the activation began with the first place behind those released before it: what was written first in it, if anything was, is that place
   pub began_with : let l = (history_of z ks).ledger in

@@ -1,5 +1,5 @@
 -- The starred boundary examples (01, "Boundary examples"): each is a row of one table, and the one claim is that every row holds.
-use Rattle.std.specs.Prelude.{◌≡◌, true, false, cond, List, [], ◌∷◌, ℕ, set, replicate}
+use Rattle.std.specs.Prelude.{◌≡◌, true, false, cond, List, [], ◌∷◌, ℕ, set, replicate, Some, None, Ok}
 use Rattle.octets.specs.Answers.{done, dsn_not_acknowledgeable, record_invalid}
 use Rattle.wire.specs.Messages.{layout_of, read_of, part_of}
 use Rattle.wire.specs.Replies.{crane}
@@ -7,13 +7,11 @@ use Rattle.wire.specs.Table.{table_sound}
 use Rattle.wire.specs.Record.{record_answer}
 use Rattle.messages.specs.declared.message.Message.{Message}
 use Rattle.messages.specs.declared.message.Message.TheVariants.{StartAck, Data}
-use Rattle.messages.specs.declared.message.Reading.TheVariants as reading
 use Rattle.session.specs.Limits.{max_servers, max_held, min_store_octets}
 use Rattle.session.specs.Servers.{server, is_agreed}
 use Rattle.session.specs.Steps.{ack, step}
 use Rattle.session.specs.declared.state.Phase.{Phase}
 use Rattle.session.specs.declared.state.Phase.TheVariants.{Closed, Agreed}
-use Rattle.session.specs.declared.state.Active.TheVariants.{Nobody, Server}
 use Rattle.session.specs.declared.state.Settings.{Settings}
 use Rattle.session.specs.declared.state.Delivery.{Delivery}
 use Rattle.session.specs.declared.state.State.{State}
@@ -67,7 +65,7 @@ alone phase count lengths sent next =
     exporter_of (settings_of 1 (replicate max_servers 0))
     (record {
       servers = set (replicate max_servers (server Closed)) 0 (server phase);
-      active = cond (is_agreed phase) (Server 0) Nobody;
+      active = cond (is_agreed phase) (Some 0) None;
       sent = sent;
       reached = sent;
       timer = 0;
@@ -80,7 +78,7 @@ holding count next = alone Agreed count (replicate max_held 2) count next
 
 -- What a row says.
 abbrev pub Holds : Star → Type 0
-Holds (message m part octets) = (layout_of m part ≡ octets) × ((read_of octets ≡ reading.Message m) × (part_of octets ≡ part))
+Holds (message m part octets) = (layout_of m part ≡ octets) × ((read_of octets ≡ Ok m) × (part_of octets ≡ part))
 Holds (table octets) = table_sound octets ≡ true
 Holds (judged t id octets answer) = record_answer t id octets ≡ answer
 Holds (acknowledges count next dsn answer left sent) =

@@ -1,12 +1,10 @@
 -- The history of a session: what can be known of it from the settings, the calls' arguments and their answers (01, "History").
-use Rattle.std.specs.Prelude.{ℕ, zero, suc, ◌+◌, ◌-◌, ◌%◌, Bool, false, ◌&&◌, ◌||◌, cond, List, [], ◌∷◌, ◌++◌, eqb}
+use Rattle.std.specs.Prelude.{ℕ, zero, suc, ◌+◌, ◌-◌, ◌%◌, Bool, false, ◌&&◌, ◌||◌, cond, List, [], ◌∷◌, ◌++◌, eqb, Option, Some, None}
 use Rattle.octets.specs.Answers.{done}
 use Rattle.session.specs.Limits.{max_held}
 use Rattle.session.specs.Servers.{fresh_delivery, changed, settle, with_servers, transition, sent_one, acknowledged, ticked}
 use Rattle.session.specs.Queue.{Entry}
 use Rattle.session.specs.Steps.{modulus, Call, put, next_data, tick, ack, move}
-use Rattle.session.specs.declared.state.Active.{Active}
-use Rattle.session.specs.declared.state.Active.TheVariants as active
 use Rattle.session.specs.declared.state.Settings.{Settings}
 use Rattle.session.specs.declared.state.Delivery.{Delivery}
 
@@ -96,9 +94,9 @@ delivery_after w p (ack v dsn config) l d = acknowledged (ack_place w p l dsn - 
 delivery_after w p (move v m) l d = with_servers d (transition v m d.servers)
 
 -- Place q is written to the server that is active.
-abbrev pub written_by : Active → ℕ → Ledger → Ledger
-written_by active.Nobody q l = l
-written_by (active.Server v) q l = with_writing l (record { place = q; server = v; activation = l.activation })
+abbrev pub written_by : Option ℕ → ℕ → Ledger → Ledger
+written_by None q l = l
+written_by (Some v) q l = with_writing l (record { place = q; server = v; activation = l.activation })
 
 -- A put's record takes the next place; a DATA writes the place that stands "sent" behind the released ones; a DATA ACK releases up to
 -- the place that it names.

@@ -3,8 +3,7 @@
 use Rattle.std.specs.Prelude.{ℕ, zero, suc, ◌+◌, ◌-◌, ◌/◌, ◌%◌, ◌^◌, Bool, false, not, ◌&&◌, ◌||◌, List, [], ◌∷◌, ◌++◌, length, get_or, set, take, drop, replicate, eqb}
 use Rattle.std.specs.Int.Bits.{bit_or}
 use Rattle.octets.specs.Numbers.{put_at}
-use Rattle.session.specs.declared.state.Active.{Active}
-use Rattle.session.specs.declared.state.Active.TheVariants as active
+use Rattle.std.specs.Prelude.{Option, Some, None}
 use Rattle.session.specs.declared.state.Queue.{Queue}
 use Rattle.session.specs.declared.state.State.{State}
 
@@ -78,9 +77,9 @@ abbrev pub with : ℕ → ℕ → ℕ
 with m v = bit_or m (2 ^ v)
 
 -- The set with the active server, if there is one.
-abbrev pub marked_set : Active → ℕ → ℕ
-marked_set active.Nobody m = m
-marked_set (active.Server v) m = with m v
+abbrev pub marked_set : Option ℕ → ℕ → ℕ
+marked_set None m = m
+marked_set (Some v) m = with m v
 
 -- One of the first n servers, other than v, is in the set.
 unfoldable pub has_other : ℕ → ℕ → ℕ → Bool

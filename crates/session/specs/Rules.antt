@@ -11,8 +11,7 @@ use Rattle.session.specs.Examples.{a_table, settings_of, exporter_of}
 use Rattle.session.specs.declared.state.Phase.{Phase}
 use Rattle.session.specs.declared.state.Phase.TheVariants.{Closed, Started, Offered, Agreed, Late}
 use Rattle.session.specs.declared.state.Server as server_of
-use Rattle.session.specs.declared.state.Active.{Active}
-use Rattle.session.specs.declared.state.Active.TheVariants.{Nobody, Server}
+use Rattle.std.specs.Prelude.{Option, Some, None}
 use Rattle.session.specs.declared.state.Settings.{Settings}
 use Rattle.session.specs.declared.state.Delivery.{Delivery}
 use Rattle.session.specs.declared.state.State.{State}
@@ -96,8 +95,8 @@ abbrev pub both : ℕ → ℕ → Phase → Phase → List server_of.Server
 both v u own other = set (set (replicate max_servers (server Closed)) v (server own)) u (server other)
 
 -- Of v and u the one that is active, v having the higher priority.
-abbrev pub active_of : ℕ → ℕ → Phase → Phase → Active
-active_of v u own other = cond (is_agreed own) (Server v) (cond (is_agreed other) (Server u) Nobody)
+abbrev pub active_of : ℕ → ℕ → Phase → Phase → Option ℕ
+active_of v u own other = cond (is_agreed own) (Some v) (cond (is_agreed other) (Some u) None)
 
 -- An exporter of v and u in these phases. It holds one record, which was sent to all servers; where one of the two is active, it counts as
 -- sent and reached, and the timer is the one given, of 10 ticks. S is not due.
@@ -206,7 +205,7 @@ pub record Fresh (p : Settings) (octets : ℕ) (s : State) : Type 0 where
   pub capacity : s.capacity ≡ octets
   pub count : s.queue.count ≡ 0
   pub closed : (u : ℕ) → phase_at s.delivery.servers u ≡ Closed
-  pub active : s.delivery.active ≡ Nobody
+  pub active : s.delivery.active ≡ None
   pub sent : s.delivery.sent ≡ 0
   pub reached : s.delivery.reached ≡ 0
   pub timer : s.delivery.timer ≡ 0

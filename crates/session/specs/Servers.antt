@@ -5,8 +5,7 @@ use Rattle.session.specs.Limits.{max_servers}
 use Rattle.session.specs.declared.state.Phase.{Phase}
 use Rattle.session.specs.declared.state.Phase.TheVariants.{Closed, Started, Offered, Agreed, Late}
 use Rattle.session.specs.declared.state.Server.{Server}
-use Rattle.session.specs.declared.state.Active.{Active}
-use Rattle.session.specs.declared.state.Active.TheVariants as active
+use Rattle.std.specs.Prelude.{Option, Some, None}
 use Rattle.session.specs.declared.state.Settings.{Settings}
 use Rattle.session.specs.declared.state.Delivery.{Delivery}
 
@@ -67,18 +66,18 @@ restart s = server (restarted s.phase)
 -- ---- the choice
 
 -- Server v has a higher priority than the choice so far, or there is none so far.
-abbrev pub beats : List ℕ → ℕ → Active → Bool
-beats priorities v active.Nobody = true
-beats priorities v (active.Server b) = ltb (get_or priorities b 0) (get_or priorities v 0)
+abbrev pub beats : List ℕ → ℕ → Option ℕ → Bool
+beats priorities v None = true
+beats priorities v (Some b) = ltb (get_or priorities b 0) (get_or priorities v 0)
 
 -- The choice so far, or server v where it is agreed and has a higher priority.
-abbrev pub preferred : List ℕ → List Server → ℕ → Active → Active
-preferred priorities servers v best = cond (is_agreed (phase_at servers v) && beats priorities v best) (active.Server v) best
+abbrev pub preferred : List ℕ → List Server → ℕ → Option ℕ → Option ℕ
+preferred priorities servers v best = cond (is_agreed (phase_at servers v) && beats priorities v best) (Some v) best
 
 -- Of the first n servers, the one to be active: agreed, no other agreed one has a higher priority, and of equals it has the lowest
 -- number; nobody where none is agreed.
-unfoldable pub choose : List ℕ → List Server → ℕ → Active
-choose priorities servers zero = active.Nobody
+unfoldable pub choose : List ℕ → List Server → ℕ → Option ℕ
+choose priorities servers zero = None
 choose priorities servers (suc n) = preferred priorities servers n (choose priorities servers n)
 
 -- Among the first n servers v is agreed, no agreed one has a higher priority, and none of a lower number has the same.
@@ -89,24 +88,24 @@ pub record Best (priorities : List ℕ) (servers : List Server) (n v : ℕ) : Ty
   pub lowest : (u : ℕ) → u < v → is_agreed (phase_at servers u) ≡ true → get_or priorities u 0 ≢ get_or priorities v 0
 
 -- What 01 says of the active server ("Exporter"); the law `choice` shows it of `choose`.
-abbrev pub IsChoice : List ℕ → List Server → ℕ → Active → Type 0
-IsChoice priorities servers n active.Nobody = (u : ℕ) → u < n → is_agreed (phase_at servers u) ≡ false
-IsChoice priorities servers n (active.Server v) = Best priorities servers n v
+abbrev pub IsChoice : List ℕ → List Server → ℕ → Option ℕ → Type 0
+IsChoice priorities servers n None = (u : ℕ) → u < n → is_agreed (phase_at servers u) ≡ false
+IsChoice priorities servers n (Some v) = Best priorities servers n v
 
 -- Two choices are the same.
-abbrev pub same_active : Active → Active → Bool
-same_active active.Nobody active.Nobody = true
-same_active active.Nobody (active.Server b) = false
-same_active (active.Server a) active.Nobody = false
-same_active (active.Server a) (active.Server b) = eqb a b
+abbrev pub same_active : Option ℕ → Option ℕ → Bool
+same_active None None = true
+same_active None (Some b) = false
+same_active (Some a) None = false
+same_active (Some a) (Some b) = eqb a b
 
 -- Nobody is chosen.
-abbrev pub is_nobody : Active → Bool
-is_nobody active.Nobody = true
-is_nobody (active.Server v) = false
+abbrev pub is_nobody : Option ℕ → Bool
+is_nobody None = true
+is_nobody (Some v) = false
 
 -- The server to be active by the settings and the servers' phases.
-abbrev pub chosen : Settings → Delivery → Active
+abbrev pub chosen : Settings → Delivery → Option ℕ
 chosen p d = choose p.priorities d.servers p.servers
 
 -- The choice is another than before.
@@ -114,7 +113,7 @@ unfoldable pub changed : Settings → Delivery → Bool
 changed p d = not (same_active (chosen p d) d.active)
 
 -- A new activation of a choice begins with sent, reached and timer 0.
-abbrev pub activated : Delivery → Active → Delivery
+abbrev pub activated : Delivery → Option ℕ → Delivery
 activated d choice = record { servers = d.servers; active = choice; sent = 0; reached = 0; timer = 0 }
 
 -- The choice made anew: where it differs from the active server an activation begins.
@@ -123,7 +122,7 @@ settle p d = cond (changed p d) (activated d (chosen p d)) d
 
 -- Of a fresh exporter: every server is closed, nobody is active, and all counters are 0.
 abbrev pub fresh_delivery : Delivery
-fresh_delivery = record { servers = replicate max_servers (server Closed); active = active.Nobody; sent = 0; reached = 0; timer = 0 }
+fresh_delivery = record { servers = replicate max_servers (server Closed); active = None; sent = 0; reached = 0; timer = 0 }
 
 -- ---- steps
 
@@ -183,9 +182,9 @@ expired p v d =
     (with_counts d 0 d.reached 0)
 
 -- A tick: the timer is 0 where nobody is active or reached is below the threshold; else it grows by 1, and at the duration runs out.
-abbrev pub ticked_for : Settings → Delivery → Active → Delivery
-ticked_for p d active.Nobody = with_counts d d.sent d.reached 0
-ticked_for p d (active.Server v) =
+abbrev pub ticked_for : Settings → Delivery → Option ℕ → Delivery
+ticked_for p d None = with_counts d d.sent d.reached 0
+ticked_for p d (Some v) =
     cond (ltb d.reached p.threshold) (with_counts d d.sent d.reached 0)
     (cond (eqb (d.timer + 1) p.duration) (expired p v d)
     (with_counts d d.sent d.reached (d.timer + 1)))

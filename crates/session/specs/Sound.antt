@@ -1,12 +1,10 @@
 -- The limits of the settings, and the sound states (01, "Exporter").
-use Rattle.std.specs.Prelude.{ℕ, ◌^◌, Bool, ◌&&◌, List, [], ◌∷◌, eqb, leb, ltb, get_or}
+use Rattle.std.specs.Prelude.{ℕ, ◌^◌, Bool, ◌&&◌, List, [], ◌∷◌, eqb, leb, ltb, get_or, Option, Some, None}
 use Rattle.octets.specs.Each.{every, all_of}
 use Rattle.wire.specs.Messages.{max_record_octets}
 use Rattle.session.specs.Limits.{max_servers, max_threshold, min_store_octets, max_store_octets, max_held}
 use Rattle.session.specs.Servers.{same_active, chosen}
 use Rattle.session.specs.Queue.{held_octets, has}
-use Rattle.session.specs.declared.state.Active.{Active}
-use Rattle.session.specs.declared.state.Active.TheVariants as active
 use Rattle.session.specs.declared.state.Settings.{Settings}
 use Rattle.session.specs.declared.state.Delivery.{Delivery}
 use Rattle.session.specs.declared.state.State.{State}
@@ -28,9 +26,9 @@ settings_sound p room =
 -- ---- sound states
 
 -- With nobody active the three counters are 0; otherwise the active server was sent each of the records reached.
-abbrev pub activation_sound : Delivery → List ℕ → Active → Bool
-activation_sound d receivers active.Nobody = eqb d.sent 0 && eqb d.reached 0 && eqb d.timer 0
-activation_sound d receivers (active.Server v) = every d.reached (λ i. has (get_or receivers i 0) v)
+abbrev pub activation_sound : Delivery → List ℕ → Option ℕ → Bool
+activation_sound d receivers None = eqb d.sent 0 && eqb d.reached 0 && eqb d.timer 0
+activation_sound d receivers (Some v) = every d.reached (λ i. has (get_or receivers i 0) v)
 
 -- The held record at place i has at most 1,024 octets, and was sent to existing servers only, by how many there are.
 abbrev pub entry_sound : ℕ → List ℕ → List ℕ → ℕ → Bool

@@ -2,7 +2,7 @@
 -- Messages are taken by meaning; of their encoding a step knows how many bits sequence numbers have (w here), and how long messages are.
 use Rattle.std.specs.Prelude.{ℕ, ◌+◌, ◌-◌, ◌%◌, ◌^◌, Bool, true, false, not, ◌&&◌, ◌||◌, cond, List, [], ◌∷◌, ◌++◌, eqb, leb, ltb, length, get_or, replicate}
 use Rattle.std.proofs.lemmas.List.Edits.{sets}
-use Rattle.octets.specs.Answers.{Check, ◌when◌, judge, done, unsound_state, no_such_server, other_session, message_not_accepted}
+use Rattle.octets.specs.Answers.{Check, ◌when◌, judge, judged, done, unsound_state, no_such_server, other_session, message_not_accepted}
 use Rattle.octets.specs.Answers.{body_length_wrong, out_of_turn, other_configuration, dsn_not_acknowledgeable, output_too_short, no_active_server}
 use Rattle.octets.specs.Answers.{nothing_to_send}
 use Rattle.octets.specs.Answers.{template_not_found, record_invalid, record_too_long, queue_full, store_full, settings_outside_limits, unsound_table}
@@ -11,6 +11,7 @@ use Rattle.wire.specs.Record.{record_valid}
 use Rattle.wire.specs.Messages.{max_record_octets, header_checks, session_of, message_number, header_octets, body_fits, meaning_of}
 use Rattle.wire.specs.Messages as wire
 use Rattle.wire.specs.Replies.{Reply, silent, message, Encoding, size_of, crane, layout}
+use Rattle.numbers.specs.declared.refusal.Refusal.{Refusal}
 use Rattle.messages.specs.declared.message.Message.{Message}
 use Rattle.messages.specs.declared.message.Message.TheVariants.{Start, StartAck, Stop, StopAck, TmplData, FinalTmplDataAck}
 use Rattle.messages.specs.declared.message.Message.TheVariants.{StartNegotiate, StartNegotiateAck, Data, DataAck}
@@ -22,14 +23,11 @@ use Rattle.session.specs.Queue.{held_octets, ring_place, record_at, ring_write, 
 use Rattle.session.specs.Limits.{max_servers, max_held}
 use Rattle.session.specs.Sound.{settings_sound, sound}
 use Rattle.session.specs.declared.state.Phase.{Phase}
-use Rattle.session.specs.declared.state.Active.{Active}
-use Rattle.session.specs.declared.state.Active.TheVariants as active
+use Rattle.std.specs.Prelude.{Option, Some, None, Result}
 use Rattle.session.specs.declared.state.Settings.{Settings}
 use Rattle.session.specs.declared.state.Delivery.{Delivery}
 use Rattle.session.specs.declared.state.Queue.{Queue}
 use Rattle.session.specs.declared.state.State.{State}
-use Rattle.session.specs.declared.state.Made.{Made}
-use Rattle.session.specs.declared.state.Stepped.{Stepped}
 use Rattle.session.specs.declared.state.Wrote.{Wrote}
 
 -- ---- sequence numbers (01, "Exporter")
@@ -108,9 +106,9 @@ received p v m = cond (eqb (form_answer p m) done) (call_of_message v (meaning_o
 -- ---- what is written (01, "Messages" and "Exporter")
 
 -- D: the record was sent to a server other than the active one.
-abbrev pub is_duplicate : Settings → Active → ℕ → Bool
-is_duplicate p active.Nobody m = false
-is_duplicate p (active.Server v) m = has_other p.servers v m
+abbrev pub is_duplicate : Settings → Option ℕ → ℕ → Bool
+is_duplicate p None m = false
+is_duplicate p (Some v) m = has_other p.servers v m
 
 -- S (02, ask 2): it is due, since no record was released in this activation, and the record at place i is the first one held. That record
 -- is then the one with which the activation began.
@@ -206,7 +204,7 @@ send_checks d n = (no_active_server when is_nobody d.active) ∷ (nothing_to_sen
 abbrev pub ack_checks : Settings → Delivery → ℕ → ℕ → ℕ → List Check
 ack_checks p d v config n =
     (no_such_server when leb p.servers v)
-    ∷ (out_of_turn when not (same_active d.active (active.Server v)))
+    ∷ (out_of_turn when not (same_active d.active (Some v)))
     ∷ (other_configuration when not (eqb config p.config))
     ∷ (dsn_not_acknowledgeable when ltb d.reached n)
     ∷ []
@@ -248,7 +246,7 @@ abbrev pub with_delivery : State → Delivery → State
 with_delivery s d = with_due s d s.due
 
 -- The queue after the record at place i was sent to the active server.
-abbrev pub marked_for : Active → Queue → ℕ → Queue
+abbrev pub marked_for : Option ℕ → Queue → ℕ → Queue
 marked_for a q i = marked q i (marked_set a (get_or q.receivers i 0))
 
 -- The state before the choice is made anew. A DATA ACK that releases a record makes S due no more; no other call changes that here.
@@ -351,13 +349,13 @@ octets_written o = layout o.written
 abbrev pub output_after : List ℕ → Outcome → List ℕ
 output_after out o = sets out 0 (octets_written o)
 
--- What a call hands back that writes no message.
-abbrev pub stepped_of : Outcome → Stepped
-stepped_of o = record { answer = o.answer; state = o.state }
+-- What a call answers that writes no message: the state that it leaves, or the refusal; a refused step leaves the state that came.
+abbrev pub stepped_of : Outcome → Result State Refusal
+stepped_of o = judged o.answer o.state
 
--- What a call hands back that may write one: also how many octets it wrote.
-abbrev pub wrote_of : Outcome → Wrote
-wrote_of o = record { answer = o.answer; written = length (octets_written o); state = o.state }
+-- What a call answers that may write one: also how many octets it wrote; a refused step writes none.
+abbrev pub wrote_of : Outcome → Result Wrote Refusal
+wrote_of o = judged o.answer (record { state = o.state; written = length (octets_written o) })
 
 -- ---- set-up (01, "Exporter")
 
@@ -388,11 +386,16 @@ no_settings =
       duration = 0;
     }
 
--- What set-up hands back with a refusal: a state without servers or store, which every call refuses.
+-- What is left where set-up refuses: a state without servers or store, which every call refuses.
 abbrev pub refused_state : State
 refused_state = fresh no_settings 0
 
--- What set-up answers where it refuses.
+-- What set-up is judged by and leaves.
+pub record Made : Type 0 where
+  pub answer : ℕ
+  pub state : State
+
+-- The same where it refuses.
 abbrev pub refused_set_up : Made
 refused_set_up = record { answer = settings_outside_limits; state = refused_state }
 
@@ -402,3 +405,7 @@ set_up p capacity =
     cond (settings_sound p capacity)
     (record { answer = done; state = fresh p capacity })
     refused_set_up
+
+-- What set-up answers: the state that it makes, or the refusal.
+abbrev pub made_of : Made → Result State Refusal
+made_of m = judged m.answer m.state

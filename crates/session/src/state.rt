@@ -1,8 +1,9 @@
 // The exporter's state, passed and returned by value.
 use crate::limits;
+use octets::Refusal;
 
 // A server's phase: closed at first; late after it was too slow.
-#[derive(Clone, Copy)]
+#[derive(Clone, Copy, Debug, PartialEq, Eq)]
 pub enum Phase {
     Closed,
     Started,
@@ -12,17 +13,10 @@ pub enum Phase {
 }
 
 // A server, by its phase.
-#[derive(Clone, Copy)]
+#[derive(Clone, Copy, Debug, PartialEq, Eq)]
 pub struct Server {
     // its server state, as 01 calls it
     pub phase: Phase,
-}
-
-// The active server, if there is one.
-#[derive(Clone, Copy)]
-pub enum Active {
-    Nobody,
-    Server(u8),
 }
 
 // What an exporter is set up with.
@@ -36,7 +30,7 @@ pub struct Settings {
     pub boot: u32,
     // the DSN of the first record
     pub initial: u32,
-    // how many servers there are, 1 to 16; a server's number is below it
+    // how many servers there are, 1 to 16; a server's number is below it (arrays of servers are as long as there can be: fixed memory)
     pub servers: u8,
     // the priority of each server, the greatest number preferred; entries from `servers` on count in no choice
     pub priorities: [u8; limits::SERVER_ENTRIES],
@@ -51,8 +45,8 @@ pub struct Settings {
 pub struct Delivery {
     // each server's phase; entries from the server count on count in no choice and no answer
     pub servers: [Server; limits::SERVER_ENTRIES],
-    // the agreed server of highest priority, the lowest number on ties
-    pub active: Active,
+    // the active server, if there is one: the agreed one of highest priority, the lowest number on ties
+    pub active: Option<u8>,
     // the place in the queue of the next record to send; at most `reached`
     pub sent: usize,
     // how many records at the front of the queue were sent in this activation; at most the queue's count
@@ -61,7 +55,8 @@ pub struct Delivery {
     pub timer: u16,
 }
 
-// The records held: entry i is the record at place i of the queue, and entries from `count` on are unused.
+// The records held: entry i is the record at place i of the queue, and entries from `count` on are unused. Arrays side by side and a count,
+// since the memory of a state is fixed.
 #[derive(Clone, Copy)]
 pub struct Queue {
     // how many records are held, at most 64
@@ -93,32 +88,12 @@ pub struct State {
     pub next: u32,
 }
 
-// What set-up answers.
-#[derive(Clone, Copy)]
-pub struct Made {
-    // the fresh exporter; after a refusal one that every call refuses
-    pub state: State,
-    // 0 or 20
-    pub answer: u8,
-}
-
-// What a call answers that writes no message.
-#[derive(Clone, Copy)]
-pub struct Stepped {
-    // the next state; after a refusal the one that came
-    pub state: State,
-    // 0, or the number of the refusal
-    pub answer: u8,
-}
-
-// What a call answers that may write a message: how many octets it wrote.
+// What an accepted call leaves that may write a message.
 #[derive(Clone, Copy)]
 pub struct Wrote {
-    // the next state; after a refusal the one that came
+    // the next state
     pub state: State,
-    // 0, or the number of the refusal
-    pub answer: u8,
-    // how many octets of the output it wrote, from the first one on; 0 after a refusal
+    // how many octets of the output it wrote, from the first one on
     pub written: usize,
 }
 
@@ -127,8 +102,8 @@ pub struct Wrote {
 pub struct Batch {
     // the next state: what the messages that were written leave
     pub state: State,
-    // 0 where the given number was reached, or the number of the refusal that stopped the batch
-    pub answer: u8,
+    // done where the given number was reached, or the refusal that stopped the batch
+    pub answer: Result<(), Refusal>,
     // how many messages were written
     pub count: usize,
     // how many octets of the output they are, from the first one on

@@ -4,14 +4,18 @@ use Rattle.std.proofs.Common.{◌≡◌, ℕ, ◌+◌, ◌*◌, List, length, ge
 use Rattle.exporter.specs.Replies.{silent, crane}
 use Rattle.session.proofs.Written.{writes_nothing}
 use Rattle.batches.specs.Batches.{ListedCall, Single, SendBatch, batch, batch_of, output_after_batch}
-use Rattle.session.specs.Steps.{put, tick, written, step, stepped_of, wrote_of, output_after}
+use Rattle.std.specs.Prelude.{Result, Ok, Err}
+use Rattle.octets.specs.Answers.{done, judged, Answered, answer_number}
+use Rattle.numbers.specs.declared.refusal.Refusal.{Refusal}
+use Rattle.session.specs.Steps.{put, tick, written, step, octets_written, stepped_of, wrote_of, output_after}
+use Rattle.session.proofs.StepLaws.{refused_number}
+use Rattle.exporter.proofs.Drivers.{same_ok, event_kept}
 use Rattle.session.specs.InOctets.{Event, Put, NextData, Receive, OfferTemplates, Tick, event_step, store_left}
 use Rattle.session.specs.declared.state.Batch.{Batch}
 use Rattle.session.specs.declared.state.State.{State}
-use Rattle.session.specs.declared.state.Stepped.{Stepped}
 use Rattle.session.specs.declared.state.Wrote.{Wrote}
-use Rattle.sessions.specs.Sessions.{Lent, message_at, call_at, event_octets, Progress, progress, exporter_of, added, added_batch}
-use Rattle.sessions.specs.Sessions.{after, played, PlayedTo}
+use Rattle.sessions.specs.Sessions.{Lent, message_at, call_at, event_octets, Progress, progress, exporter_of, added_batch}
+use Rattle.sessions.specs.Sessions.{stepped, wrote, after, played, PlayedTo}
 
 -- ---- the call of an event, by its number
 
@@ -56,25 +60,51 @@ tick_writes_nothing room s store = writes_nothing crane room tick s store refl
 
 module _ (q : Progress) (e : Event) where
   -- a call that writes nothing
-  pub stepped_after : (x : Stepped) (store : List ℕ) → (event_step (exporter_of q) e).written ≡ silent
-      → x ≡ stepped_of (event_step (exporter_of q) e) → store ≡ store_left (exporter_of q) e (event_step (exporter_of q) e)
-      → progress x.state store q.out (added q.total x.answer 0) ≡ after (Single e) q
-  unfolding after
-  stepped_after x store none is left = rw (is, left, none)
+  pub stepped_after : (x : Result State Refusal) (store : List ℕ) → (event_step (exporter_of q) e).written ≡ silent
+      → Answered answer_number x (stepped_of (event_step (exporter_of q) e)) (event_step (exporter_of q) e).answer
+      → store ≡ store_left (exporter_of q) e (event_step (exporter_of q) e)
+      → progress (stepped q.state q.total x).0 store q.out (stepped q.state q.total x).1 ≡ after (Single e) q
+  unfolding after judged
+  stepped_after (Ok s) store none is left =
+      let o = event_step (exporter_of q) e in
+      let z : o.answer ≡ done = sym is.number in
+      let v : s ≡ o.state = same_ok (is.same ∙ ap (λ (n : ℕ). judged n o.state) z) in
+      rw (v, z, left, none) refl
+  stepped_after (Err refusal) store none is left =
+      let o = event_step (exporter_of q) e in
+      let k = event_kept (exporter_of q) e (λ z. refused_number o.state (sym is.same) z) in
+      rw (k.0, is.number, left, none) refl
 
   -- a call that may write a message, and leaves the store
-  pub wrote_after : (x : Wrote) (out : List ℕ) → store_left (exporter_of q) e (event_step (exporter_of q) e) ≡ q.store
-      → x ≡ wrote_of (event_step (exporter_of q) e) → out ≡ output_after q.out (event_step (exporter_of q) e)
-      → progress x.state q.store out (added q.total x.answer x.written) ≡ after (Single e) q
-  unfolding after
-  wrote_after x out kept is left = rw (is, left, kept)
+  pub wrote_after : (x : Result Wrote Refusal) (out : List ℕ) → store_left (exporter_of q) e (event_step (exporter_of q) e) ≡ q.store
+      → Answered answer_number x (wrote_of (event_step (exporter_of q) e)) (event_step (exporter_of q) e).answer
+      → out ≡ output_after q.out (event_step (exporter_of q) e)
+      → progress (wrote q.state q.total x).0 q.store out (wrote q.state q.total x).1 ≡ after (Single e) q
+  unfolding after judged
+  wrote_after (Ok w) out kept is left =
+      let o = event_step (exporter_of q) e in
+      let z : o.answer ≡ done = sym is.number in
+      let whole : Wrote = record { state = o.state; written = length (octets_written o) } in
+      let v : w ≡ whole = same_ok (is.same ∙ ap (λ (n : ℕ). judged n whole) z) in
+      rw (v, z, left, kept) refl
+  wrote_after (Err refusal) out kept is left =
+      let o = event_step (exporter_of q) e in
+      let whole : Wrote = record { state = o.state; written = length (octets_written o) } in
+      let k = event_kept (exporter_of q) e (λ z. refused_number whole (sym is.same) z) in
+      rw (k.0, is.number, left, kept, k.1) refl
 
 -- a batch
 pub batch_after : (q : Progress) (n : ℕ) (x : Batch) (out : List ℕ) → x ≡ batch_of (batch n (length q.out) q.state q.store)
+    → answer_number x.answer ≡ (batch n (length q.out) q.state q.store).answer
     → out ≡ output_after_batch q.out (batch n (length q.out) q.state q.store)
-    → progress x.state q.store out (added_batch q.total x.answer x.written x.count) ≡ after (SendBatch n q.out) q
+    → progress x.state q.store out (added_batch q.total (answer_number x.answer) x.written x.count) ≡ after (SendBatch n q.out) q
 unfolding after
-batch_after q n x out is left = rw (is, left)
+batch_after q n x out is number left = rw (number, is, left) refl
+
+-- the call of the event at a place
+pub event_after : (l : Lent) (at : ℕ) (q next : Progress) (x : ListedCall) → call_at l at q.out ≡ x → next ≡ after x q
+    → next ≡ after (call_at l at q.out) q
+event_after l at q next x call left = left ∙ ap (λ (y : ListedCall). after y q) (sym call)
 
 -- ---- one event more, and the end
 

@@ -1,12 +1,15 @@
 -- A session: the calls that a list of events asks for, one after the other, from a fresh exporter on.
-use Rattle.std.specs.Prelude.{◌≡◌, ℕ, zero, suc, ◌+◌, ◌*◌, ◌/◌, ◌%◌, ◌^◌, cond, List, length, take, drop, replicate, ◌==◌, slice_index, slice_index_or}
+use Rattle.std.specs.Prelude.{◌≡◌, Result, Ok, Err, ℕ, zero, suc, ◌+◌, ◌*◌, ◌/◌, ◌%◌, ◌^◌, cond, List, length, take, drop, replicate, ◌==◌, slice_index, slice_index_or}
 use Rattle.exporter.specs.Steps.{set_up, octets_written, output_after}
 use Rattle.exporter.specs.Claim.{Exporter}
 use Rattle.exporter.specs.InOctets.{Put, NextData, Receive, OfferTemplates, Tick, event_step, store_left}
 use Rattle.batches.specs.Batches.{ListedCall, Single, SendBatch, batch, output_after_batch}
+use Rattle.octets.specs.Answers.{done, refusal_number}
+use Rattle.numbers.specs.declared.refusal.Refusal.{Refusal}
 use Rattle.session.specs.Limits.{max_servers}
 use Rattle.session.specs.declared.state.Settings.{Settings}
 use Rattle.session.specs.declared.state.State.{State}
+use Rattle.session.specs.declared.state.Wrote.{Wrote}
 
 -- Session 7, configuration 1, boot time 3,600 and priorities of 0; the rest is given.
 abbrev pub settings_of : ℕ → ℕ → ℕ → ℕ → Settings
@@ -85,6 +88,16 @@ added total answer written = ((total + answer) % 2 ^ 64 + written) % 2 ^ 64
 -- The same with the count of a batch.
 abbrev pub added_batch : ℕ → ℕ → ℕ → ℕ → ℕ
 added_batch total answer written count = (added total answer written + count) % 2 ^ 64
+
+-- State and sum after a call that writes no message, by its answer: a refused one leaves the state.
+abbrev pub stepped : State → ℕ → Result State Refusal → State × ℕ
+stepped s total (Ok next) = (next, added total done 0)
+stepped s total (Err refusal) = (s, added total (refusal_number refusal) 0)
+
+-- The same after a call that may write one.
+abbrev pub wrote : State → ℕ → Result Wrote Refusal → State × ℕ
+wrote s total (Ok w) = (w.state, added total done w.written)
+wrote s total (Err refusal) = (s, added total (refusal_number refusal) 0)
 
 -- After one more call.
 unfoldable pub after : ListedCall → Progress → Progress

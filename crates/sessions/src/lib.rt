@@ -4,11 +4,12 @@
 #![tactic(auto)]
 
 ghost use Rattle.std.specs.Prelude.{◌≡◌, ◌+◌, ◌≤◌, length};
-ghost use Rattle.sessions.specs.Sessions.{settings_of, event_octets, message_at, added, added_batch, event_count, progress, played};
+ghost use Rattle.sessions.specs.Sessions.{settings_of, event_octets, message_at, added, stepped, wrote, event_count, progress, call_at, after, played};
 ghost use Rattle.sessions.specs.Sessions.{session_end, PlayedTo};
 
 use exporter::limits::SERVER_ENTRIES;
-use exporter::state::{Settings, State};
+use exporter::state::{Settings, State, Wrote};
+use octets::{DONE, Refusal, answer_number};
 
 // The octets of an event: its call, its server, the length of its message modulo 17, and 16 octets, the first of which are the message.
 const EVENT_OCTETS: usize = 19;
@@ -16,7 +17,7 @@ const EVENT_OCTETS: usize = 19;
 // How many lengths a message of an event can have, 0 to 16.
 const MESSAGE_LENGTHS: u8 = 17;
 
-// The calls of events; any other number is a message that is received.
+// The calls of events; any other number is a message that is received. Numbers, as C lends them.
 const PUT: u8 = 0;
 
 const NEXT_DATA: u8 = 1;
@@ -59,15 +60,85 @@ fn message_at(events: &[u8], at: usize) -> &[u8]
 fn add(total: u64, answer: u8, written: usize) -> u64
     ensures { result ≡ added total answer written }
 {
-    let sum = std::num::wrapping_add_u64(total, answer as u64);
-    std::num::wrapping_add_u64(sum, written as u64)
+    total
+        .wrapping_add(answer as u64)
+        .wrapping_add(written as u64)
 }
 
-// The same with the count of a batch's messages.
-fn add_batch(total: u64, answer: u8, written: usize, count: usize) -> u64
-    ensures { result ≡ added_batch total answer written count }
+// Takes what a call left that writes no message: the state, which after a refusal stays; gives the sum with its answer.
+fn take_stepped(state: &mut State, total: u64, left: &Result<State, Refusal>) -> u64
+    ensures state { state.new ≡ (stepped state.old total left.now).0 }
+    ensures sum { result ≡ (stepped state.old total left.now).1 }
 {
-    std::num::wrapping_add_u64(add(total, answer, written), count as u64)
+    match left {
+        Ok(next) => {
+            *state = *next;
+            add(total, DONE, 0)
+        }
+        Err(refusal) => add(total, refusal.number(), 0),
+    }
+}
+
+// The same of a call that may write one: the octets written are added too.
+fn take_wrote(state: &mut State, total: u64, left: &Result<Wrote, Refusal>) -> u64
+    ensures state { state.new ≡ (wrote state.old total left.now).0 }
+    ensures sum { result ≡ (wrote state.old total left.now).1 }
+{
+    match left {
+        Ok(wrote) => {
+            *state = wrote.state;
+            add(total, DONE, wrote.written)
+        }
+        Err(refusal) => add(total, refusal.number(), 0),
+    }
+}
+
+// Makes the call of the event at a place; gives the sum with its answer, octets written and count of a batch.
+fn play_event(
+    state: &mut State,
+    total: u64,
+    store: &mut [u8],
+    table: &[u8],
+    id: u16,
+    r: &[u8],
+    events: &[u8],
+    at: usize,
+    out: &mut [u8],
+) -> u64
+    requires { at + event_octets ≤ length events.now }
+    ensures { progress state.new store.new out.new result
+        ≡ after (call_at (record { table = table.now; template = id; octets = r.now; events = events.now }) at out.old)
+        (progress state.old store.old out.old total) }
+{
+    let server = events[at + 1];
+    match events[at] {
+        PUT => {
+            let left = exporter::put::put(*state, store, table, id, r);
+            take_stepped(state, total, &left)
+        }
+        NEXT_DATA => {
+            let left = exporter::next_data::next_data(*state, store, out);
+            take_wrote(state, total, &left)
+        }
+        TICK => {
+            let left = exporter::tick::tick(*state);
+            take_stepped(state, total, &left)
+        }
+        OFFER => {
+            let left = exporter::offer_templates::offer_templates(*state, server, table, out);
+            take_wrote(state, total, &left)
+        }
+        BATCH => {
+            let left = exporter::batch::send_batch(*state, store, out, server as usize);
+            *state = left.state;
+            add(total, answer_number(&left.answer), left.written).wrapping_add(left.count as u64)
+        }
+        _ => {
+            let m = message_at(events, at);
+            let left = exporter::receive::receive(*state, server, m, out);
+            take_wrote(state, total, &left)
+        }
+    }
 }
 
 // Makes the calls of all events, and sums up the answers, the octets written and the counts of batches.
@@ -86,43 +157,18 @@ fn play(
         (event_count events.now)
         (progress state store.old out.old total)) result store.new out.new }
 {
-    let n = events.len() / EVENT_OCTETS;
-    for i in 0..n {
-        let at = EVENT_OCTETS * i;
-        let server = events[at + 1];
-        match events[at] {
-            PUT => {
-                let left = exporter::put::put(state, store, table, id, r);
-                state = left.state;
-                total = add(total, left.answer, 0);
-            }
-            NEXT_DATA => {
-                let left = exporter::next_data::next_data(state, store, out);
-                state = left.state;
-                total = add(total, left.answer, left.written);
-            }
-            TICK => {
-                let left = exporter::tick::tick(state);
-                state = left.state;
-                total = add(total, left.answer, 0);
-            }
-            OFFER => {
-                let left = exporter::offer_templates::offer_templates(state, server, table, out);
-                state = left.state;
-                total = add(total, left.answer, left.written);
-            }
-            BATCH => {
-                let left = exporter::batch::send_batch(state, store, out, server as usize);
-                state = left.state;
-                total = add_batch(total, left.answer, left.written, left.count);
-            }
-            _ => {
-                let m = message_at(events, at);
-                let left = exporter::receive::receive(state, server, m, out);
-                state = left.state;
-                total = add(total, left.answer, left.written);
-            }
-        }
+    for i in 0..events.len() / EVENT_OCTETS {
+        total = play_event(
+            &mut state,
+            total,
+            store,
+            table,
+            id,
+            r,
+            events,
+            EVENT_OCTETS * i,
+            out,
+        );
     }
     total
 }
@@ -148,8 +194,8 @@ pub extern "C" fn crane_session(
 {
     let made = exporter::set_up::set_up(settings(servers, threshold, duration, initial), store);
     play(
-        made.state,
-        made.answer as u64,
+        made.unwrap_or(exporter::set_up::refused_state()),
+        answer_number(&made) as u64,
         store,
         table,
         id,

@@ -1,5 +1,4 @@
--- Laws of a state by its parts: soundness looks at no others, and the active server of a sound state is one of those that there are at
--- most.
+-- Soundness looks at no other parts of a state, and the active server of a sound state is one of those that there are at most.
 use mathlib.Core.Path.{◌≡◌, refl, sym, ◌∙◌}
 use mathlib.Core.Bool.{true}
 use Prim.Native.Nat.{ℕ, ◌≤◌}
@@ -7,8 +6,7 @@ use native.Mathlib.Omega.{arith}
 use Rattle.session.specs.Limits.{max_servers}
 use Rattle.session.specs.Servers.{chosen}
 use Rattle.session.specs.Sound.{sound}
-use Rattle.session.specs.declared.state.Active.{Active}
-use Rattle.session.specs.declared.state.Active.TheVariants.{Nobody, Server}
+use Rattle.std.specs.Prelude.{Option, Some, None}
 use Rattle.session.specs.declared.state.Settings.{Settings}
 use Rattle.session.specs.declared.state.Delivery.{Delivery}
 use Rattle.session.specs.declared.state.State.{State}
@@ -25,9 +23,9 @@ parts_of s = refl
 pub choice_below : (p : Settings) (d : Delivery) (m : ℕ) → d.active ≡ chosen p d → p.servers ≤ m → Below m d.active
 choice_below p d m e l = go d.active refl
   where
-    go : (a : Active) → d.active ≡ a → Below m a
-    go Nobody k = tt
-    go (Server v) k = omega (arith, chosen_below p.priorities d.servers p.servers v (sym e ∙ k))
+    go : (a : Option ℕ) → d.active ≡ a → Below m a
+    go None k = tt
+    go (Some v) k = omega (arith, chosen_below p.priorities d.servers p.servers v (sym e ∙ k))
 
 -- a sound state's active server is one of those that an exporter has at most
 pub active_below : (s : State) → sound s ≡ true → Below max_servers s.delivery.active

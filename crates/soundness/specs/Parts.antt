@@ -1,31 +1,22 @@
--- A state by its parts, for functions that are handed the parts. These definitions render no rule of 01.
-use Rattle.std.specs.Prelude.{ℕ, ◌<◌, Bool, false, List, []}
-use Rattle.session.specs.declared.state.Active.{Active}
-use Rattle.session.specs.declared.state.Active.TheVariants as active
-use Rattle.session.specs.declared.state.Settings.{Settings}
-use Rattle.session.specs.declared.state.Delivery.{Delivery}
+-- What soundness looks at of a state, and what the active server of a sound one is known by. These definitions render no rule of 01.
+use Rattle.std.specs.Prelude.{ℕ, ◌<◌, false, [], Option, Some, None}
 use Rattle.session.specs.declared.state.State.{State}
 
--- A state, by its parts. Where a function does not look at S being due, the template IDs or the next DSN, false, [] and 0 stand for them.
-abbrev pub state_of : Settings → ℕ → Delivery → Bool → ℕ → List ℕ → List ℕ → List ℕ → ℕ → ℕ → State
-state_of p capacity d due count lengths templates receivers start next =
-    record {
-      settings = p;
-      capacity = capacity;
-      delivery = d;
-      due = due;
-      queue = record { count = count; lengths = lengths; templates = templates; receivers = receivers };
-      start = start;
-      next = next;
-    }
-
 -- The active server, if there is one, has a number below n.
-abbrev pub Below : ℕ → Active → Type 0
-Below n active.Nobody = Unit {0}
-Below n (active.Server v) = v < n
+abbrev pub Below : ℕ → Option ℕ → Type 0
+Below n None = Unit {0}
+Below n (Some v) = v < n
 
--- The parts of a state that soundness looks at.
+-- A state without what soundness does not look at: whether S is due, the template IDs and the next DSN.
 abbrev pub parts_in : State → State
 parts_in s =
     let q = s.queue in
-    state_of s.settings s.capacity s.delivery false q.count q.lengths [] q.receivers s.start 0
+    record {
+      settings = s.settings;
+      capacity = s.capacity;
+      delivery = s.delivery;
+      due = false;
+      queue = record { count = q.count; lengths = q.lengths; templates = []; receivers = q.receivers };
+      start = s.start;
+      next = 0;
+    }

@@ -1,10 +1,11 @@
 // Set-up: a fresh exporter.
 ghost use Rattle.std.specs.Prelude.{◌≡◌, length};
-ghost use Rattle.session.specs.Steps.{fresh, no_settings, refused_set_up, set_up};
+ghost use Rattle.octets.specs.Answers.{Answered, answer_number};
+ghost use Rattle.session.specs.Steps.{fresh, no_settings, refused_state, set_up, made_of};
 
-use octets::Answer;
+use octets::Refusal;
 use session::limits::{MAX_HELD, SERVER_ENTRIES};
-use session::state::{Active, Delivery, Made, Phase, Queue, Server, Settings, State};
+use session::state::{Delivery, Phase, Queue, Server, Settings, State};
 
 // A state that holds nothing.
 fn fresh_state(p: Settings, capacity: usize) -> State
@@ -13,28 +14,24 @@ fn fresh_state(p: Settings, capacity: usize) -> State
     let closed = Server {
         phase: Phase::Closed,
     };
-    let servers = [closed; SERVER_ENTRIES];
     let empty = [0u16; MAX_HELD];
-    let active = Active::Nobody;
-    let delivery = Delivery {
-        servers,
-        active,
-        sent: 0,
-        reached: 0,
-        timer: 0,
-    };
-    let queue = Queue {
-        count: 0,
-        lengths: empty,
-        templates: empty,
-        receivers: empty,
-    };
     State {
         settings: p,
         capacity,
-        delivery,
+        delivery: Delivery {
+            servers: [closed; SERVER_ENTRIES],
+            active: None,
+            sent: 0,
+            reached: 0,
+            timer: 0,
+        },
         due: true,
-        queue,
+        queue: Queue {
+            count: 0,
+            lengths: empty,
+            templates: empty,
+            receivers: empty,
+        },
         start: 0,
         next: p.initial,
     }
@@ -44,43 +41,32 @@ fn fresh_state(p: Settings, capacity: usize) -> State
 fn no_settings() -> Settings
     ensures { result ≡ no_settings }
 {
-    let priorities = [0u8; SERVER_ENTRIES];
     Settings {
         session: 0,
         config: 0,
         boot: 0,
         initial: 0,
         servers: 0,
-        priorities,
+        priorities: [0u8; SERVER_ENTRIES],
         threshold: 0,
         duration: 0,
     }
 }
 
-// What set-up answers to settings or a store outside the limits: 20, and a state that every call refuses. For a caller whose settings have
-// a further limit, as those of a tape have.
-pub fn refused_set_up() -> Made
-    ensures { result ≡ refused_set_up }
+// A state that every call refuses, for a caller to whom set-up gave none, or whose settings have a further limit, as those of a tape have.
+pub fn refused_state() -> State
+    ensures { result ≡ refused_state }
 {
-    let state = fresh_state(no_settings(), 0);
-    Made {
-        answer: Answer::SETTINGS_OUTSIDE_LIMITS,
-        state,
-    }
+    fresh_state(no_settings(), 0)
 }
 
-// Makes an exporter over a store, whose length it keeps. Refused with 20 for a store or a setting outside the limits, and then with a state
-// that every call refuses.
-pub fn set_up(p: Settings, store: &[u8]) -> Made
-    ensures { result ≡ set_up p (length store.now) }
+// Makes an exporter over a store, whose length it keeps. Refused with 20 for a store or a setting outside the limits.
+pub fn set_up(p: Settings, store: &[u8]) -> Result<State, Refusal>
+    ensures { let m = set_up p (length store.now) in Answered answer_number result (made_of m) m.answer }
 {
     let capacity = store.len();
-    if crate::sound::settings_sound(p, capacity) {
-        let state = fresh_state(p, capacity);
-        return Made {
-            answer: Answer::DONE,
-            state,
-        };
+    if !crate::sound::settings_sound(&p, capacity) {
+        return Err(Refusal::SettingsOutsideLimits);
     }
-    refused_set_up()
+    Ok(fresh_state(p, capacity))
 }

@@ -1,24 +1,27 @@
 -- Laws of template tables: IDs that rise all differ; what a sound block and a sound table say of their numbers; a found template's key
 -- blocks lie within the table. The code's loops over blocks and keys cite them.
-use mathlib.Core.Path.{◌≡◌, refl, sym, ap}
+use mathlib.Core.Path.{◌≡◌, refl, ap}
 use mathlib.Core.Bool.{Bool, true, false, cond, not, ◌&&◌}
 use mathlib.Core.List.{List, [], ◌∷◌, ◌++◌}
 use Prim.Native.Nat.{ℕ, zero, suc, ◌+◌, ◌-◌, ◌*◌, ◌≤◌, ◌<◌}
 use native.Mathlib.Nat.{le_refl}
 use native.Mathlib.Omega.{arith}
 use native.Mathlib.Numerals.{add-one}
+use borrow.Author.Rules.{rules}
 use borrow.Author.Tests.{ltb-true, ltb-false, leb-true, leb-false, eqb-true, ne_eqb}
 use lib.Dec.{ltb, leb, eqb, lit≤}
 use lib.ListN.{length}
-use Rattle.octets.specs.Answers.{Check, ◌when◌, judge, done, unsound_table, template_not_found}
-use Rattle.octets.proofs.Judging.{kept}
+use Rattle.std.specs.Prelude.{Ok, Err}
+use Rattle.octets.specs.Answers.{Check, ◌when◌, judge, judged, done, unsound_table, template_not_found, answer_number, refusal_of}
+use Rattle.octets.proofs.Judging.{judged_number}
 use Rattle.octets.specs.Each.{every, absent, differ}
 use Rattle.tables.specs.Table.{key_octets, block_head_octets, max_keys, max_table_octets, max_templates, table_head_octets, flags_sound}
 use Rattle.tables.specs.Table.{key_count, block_flags, block_length, block_octets, block_end, head_sound, block_sound, block_at, blocks_sound}
 use Rattle.tables.specs.Table.{templates_differ, table_flags, template_count, table_sound, is_missing, template_index, template_at}
-use Rattle.tables.specs.Table.{template_of, template_checks, find_answer, find_of, locate_of, found_answer}
+use Rattle.tables.specs.Table.{template_of, template_checks, find_answer, find_of, locate_of}
 use Rattle.tables.specs.declared.table.Template.{Template}
-use Rattle.tables.specs.declared.table.Found.TheVariants.{At, Refused}
+use Rattle.numbers.specs.declared.refusal.Refusal.{Refusal}
+use Rattle.numbers.specs.declared.refusal.Refusal.TheVariants.{UnsoundTable, TemplateNotFound}
 use Rattle.octets.proofs.Each.{clause_first, clause_rest, every_at, every_step, every_intro, and_left, and_right}
 
 -- ---- IDs that rise all differ
@@ -148,46 +151,56 @@ template_few t id e m = (found_head t id e m).few
 
 -- in a sound table finding is locating
 pub find_located : (t : List ℕ) (id : ℕ) → table_sound t ≡ true → find_of t id ≡ locate_of t id
-unfolding find_of locate_of
+unfolding find_of locate_of judged refusal_of
 find_located t id e = rw e (go (is_missing t id))
   where
-    go : (b : Bool) → cond (eqb (cond b template_not_found done) done) (At (template_of t id)) (Refused (cond b template_not_found done))
-        ≡ cond b (Refused template_not_found) (At (template_of t id))
+    go : (b : Bool) → judged (cond b template_not_found done) (template_of t id) ≡ cond b (Err TemplateNotFound) (Ok (template_of t id))
     go true = refl
     go false = refl
 
+-- in an unsound table it is refused
+pub find_unsound : (t : List ℕ) (id : ℕ) → table_sound t ≡ false → find_of t id ≡ Err UnsoundTable
+unfolding find_of judged refusal_of
+find_unsound t id e = rw e refl
+
 -- the answer number of finding a template is the number that it is judged by
-pub found_number : (t : List ℕ) (id : ℕ) → found_answer (find_of t id) ≡ find_answer t id
+pub found_number : (t : List ℕ) (id : ℕ) → answer_number (find_of t id) ≡ find_answer t id
 unfolding find_of
-found_number t id = kept found_answer (At (template_of t id)) Refused refl (λ a. refl) (find_answer t id)
+found_number t id = go (table_sound t) (is_missing t id)
+  where
+    go : (s b : Bool) → let n = judge ((unsound_table when not s) ∷ (template_not_found when b) ∷ []) in
+        answer_number (judged n (template_of t id)) ≡ n
+    go false b = judged_number 21 (template_of t id) (lit≤ tt)
+    go true true = judged_number 15 (template_of t id) (lit≤ tt)
+    go true false = judged_number 0 (template_of t id) (lit≤ tt)
 
 -- a template that is found: the table is sound, and this is its template with the ID
-pub found : (t : List ℕ) (id : ℕ) (m : Template) → find_of t id ≡ At m
+pub found : (t : List ℕ) (id : ℕ) (m : Template) → find_of t id ≡ Ok m
     → (table_sound t ≡ true) × ((is_missing t id ≡ false) × (template_of t id ≡ m))
-unfolding find_of
+unfolding find_of judged refusal_of
 found t id m = go (table_sound t) (is_missing t id)
   where
-    go : (s b : Bool) → let answer = judge ((unsound_table when not s) ∷ (template_not_found when b) ∷ []) in
-        cond (eqb answer done) (At (template_of t id)) (Refused answer) ≡ At m → (s ≡ true) × ((b ≡ false) × (template_of t id ≡ m))
-    go true true e = let z : ◌≡◌ {A = ℕ} 0 1 = cc in absurd (omega arith)
+    go : (s b : Bool) → judged (judge ((unsound_table when not s) ∷ (template_not_found when b) ∷ [])) (template_of t id) ≡ Ok m
+        → (s ≡ true) × ((b ≡ false) × (template_of t id ≡ m))
+    go true true e = absurd (search rules)
     go true false e = (refl, (refl, cc))
-    go false b e = let z : ◌≡◌ {A = ℕ} 0 1 = cc in absurd (omega arith)
+    go false b e = absurd (search rules)
 
 -- its key blocks lie within the table
-pub found_within : (t : List ℕ) (id : ℕ) (m : Template) → find_of t id ≡ At m → m.keys + key_octets * m.count ≤ length t
+pub found_within : (t : List ℕ) (id : ℕ) (m : Template) → find_of t id ≡ Ok m → m.keys + key_octets * m.count ≤ length t
 found_within t id m e =
     let f = found t id m e in
     rw f.1.1 at (template_within t id f.0 f.1.0)
 
--- a refusal is not 0, and is the answer of whatever is judged further
-pub not_found : (t : List ℕ) (id a : ℕ) → find_of t id ≡ Refused a
-    → (eqb a done ≡ false) × ((more : List Check) → judge (template_checks t id ++ more) ≡ a)
-unfolding find_of
-not_found t id a = go (table_sound t) (is_missing t id)
+-- a refusal is the answer of whatever is judged further
+pub not_found : {A : Type 0} (t : List ℕ) (id : ℕ) (refusal : Refusal) → find_of t id ≡ Err refusal
+    → (more : List Check) (value : A) → judged (judge (template_checks t id ++ more)) value ≡ Err refusal
+unfolding find_of judged refusal_of
+not_found {A = A} t id refusal = go (table_sound t) (is_missing t id)
   where
     go : (s b : Bool) → let checks = (unsound_table when not s) ∷ (template_not_found when b) ∷ [] in
-        cond (eqb (judge checks) done) (At (template_of t id)) (Refused (judge checks)) ≡ Refused a
-        → (eqb a done ≡ false) × ((more : List Check) → judge (checks ++ more) ≡ a)
-    go true true e = let h : template_not_found ≡ a = cc in (rw (sym h) refl, λ more. h)
-    go true false e = let z : ◌≡◌ {A = ℕ} 0 1 = cc in absurd (omega arith)
-    go false b e = let h : unsound_table ≡ a = cc in (rw (sym h) refl, λ more. h)
+        judged (judge checks) (template_of t id) ≡ Err refusal → (more : List Check) (value : A)
+        → judged (judge (checks ++ more)) value ≡ Err refusal
+    go true true e more value = cc
+    go true false e more value = absurd (search rules)
+    go false b e more value = cc

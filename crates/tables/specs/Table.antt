@@ -1,15 +1,16 @@
 -- The template table: its layout, which octets are a sound one, the octet order of its record data, and the template with an ID (01,
 -- "Template table"; 02, ask 6).
 use Rattle.std.specs.Prelude.{ℕ, zero, suc, ◌+◌, ◌-◌, ◌*◌, ◌/◌, Bool, cond, not, ◌&&◌, List, [], ◌∷◌, eqb, leb, length, get_or}
-use Rattle.octets.specs.Answers.{Check, ◌when◌, judge, done, unsound_table, template_not_found}
+use Rattle.std.specs.Prelude.{Result, Ok, Err}
+use Rattle.octets.specs.Answers.{Check, ◌when◌, judge, judged, unsound_table, template_not_found}
 use Rattle.octets.specs.Numbers.{uint_at}
 use Rattle.octets.specs.Each.{every, first_from, differ, all_of}
 use Rattle.numbers.specs.declared.OctetOrder.{OctetOrder}
 use Rattle.numbers.specs.declared.OctetOrder.TheVariants.{BigEndian, LittleEndian}
+use Rattle.numbers.specs.declared.refusal.Refusal.{Refusal}
+use Rattle.numbers.specs.declared.refusal.Refusal.TheVariants.{TemplateNotFound}
 use Rattle.field_types.specs.FieldTypes.{is_type}
 use Rattle.tables.specs.declared.table.Template.{Template}
-use Rattle.tables.specs.declared.table.Found.{Found}
-use Rattle.tables.specs.declared.table.Found.TheVariants.{At, Refused}
 
 -- ---- the key block at a place
 
@@ -227,14 +228,9 @@ abbrev pub find_answer : List ℕ → ℕ → ℕ
 find_answer t id = judge (template_checks t id)
 
 -- Finding answers the template or the refusal.
-unfoldable pub find_of : List ℕ → ℕ → Found
-find_of t id = cond (eqb (find_answer t id) done) (At (template_of t id)) (Refused (find_answer t id))
+unfoldable pub find_of : List ℕ → ℕ → Result Template Refusal
+find_of t id = judged (find_answer t id) (template_of t id)
 
 -- The same in a table that is sound: the template, or 15.
-unfoldable pub locate_of : List ℕ → ℕ → Found
-locate_of t id = cond (is_missing t id) (Refused template_not_found) (At (template_of t id))
-
--- The number of what finding answers: 0, or the refusal's.
-abbrev pub found_answer : Found → ℕ
-found_answer (At m) = done
-found_answer (Refused a) = a
+unfoldable pub locate_of : List ℕ → ℕ → Result Template Refusal
+locate_of t id = cond (is_missing t id) (Err TemplateNotFound) (Ok (template_of t id))

@@ -1,14 +1,14 @@
 // Template tables: whether octets are a sound one, the octet order of its record data, and where a template's key blocks lie.
 ghost use Rattle.std.specs.Prelude.{◌≡◌, true, [], ◌∷◌, ◌+◌, ◌*◌, ◌≤◌, ◌<◌, eqb, length, get_or};
-ghost use Rattle.octets.specs.Answers.{Answered};
+ghost use Rattle.octets.specs.Answers.{Answered, answer_number};
 ghost use Rattle.octets.specs.Each.{every, absent, all_of};
 ghost use Rattle.tables.specs.Table.{max_table_octets, max_keys, key_octets, block_head_octets, configuration_id, key_id, key_at, key_sound};
 ghost use Rattle.tables.specs.Table.{keys_sound, keys_differ, keys_at, padded, block_end, head_sound, padding_sound, block_sound, block_at};
 ghost use Rattle.tables.specs.Table.{id_at, blocks_sound, templates_differ, flags_sound, order_of, table_order, table_sound, template_at};
-ghost use Rattle.tables.specs.Table.{locate_of, find_answer, find_of, found_answer};
+ghost use Rattle.tables.specs.Table.{locate_of, find_answer, find_of};
 
 use field_types::field_type::FieldType;
-use octets::{Answer, OctetOrder};
+use octets::{OctetOrder, Refusal};
 
 // The most octets that a table has.
 pub const MAX_TABLE_OCTETS: usize = 16384;
@@ -41,24 +41,17 @@ pub const KEY_TYPE_AT: usize = 4;
 pub const KEY_ATTRIBUTES_AT: usize = 8;
 
 // The key blocks of a template in a table: where the first begins, and how many there are.
-#[derive(Clone, Copy)]
+#[derive(Clone, Copy, Debug, PartialEq, Eq)]
 pub struct Template {
     pub keys: usize,
     pub count: usize,
-}
-
-// What finding a template answers.
-#[derive(Clone, Copy)]
-pub enum Found {
-    At(Template),
-    Refused(u8),
 }
 
 // The Configuration ID of a table.
 pub fn configuration_id(t: &[u8]) -> u8
     ensures { result ≡ configuration_id t.now }
 {
-    octets::get_u8(t, 0)
+    octets::get(t, 0)
 }
 
 // Whether a table has such flags: 0 or 1.
@@ -68,7 +61,8 @@ pub fn flags_sound(flags: u8) -> bool
     flags <= BIG_ENDIAN
 }
 
-// The octet order of record data under flags: big-endian under 1, little-endian under all others.
+// The octet order of record data under flags: big-endian under 1, little-endian under all others. A function and no `From`, since
+// `OctetOrder` is another crate's.
 pub fn order_of(flags: u8) -> OctetOrder
     ensures { result ≡ order_of flags }
 {
@@ -82,7 +76,7 @@ pub fn order_of(flags: u8) -> OctetOrder
 pub fn table_order(t: &[u8]) -> OctetOrder
     ensures { result ≡ table_order t.now }
 {
-    order_of(octets::get_u8(t, FLAGS_AT))
+    order_of(octets::get(t, FLAGS_AT))
 }
 
 // Whether the key block at a place is sound by itself.
@@ -103,12 +97,10 @@ fn keys_sound(t: &[u8], keys: usize, n: usize) -> bool
     requires { (keys + key_octets * n ≤ length t.now) × (n ≤ max_keys) }
     ensures { result ≡ keys_sound t.now keys n }
 {
-    let mut k: usize = 0;
-    while k < n {
+    for k in 0..n {
         if !key_sound(t, keys + KEY_OCTETS * k) {
             return false;
         }
-        k += 1;
     }
     true
 }
@@ -127,12 +119,10 @@ fn keys_rise(t: &[u8], keys: usize, n: usize) -> bool
     requires { (keys + key_octets * n ≤ length t.now) × (n ≤ max_keys) }
     ensures { result ≡ true → keys_differ t.now keys n ≡ true }
 {
-    let mut k: usize = 1;
-    while k < n {
+    for k in 1..n {
         if key_id(t, keys + KEY_OCTETS * k) <= key_id(t, keys + KEY_OCTETS * (k - 1)) {
             return false;
         }
-        k += 1;
     }
     true
 }
@@ -143,12 +133,10 @@ fn key_is_new(t: &[u8], keys: usize, k: usize) -> bool
     ensures { result ≡ absent (λ j. key_id t.now (key_at keys j)) k (key_id t.now (key_at keys k)) }
 {
     let id = key_id(t, keys + KEY_OCTETS * k);
-    let mut j: usize = 0;
-    while j < k {
+    for j in 0..k {
         if key_id(t, keys + KEY_OCTETS * j) == id {
             return false;
         }
-        j += 1;
     }
     true
 }
@@ -161,12 +149,10 @@ fn keys_differ(t: &[u8], keys: usize, n: usize) -> bool
     if keys_rise(t, keys, n) {
         return true;
     }
-    let mut k: usize = 0;
-    while k < n {
+    for k in 0..n {
         if !key_is_new(t, keys, k) {
             return false;
         }
-        k += 1;
     }
     true
 }
@@ -176,14 +162,7 @@ fn all_zero(t: &[u8], at: usize, n: usize) -> bool
     requires { at + n ≤ length t.now }
     ensures { result ≡ every n (λ i. eqb (get_or t.now (at + i) 0) 0) }
 {
-    let mut i: usize = 0;
-    while i < n {
-        if 0 < t[at + i] {
-            return false;
-        }
-        i += 1;
-    }
-    true
+    t[at..at + n].iter().all(|octet| *octet == 0)
 }
 
 // A length brought up to a multiple of 4.
@@ -206,6 +185,7 @@ fn template_at(t: &[u8], at: usize) -> Template
 }
 
 // Where the template block at a place ends, by its key count and description length.
+#[tactic(auto, unfolding(crate::specs::Table::block_end))]
 fn block_end(t: &[u8], at: usize) -> usize
     requires { (at ≤ max_table_octets) × (at + block_head_octets ≤ length t.now) }
     ensures { result ≡ block_end t.now at }
@@ -266,13 +246,11 @@ fn id_is_new(t: &[u8], n: usize, id: u16) -> bool
     ensures { result ≡ absent (id_at t.now) n id }
 {
     let mut at = TABLE_HEAD_OCTETS;
-    let mut i: usize = 0;
-    while i < n {
+    for i in 0..n {
         if crate::within::u16_at(t, at) == id {
             return false;
         }
         at = block_end(t, at);
-        i += 1;
     }
     true
 }
@@ -284,8 +262,7 @@ fn blocks_sound(t: &[u8], n: usize) -> bool
         ∷ eqb (block_at t.now n) (length t.now) ∷ []) }
 {
     let mut at = TABLE_HEAD_OCTETS;
-    let mut i: usize = 0;
-    while i < n {
+    for i in 0..n {
         if !block_sound(t, at) {
             return false;
         }
@@ -293,7 +270,6 @@ fn blocks_sound(t: &[u8], n: usize) -> bool
             return false;
         }
         at = block_end(t, at);
-        i += 1;
     }
     at == t.len()
 }
@@ -305,10 +281,10 @@ pub fn table_sound(t: &[u8]) -> bool
     if MAX_TABLE_OCTETS < t.len() {
         return false;
     }
-    if !flags_sound(octets::get_u8(t, FLAGS_AT)) {
+    if !flags_sound(octets::get(t, FLAGS_AT)) {
         return false;
     }
-    let count = octets::get_u16(t, 2) as usize;
+    let count = octets::get::<u16>(t, 2) as usize;
     if count < 1 {
         return false;
     }
@@ -319,30 +295,28 @@ pub fn table_sound(t: &[u8]) -> bool
 }
 
 // The template with an ID in a table that is sound, or 15.
-fn locate(t: &[u8], id: u16) -> Found
+fn locate(t: &[u8], id: u16) -> Result<Template, Refusal>
     requires { table_sound t.now ≡ true }
     ensures { result ≡ locate_of t.now id }
 {
     let count = crate::within::u16_at(t, 2) as usize;
     let mut at = TABLE_HEAD_OCTETS;
-    let mut i: usize = 0;
-    while i < count {
+    for i in 0..count {
         if crate::within::u16_at(t, at) == id {
-            return Found::At(template_at(t, at));
+            return Ok(template_at(t, at));
         }
         at = block_end(t, at);
-        i += 1;
     }
-    Found::Refused(Answer::TEMPLATE_NOT_FOUND)
+    Err(Refusal::TemplateNotFound)
 }
 
 // The template with an ID, or 21 for an unsound table, 15 for an ID that it does not have.
-pub fn find_template(t: &[u8], id: u16) -> Found
-    ensures { Answered found_answer result (find_of t.now id) (find_answer t.now id) }
+pub fn find_template(t: &[u8], id: u16) -> Result<Template, Refusal>
+    ensures { Answered answer_number result (find_of t.now id) (find_answer t.now id) }
 {
     // `&t[..]` lends the table anew: to pass the parameter on would copy it first.
     if table_sound(&t[..]) {
         return locate(t, id);
     }
-    Found::Refused(Answer::UNSOUND_TABLE)
+    Err(Refusal::UnsoundTable)
 }

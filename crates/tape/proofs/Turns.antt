@@ -1,7 +1,7 @@
 -- Laws of turns: what a call writes fits the output, and what opening, a table and a call give is what the definitions say. The functions'
 -- proofs hand over the facts that they have, in the order of the code.
 use mathlib.Core.Path.{◌≡◌, refl, sym, ap, ◌∙◌}
-use mathlib.Core.Bool.{cond, ◌&&◌}
+use mathlib.Core.Bool.{true, false, cond, ◌&&◌, false≢true}
 use mathlib.Core.List.{List, []}
 use Prim.Native.Nat.{ℕ, ◌-◌, ◌≤◌}
 use native.Mathlib.Nat.{le_refl, le_trans}
@@ -11,22 +11,27 @@ use lib.Dec.{eqb}
 use lib.ListN.{length, take, length-take}
 use lib.Seq.{sets, sets-eq, take-append_seam}
 use Rattle.octets.specs.Answers.{done}
-use Rattle.session.specs.Steps.{Outcome, octets_written, wrote_of, output_after}
+use Rattle.std.specs.Prelude.{Result, Ok, Err, is_err}
+use Rattle.std.specs.Result.{result_unwrap_or}
+use Rattle.octets.specs.Answers.{Answered, answer_number}
+use Rattle.numbers.specs.declared.refusal.Refusal.{Refusal}
+use Rattle.session.specs.Steps.{Outcome, octets_written, made_of, refused_state, output_after}
+use Rattle.session.proofs.StepLaws.{refused_number, judged_refusal}
+use Rattle.exporter.proofs.Drivers.{made_left}
 use Rattle.session.proofs.Written.{octets_fit_lem}
 use Rattle.session.specs.InOctets.{Event, Put, NextData, Receive, OfferTemplates, LineDown, Tick, room_of}
 use Rattle.session.specs.declared.state.State.{State}
-use Rattle.session.specs.declared.state.Made.{Made}
-use Rattle.session.specs.declared.state.Wrote.{Wrote}
 use Rattle.contents.specs.Tape.{event_count, kind_at, server_at, body_length, body_at, octets_at, body_of, tape_sound}
 use Rattle.lines.specs.Lines.{line_of, tape_refused, line_octets}
 use Rattle.tape.specs.Replay.{output_buffer_octets, output_buffer, tape_settings}
 use Rattle.events.specs.Events.{set_up_by, table_answer, event_call}
 use Rattle.tape.specs.Turns.{opened, index_of, next_body, next_end, table_turn, next_call, call_turn, played, CallReady, Lined}
 use Rattle.tape.specs.Turns.{Turned}
-use Rattle.events.specs.Events.{effect, Gives, Called}
+use Rattle.events.specs.Events.{effect, left_of, Gives, Called}
+use Rattle.events.specs.declared.Left.{Left}
 use Rattle.tape.specs.declared.replay.Progress.{Progress}
 use Rattle.tape.specs.declared.replay.Turn.{Turn}
-use Rattle.events.proofs.Events.{by_kind, same_call}
+use Rattle.events.proofs.Events.{by_kind, same_call, set_up_by_refused}
 
 -- ---- what a call writes fits
 
@@ -45,7 +50,7 @@ call_room kind server b out table =
     (le_refl _) (le_refl _)
 
 -- what a call says that it wrote fits the output
-pub called_fits : (table : List ℕ) (s : State) (store out : List ℕ) (kind server : ℕ) (b : List ℕ) (w : Wrote)
+pub called_fits : (table : List ℕ) (s : State) (store out : List ℕ) (kind server : ℕ) (b : List ℕ) (w : Left)
     (store_after out_after : List ℕ)
     → Called table s store out (event_call kind server b out) w store_after out_after → w.written ≤ length out
 called_fits table s store out kind server b w store_after out_after called =
@@ -61,20 +66,47 @@ pub take_sets : (out vs : List ℕ) → length vs ≤ length out → take (lengt
 take_sets out vs h = ap (take (length vs)) (sets-eq vs out 0 (omega arith)) ∙ take-append_seam vs _
 
 -- what a call wrote is what stands in the output
-pub call_wrote : (o : Outcome) (w : Wrote) (out out_after : List ℕ) → length (octets_written o) ≤ length out → w ≡ wrote_of o
+pub call_wrote : (o : Outcome) (w : Left) (out out_after : List ℕ) → length (octets_written o) ≤ length out → w ≡ left_of o
     → out_after ≡ output_after out o → take w.written out_after ≡ octets_written o
 call_wrote o w out out_after h e f = rw (e, f) (take_sets out (octets_written o) h)
 
 -- ---- turns
 
-pub open_turn : (t store : List ℕ) (made : Made) (at left : ℕ) (line text : List ℕ) (len : ℕ) (text_after : List ℕ)
-    → made ≡ set_up_by (body_of t 0) (length store) → at ≡ body_at t 1
-    → line ≡ cond (tape_sound t) (line_of 0 made.answer []) tape_refused
-    → left ≡ cond (tape_sound t && eqb made.answer done) (event_count t - 1) 0
+pub open_turn : (t store : List ℕ) (state : State) (answer at left : ℕ) (line text : List ℕ) (len : ℕ) (text_after : List ℕ)
+    → state ≡ (set_up_by (body_of t 0) (length store)).state → answer ≡ (set_up_by (body_of t 0) (length store)).answer → at ≡ body_at t 1
+    → line ≡ cond (tape_sound t) (line_of 0 answer []) tape_refused
+    → left ≡ cond (tape_sound t && eqb answer done) (event_count t - 1) 0
     → len ≡ length line → text_after ≡ sets text 0 line
-    → Lined (opened t store) text (record { len = len; progress = record { state = made.state; left = left; at = at } }) text_after
+    → Lined (opened t store) text (record { len = len; progress = record { state = state; left = left; at = at } }) text_after
 unfolding opened
-open_turn t store made at left line text len text_after e f g h k l = rw (l, k, h, g, f, e) (refl, refl)
+open_turn t store state answer at left line text len text_after s n f g h k l = rw (l, k, h, g, f, n, s) (refl, refl)
+
+-- the state after set-up, or the refused one, is what the settings of event 0 leave
+pub opened_left : (b : List ℕ) (room : ℕ) (x : Result State Refusal)
+    → Answered answer_number x (made_of (set_up_by b room)) (set_up_by b room).answer
+    → result_unwrap_or x refused_state ≡ (set_up_by b room).state
+opened_left b room x a = made_left (set_up_by b room) x (set_up_by_refused b room) a
+
+pub opened_state : (t b : List ℕ) (room : ℕ) (made : Result State Refusal) (refused state : State) → b ≡ body_of t 0
+    → Answered answer_number made (made_of (set_up_by b room)) (set_up_by b room).answer → refused ≡ refused_state
+    → state ≡ result_unwrap_or made refused → state ≡ (set_up_by (body_of t 0) room).state
+opened_state t b room made refused state e a r s = rw (s, r, ← e) (opened_left b room made a)
+
+-- the number of what is answered: 0 beside a value, and never beside a refusal
+pub ok_number : {A : Type 0} {x : Result A Refusal} {n : ℕ} {v : A} → answer_number x ≡ n → x ≡ Ok v → n ≡ done
+ok_number a e = sym a ∙ ap answer_number e
+
+pub err_number : {A : Type 0} {x : Result A Refusal} {n : ℕ} {refusal : Refusal} → answer_number x ≡ n → x ≡ Err refusal → n ≡ done → ⊥
+err_number {refusal = refusal} a e z = refused_number (tt {0}) (judged_refusal (tt {0}) refusal) (ap answer_number (sym e) ∙ a ∙ z)
+
+-- whether it is a refusal says whether it is done
+pub is_ok_number : {A : Type 0} {n : ℕ} (x : Result A Refusal) → answer_number x ≡ n → is_err x ≡ false → n ≡ done
+is_ok_number (Ok v) a e = sym a
+is_ok_number (Err refusal) a e = absurd (false≢true (sym e))
+
+pub is_err_number : {A : Type 0} {n : ℕ} (x : Result A Refusal) → answer_number x ≡ n → is_err x ≡ true → n ≡ done → ⊥
+is_err_number (Ok v) a e = absurd (false≢true e)
+is_err_number {A = A} (Err refusal) a e = err_number {A = A} {x = Err refusal} {refusal = refusal} a refl
 
 pub table_turn_lem : (t : List ℕ) (r : Progress) (answer at left : ℕ) (text : List ℕ) (len : ℕ) (text_after : List ℕ)
     → at ≡ next_end t r → answer ≡ table_answer (tape_settings t) (body_of t 1) → left ≡ cond (eqb answer done) (r.left - 1) 0
@@ -82,7 +114,7 @@ pub table_turn_lem : (t : List ℕ) (r : Progress) (answer at left : ℕ) (text 
     → Lined (table_turn t r []) text (record { len = len; progress = record { state = r.state; left = left; at = at } }) text_after
 table_turn_lem t r answer at left text len text_after f g h k l = rw (l, k, h, g, f) (refl, refl)
 
-pub call_turn_lem : (t : List ℕ) (r : Progress) (store out text : List ℕ) (i kind server : ℕ) (b table : List ℕ) (w : Wrote)
+pub call_turn_lem : (t : List ℕ) (r : Progress) (store out text : List ℕ) (i kind server : ℕ) (b table : List ℕ) (w : Left)
     (store_after out_after text_after : List ℕ) (len at : ℕ)
     → CallReady t r i b at out text → table ≡ body_of t 1 → kind ≡ kind_at t i → server ≡ server_at t i
     → Called table r.state store out (event_call kind server b out) w store_after out_after
@@ -96,7 +128,7 @@ call_turn_lem t r store out text i kind server b table w store_after out_after t
     let buffer : length output_buffer ≡ output_buffer_octets = refl in
     let same = same_call table r.state store kind server b out output_buffer ready.lent in
     let f : Gives r.state store out (event_call kind server b output_buffer table) w store_after out_after =
-    (called.0 ∙ ap wrote_of same.0, (called.1.0 ∙ same.1, called.1.1 ∙ ap (output_after out) same.0)) in
+    (called.0 ∙ ap left_of same.0, (called.1.0 ∙ same.1, called.1.1 ∙ ap (output_after out) same.0)) in
     let k : Gives r.state store out e w store_after out_after = rw (ek, es, ready.body, et, ready.place) at f in
     let n =
     le_trans (effect_fits r.state store e)

@@ -5,7 +5,7 @@ ghost use Rattle.contents.specs.Tape.{event_count};
 ghost use Rattle.tape.specs.Turns.{opened, table_turn, call_turn, played, TableReady, CallReady, turn_of, Lined, Turned};
 
 use exporter::state::State;
-use octets::Answer;
+use octets::answer_number;
 
 // How many octets the calls of a replay are lent as output.
 pub const OUTPUT_OCTETS: usize = 16392;
@@ -23,7 +23,7 @@ pub struct Progress {
     pub at: usize,
 }
 
-// What a turn answers: how many octets its line has, and the progress after it.
+// What a turn answers: how many octets its line has, which stands in the lent text (fixed memory), and the progress after it.
 #[derive(Clone, Copy)]
 pub struct Turn {
     pub len: usize,
@@ -36,21 +36,21 @@ pub fn open_tape(tape: &[u8], store: &[u8], text: &mut [u8; LINE_OCTETS]) -> Tur
         × (text.new ≡ sets text.old 0 (opened tape.now store.now).line) }
 {
     let made = events::set_up(contents::body(tape, 0), store);
-    let state = made.state;
+    let state = made.unwrap_or(exporter::set_up::refused_state());
     let at = contents::body_at(tape, 1);
-    let part = &mut text[..];
-    if contents::tape_answer(tape) != Answer::DONE {
-        let len = lines::write_refused(part);
+    let line = &mut text[..];
+    if contents::check_tape(tape).is_err() {
+        let len = lines::write_refused(line);
         return Turn {
             len,
             progress: Progress { state, left: 0, at },
         };
     }
-    let len = lines::write_line(0, made.answer, &tape[..0], part);
-    let mut left: usize = 0;
-    if made.answer == Answer::DONE {
-        left = octets::saturating_sub(contents::event_count(tape) as usize, 1);
-    }
+    let len = lines::write_line(0, answer_number(&made), &[], line);
+    let left = match made {
+        Ok(_) => (contents::event_count(tape) as usize).saturating_sub(1),
+        Err(_) => 0,
+    };
     Turn {
         len,
         progress: Progress { state, left, at },
@@ -63,16 +63,19 @@ fn take_table(r: Progress, tape: &[u8], at: usize, text: &mut [u8]) -> Turn
     ensures { Lined (table_turn tape.now r []) text.old result text.new }
 {
     let settings = events::settings_of(contents::body(tape, 0));
-    let answer = events::table_answer(settings, contents::body(tape, 1));
-    let len = lines::write_line(1, answer, &tape[..0], text);
-    let state = r.state;
-    let mut left: usize = 0;
-    if answer == Answer::DONE {
-        left = r.left - 1;
-    }
+    let checked = events::check_table(settings, contents::body(tape, 1));
+    let len = lines::write_line(1, answer_number(&checked), &[], text);
+    let left = match checked {
+        Ok(()) => r.left - 1,
+        Err(_) => 0,
+    };
     Turn {
         len,
-        progress: Progress { state, left, at },
+        progress: Progress {
+            state: r.state,
+            left,
+            at,
+        },
     }
 }
 
@@ -105,15 +108,15 @@ fn take_call<'a>(
     let table = contents::body(tape, 1);
     let kind = contents::kind_at(tape, i);
     let server = contents::server_at(tape, i);
-    let old = r.state;
-    let wrote = events::call(old, kind, server, b, table, store, out);
-    let written = wrote.written;
-    let len = lines::write_line(i as usize, wrote.answer, &out[..written], text);
-    let state = wrote.state;
-    let left = r.left - 1;
+    let called = events::call(r.state, kind, server, b, table, store, out);
+    let len = lines::write_line(i as usize, called.answer, &out[..called.written], text);
     Turn {
         len,
-        progress: Progress { state, left, at },
+        progress: Progress {
+            state: called.state,
+            left: r.left - 1,
+            at,
+        },
     }
 }
 

@@ -1,14 +1,14 @@
 // A tick of the timer.
-ghost use Rattle.std.specs.Prelude.{◌≡◌, cond, ◌<◌};
+ghost use Rattle.std.specs.Prelude.{◌≡◌, ◌<◌};
+ghost use Rattle.octets.specs.Answers.{Answered, answer_number};
 ghost use Rattle.session.specs.Steps.{tick_step, stepped_of};
-ghost use Rattle.ticking.specs.Clocks.{Steady, running_clock, clock_of, tick_change_by};
+ghost use Rattle.ticking.specs.Clocks.{running_clock, clock_for, tick_change_by};
 
-use octets::Answer;
+use octets::Refusal;
 use servers::change::Change;
-use session::limits::SERVER_ENTRIES;
-use session::state::{Active, Delivery, Phase, Server, Settings, State, Stepped};
+use session::state::{Delivery, Phase, Settings, State};
 
-// The timer after a tick, and whether it has run out.
+// The timer after a tick, and whether it has run out. No `Option`: the ticks are stored either way.
 #[derive(Clone, Copy)]
 pub struct Clock {
     // its ticks, 0 where it has run out
@@ -41,119 +41,54 @@ fn run_clock(p: Settings, d: Delivery) -> Clock
     }
 }
 
-// The clock after a tick: as it was in a state that is not sound, and 0 while nobody is active.
-fn tick_clock(sound: bool, p: Settings, d: Delivery) -> Clock
-    requires { Steady sound p d }
-    ensures { result ≡ clock_of sound p d }
+// The clock after a tick: 0 while nobody is active.
+fn tick_clock(p: Settings, d: Delivery) -> Clock
+    requires { d.timer < p.duration }
+    ensures { result ≡ clock_for p d d.active }
 {
-    if !sound {
-        return Clock {
-            timer: d.timer,
-            expired: false,
-        };
-    }
-    let active = d.active;
-    if servers::is_nobody(active) {
-        return Clock {
+    match d.active {
+        None => Clock {
             timer: 0,
             expired: false,
-        };
+        },
+        Some(_) => run_clock(p, d),
     }
-    run_clock(p, d)
-}
-
-// One of two arrays of servers.
-fn pick_servers(
-    first: bool,
-    x: [Server; SERVER_ENTRIES],
-    y: [Server; SERVER_ENTRIES],
-) -> [Server; SERVER_ENTRIES]
-    ensures { result ≡ cond first x y }
-{
-    if first {
-        return x;
-    }
-    y
-}
-
-// One of two choices.
-fn pick_active(first: bool, x: Active, y: Active) -> Active
-    ensures { result ≡ cond first x y }
-{
-    if first {
-        return x;
-    }
-    y
-}
-
-// One of two numbers.
-fn pick_place(first: bool, x: usize, y: usize) -> usize
-    ensures { result ≡ cond first x y }
-{
-    if first {
-        return x;
-    }
-    y
-}
-
-// One of two small numbers.
-fn pick_number(first: bool, x: u8, y: u8) -> u8
-    ensures { result ≡ cond first x y }
-{
-    if first {
-        return x;
-    }
-    y
 }
 
 // What a tick changes, by the clock after it. Where the timer has run out the next agreed server takes over, or all is sent again if there
-// is none. Where it has not, the choice is among 0 servers, so it is nobody, and every field is stored on one path.
-fn tick_change(sound: bool, p: Settings, d: Delivery, due: bool, clock: Clock) -> Change
-    ensures { result ≡ tick_change_by sound p d due clock }
+// is none.
+fn tick_change(p: Settings, d: Delivery, due: bool, clock: Clock) -> Change
+    ensures { result ≡ tick_change_by p d due clock }
 {
-    let priorities = p.priorities;
-    let servers = d.servers;
-    let active = d.active;
-    let late = servers::with_phase(servers, servers::number_of(active), Phase::Late);
-    let choice = servers::choose_server(priorities, late, pick_number(clock.expired, p.servers, 0));
-    let switched = !servers::is_nobody(choice);
-    let delivery = Delivery {
-        servers: pick_servers(switched, late, servers),
-        active: pick_active(switched, choice, active),
-        sent: pick_place(clock.expired, 0, d.sent),
-        reached: pick_place(switched, 0, d.reached),
-        timer: clock.timer,
-    };
+    let mut delivery = d;
+    delivery.timer = clock.timer;
+    if !clock.expired {
+        return Change { delivery, due };
+    }
+    delivery.sent = 0;
+    let late = servers::with_phase(d.servers, servers::number_of(d.active), Phase::Late);
+    let choice = servers::choose_server(p.priorities, late, p.servers);
+    if choice.is_none() {
+        return Change { delivery, due };
+    }
+    delivery.servers = late;
+    delivery.active = choice;
+    delivery.reached = 0;
     Change {
-        answer: pick_number(sound, Answer::DONE, Answer::UNSOUND_STATE),
-        written: 0,
         delivery,
-        due: switched | due,
+        due: true,
     }
 }
 
 // One tick passes. Refused with 1.
-pub fn tick(s: State) -> Stepped
-    ensures { result ≡ stepped_of (tick_step s) }
+pub fn tick(mut s: State) -> Result<State, Refusal>
+    ensures { let o = tick_step s in Answered answer_number result (stepped_of o) o.answer }
 {
-    let p = s.settings;
-    let d = s.delivery;
-    let lengths = s.queue.lengths;
-    let receivers = s.queue.receivers;
-    let sound = soundness::sound::parts_sound(
-        p,
-        s.capacity,
-        d,
-        s.queue.count,
-        &lengths,
-        &receivers,
-        s.start,
-    );
-    let clock = tick_clock(sound, p, d);
-    let change = tick_change(sound, p, d, s.due, clock);
-    let state = servers::change::apply(s, change);
-    Stepped {
-        answer: change.answer,
-        state,
+    if !soundness::sound::is_sound(&s) {
+        return Err(Refusal::UnsoundState);
     }
+    let clock = tick_clock(s.settings, s.delivery);
+    let change = tick_change(s.settings, s.delivery, s.due, clock);
+    servers::change::apply(&mut s, change);
+    Ok(s)
 }

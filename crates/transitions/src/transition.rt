@@ -1,22 +1,20 @@
 // Transitions of a server: by a message, by an offer of templates, by a line that is down.
-ghost use Rattle.std.specs.Prelude.{◌≡◌, true, [], length};
-ghost use Rattle.octets.specs.Answers.{judge};
+ghost use Rattle.std.specs.Prelude.{◌≡◌, true, [], length, not, leb, ◌∷◌};
+ghost use Rattle.octets.specs.Answers.{◌when◌, judge, judged, Answered, answer_number, unsound_state, no_such_server};
 ghost use Rattle.wire.specs.Messages.{Placed};
 ghost use Rattle.wire.specs.Replies.{crane, layout};
-ghost use Rattle.session.specs.Servers.{offer, agree, transition, with_servers};
+ghost use Rattle.session.specs.Servers.{phase_at, offer, agree, transition, with_servers};
+ghost use Rattle.session.specs.Sound.{sound};
 ghost use Rattle.session.specs.Steps.{move, step, reply_to, output_after, wrote_of, negotiate_checks, turn_checks};
-ghost use Rattle.servers.specs.Changes.{change_of};
-ghost use Rattle.soundness.specs.Parts.{state_of};
 ghost use Rattle.transitions.specs.Moves.{transition_of, table_fits, reply_of};
 
-use octets::Answer;
-use servers::change::Change;
-use session::limits::{MAX_HELD, SERVER_ENTRIES};
+use octets::Refusal;
+use session::limits::SERVER_ENTRIES;
 use session::state::{Delivery, Phase, Server, Settings, State, Wrote};
-use wire::message::{Message, Written};
+use wire::message::Message;
 
 // What can move a server: START, STOP, START NEGOTIATE, an offer of templates, a line that is down, and FINAL TMPL DATA ACK with its
-// Configuration ID. A message that its form refuses, with the number of that refusal, moves nothing.
+// Configuration ID. A message that its form refuses moves nothing.
 #[derive(Clone, Copy)]
 pub enum Move {
     Start,
@@ -25,93 +23,105 @@ pub enum Move {
     Offer,
     Down,
     Agree(u8),
-    Malformed(u8),
-}
-
-// What a transition writes: a message, with the lent table for TMPL DATA, or nothing.
-#[derive(Clone, Copy)]
-pub enum Reply {
-    Message(Message),
-    Nothing,
+    Malformed(Refusal),
 }
 
 // START NEGOTIATE is judged 9.
-fn negotiate_answer(phase: Phase) -> u8
-    ensures { result ≡ judge (negotiate_checks phase) }
+fn check_negotiate(phase: Phase) -> Result<(), Refusal>
+    ensures { result ≡ judged (judge (negotiate_checks phase)) tt }
 {
     if servers::is_closed(phase) {
-        return Answer::OUT_OF_TURN;
+        return Err(Refusal::OutOfTurn);
     }
-    Answer::DONE
+    Ok(())
 }
 
 // An offer is judged 21, 9.
-fn offer_answer(p: Settings, table: &[u8], phase: Phase) -> u8
-    ensures { result ≡ judge (turn_checks p (offer table.now) phase) }
+fn check_offer(p: Settings, table: &[u8], phase: Phase) -> Result<(), Refusal>
+    ensures { result ≡ judged (judge (turn_checks p (offer table.now) phase)) tt }
 {
     if !soundness::session_table::is_sessions(p, table) {
-        return Answer::UNSOUND_TABLE;
+        return Err(Refusal::UnsoundTable);
     }
     if !servers::can_offer(phase) {
-        return Answer::OUT_OF_TURN;
+        return Err(Refusal::OutOfTurn);
     }
-    Answer::DONE
+    Ok(())
 }
 
 // FINAL TMPL DATA ACK is judged 9, 10.
-fn agree_answer(p: Settings, config: u8, phase: Phase) -> u8
-    ensures { result ≡ judge (turn_checks p (agree config) phase) }
+fn check_agree(p: Settings, config: u8, phase: Phase) -> Result<(), Refusal>
+    ensures { result ≡ judged (judge (turn_checks p (agree config) phase)) tt }
 {
     if !servers::is_offered(phase) {
-        return Answer::OUT_OF_TURN;
+        return Err(Refusal::OutOfTurn);
     }
     if config != p.config {
-        return Answer::OTHER_CONFIGURATION;
+        return Err(Refusal::OtherConfiguration);
     }
-    Answer::DONE
+    Ok(())
 }
 
 // A transition of a server in this phase is judged by its own refusals, but for the output's length.
-fn turn_answer(p: Settings, m: Move, table: &[u8], phase: Phase) -> u8
-    ensures { result ≡ judge (turn_checks p (transition_of table.now m) phase) }
+fn check_turn(p: Settings, m: Move, table: &[u8], phase: Phase) -> Result<(), Refusal>
+    ensures { result ≡ judged (judge (turn_checks p (transition_of table.now m) phase)) tt }
 {
     match m {
-        Move::Start => Answer::DONE,
-        Move::Stop => Answer::DONE,
-        Move::Negotiate => negotiate_answer(phase),
-        Move::Offer => offer_answer(p, table, phase),
-        Move::Down => Answer::DONE,
-        Move::Agree(config) => agree_answer(p, config, phase),
-        Move::Malformed(a) => a,
+        Move::Start => Ok(()),
+        Move::Stop => Ok(()),
+        Move::Negotiate => check_negotiate(phase),
+        Move::Offer => check_offer(p, table, phase),
+        Move::Down => Ok(()),
+        Move::Agree(config) => check_agree(p, config, phase),
+        Move::Malformed(refusal) => Err(refusal),
     }
 }
 
+// A transition of server v is judged 1, 2, then by its own refusals, but for the output's length.
+fn check_move(s: &State, v: u8, m: Move, table: &[u8]) -> Result<(), Refusal>
+    ensures { result ≡ judged (judge ((unsound_state when not (sound s.now)) ∷ (no_such_server when leb s.now.settings.servers v)
+        ∷ turn_checks s.now.settings (transition_of table.now m) (phase_at s.now.delivery.servers v))) tt }
+{
+    if !soundness::sound::is_sound(s) {
+        return Err(Refusal::UnsoundState);
+    }
+    if s.settings.servers <= v {
+        return Err(Refusal::NoSuchServer);
+    }
+    check_turn(
+        s.settings,
+        m,
+        table,
+        servers::phase_at(s.delivery.servers, v),
+    )
+}
+
 // The message that a transition writes, if it writes one.
-fn reply_of(p: Settings, m: Move) -> Reply
+fn reply_of(p: Settings, m: Move) -> Option<Message>
     ensures { result ≡ reply_of p m }
 {
     let session = p.session;
     let boot_time = p.boot;
     match m {
-        Move::Start => Reply::Message(Message::StartAck { session, boot_time }),
-        Move::Stop => Reply::Message(Message::StopAck { session }),
-        Move::Negotiate => Reply::Message(Message::StartNegotiateAck { session }),
-        Move::Offer => Reply::Message(Message::TmplData { session }),
-        Move::Down => Reply::Nothing,
-        Move::Agree(_) => Reply::Nothing,
-        Move::Malformed(_) => Reply::Nothing,
+        Move::Start => Some(Message::StartAck { session, boot_time }),
+        Move::Stop => Some(Message::StopAck { session }),
+        Move::Negotiate => Some(Message::StartNegotiateAck { session }),
+        Move::Offer => Some(Message::TmplData { session }),
+        Move::Down => None,
+        Move::Agree(_) => None,
+        Move::Malformed(_) => None,
     }
 }
 
 // Writes the message that answers a transition, or offers the templates; some have none.
-fn write_reply(p: Settings, m: Move, table: &[u8], out: &mut [u8]) -> Written
+fn write_reply(p: Settings, m: Move, table: &[u8], out: &mut [u8]) -> Result<usize, Refusal>
     requires { table_fits (transition_of table.now m) ≡ true }
     ensures { Placed (layout (reply_to p (transition_of table.now m))) out.old result out.new }
 {
     let reply = reply_of(p, m);
     match reply {
-        Reply::Message(message) => wire::write::write_message(message, table, out),
-        Reply::Nothing => Written::Octets(0),
+        Some(message) => wire::write::write_message(message, table, out),
+        None => Ok(0),
     }
 }
 
@@ -141,68 +151,20 @@ fn move_delivery(d: Delivery, v: u8, m: Move) -> Delivery
     next
 }
 
-// What a transition changes, by the parts of a state that soundness looks at, and whether S is due.
-fn move_change<'a>(
-    p: Settings,
-    capacity: usize,
-    d: Delivery,
-    due: bool,
-    count: usize,
-    lengths: &'a [u16; MAX_HELD],
-    receivers: &'a [u16; MAX_HELD],
-    start: usize,
+// A transition of server v. Refused with 1, 2, then by its own refusals, then with 12 where its message does not fit the output.
+pub fn move_server(
+    mut s: State,
     v: u8,
     m: Move,
     table: &[u8],
     out: &mut [u8],
-) -> Change
-    ensures { let s = state_of p capacity d due count lengths.now [] receivers.now start 0 in
-        let o = step crane (length out.old) (move v (transition_of table.now m)) s [] in
-        (result ≡ change_of o) × (out.new ≡ output_after out.old o) }
-{
-    if !soundness::sound::parts_sound(p, capacity, d, count, lengths, receivers, start) {
-        return servers::change::refuse_change(Answer::UNSOUND_STATE, d, due);
-    }
-    if p.servers <= v {
-        return servers::change::refuse_change(Answer::NO_SUCH_SERVER, d, due);
-    }
-    let servers = d.servers;
-    let answer = turn_answer(p, m, table, servers::phase_at(servers, v));
-    if answer != Answer::DONE {
-        return servers::change::refuse_change(answer, d, due);
-    }
-    let reply = write_reply(p, m, table, out);
-    match reply {
-        Written::Octets(n) => servers::change::settle_change(p, move_delivery(d, v, m), due, n),
-        Written::Refused(a) => servers::change::refuse_change(a, d, due),
-    }
-}
-
-// A transition of server v. Refused with 1, 2, then by its own refusals, then with 12 where its message does not fit the output.
-pub fn move_server(s: State, v: u8, m: Move, table: &[u8], out: &mut [u8]) -> Wrote
+) -> Result<Wrote, Refusal>
     ensures { let o = step crane (length out.old) (move v (transition_of table.now m)) s [] in
-        (result ≡ wrote_of o) × (out.new ≡ output_after out.old o) }
+        Answered answer_number result (wrote_of o) o.answer × (out.new ≡ output_after out.old o) }
 {
-    let p = s.settings;
-    let d = s.delivery;
-    let change = move_change(
-        p,
-        s.capacity,
-        d,
-        s.due,
-        s.queue.count,
-        &s.queue.lengths,
-        &s.queue.receivers,
-        s.start,
-        v,
-        m,
-        table,
-        out,
-    );
-    let state = servers::change::apply(s, change);
-    Wrote {
-        answer: change.answer,
-        written: change.written,
-        state,
-    }
+    check_move(&s, v, m, table)?;
+    let written = write_reply(s.settings, m, table, out)?;
+    let change = servers::change::settle_change(s.settings, move_delivery(s.delivery, v, m), s.due);
+    servers::change::apply(&mut s, change);
+    Ok(Wrote { state: s, written })
 }

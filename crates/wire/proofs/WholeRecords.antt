@@ -11,6 +11,7 @@ use borrow.Author.Tests.{lt-ltb, eq-eqb, ltb-true, ltb-false}
 use lib.Dec.{ltb}
 use lib.ListN.{length, take, drop, length-append, length-drop}
 use lib.Seq.{sets, sets-eq, length-sets, length-take-le, drop-append-le, drop-drop, drop_at, take-append_seam}
+use Rattle.std.specs.Prelude.{Ok}
 use Rattle.octets.specs.Answers.{done}
 use Rattle.octets.specs.Each.{all_of}
 use Rattle.octets.proofs.Stores.{sets_append}
@@ -23,7 +24,6 @@ use Rattle.records.specs.Walk.{step_of, walk_start, visited, laid_out, enabled_f
 use Rattle.records.proofs.Records.{field_at_more}
 use Rattle.records.proofs.WalkLaws.{ends_with_enough, found_valid, valid_opens, walk_opened, opened_types, opened_laid}
 use Rattle.records.specs.declared.walk.Field.{Field}
-use Rattle.appending.specs.declared.append.Appended.TheVariants as appended
 use Rattle.appending.proofs.ExactFields.{field_exact}
 use Rattle.appending.proofs.ReadBack.{front_holds, reads_back_lem, append_accepts}
 use Rattle.wire.specs.Demand2.{TypedValue, Output, fits, octets_for, record_octets, append_all, fields_of}
@@ -46,10 +46,10 @@ stored_part l vs i h =
 -- values from a place on
 append_all_lem : (order : OctetOrder) (values : List TypedValue) (at : ℕ) (out : List ℕ) → all_of (map fits values) ≡ true
     → at + length (record_octets order values) ≤ length out
-    → append_all order values (appended.Next at) out
-    ≡ record { answer = appended.Next (at + length (record_octets order values)); out = sets out at (record_octets order values) }
+    → append_all order values (Ok at) out
+    ≡ record { answer = Ok (at + length (record_octets order values)); out = sets out at (record_octets order values) }
 unfolding append_all record_octets
-append_all_lem order [] at out h room = ap (λ (k : ℕ). record { answer = appended.Next k; out = out }) (sym (add-zero at))
+append_all_lem order [] at out h room = ap (λ (k : ℕ). record { answer = Ok k; out = out }) (sym (add-zero at))
 append_all_lem order (v ∷ values) at out h room =
     let field = octets_for order v in
     let rest = record_octets order values in
@@ -59,14 +59,14 @@ append_all_lem order (v ∷ values) at out h room =
     let l = length-sets out at field in
     rw (a.0, a.1)
     (append_all_lem order values (at + length field) (sets out at field) (clause_rest (fits v) (all_of (map fits values)) h) (omega arith)
-    ∙ ap (λ (k : ℕ). record { answer = appended.Next k; out = sets (sets out at field) (at + length field) rest }) (omega arith)
-    ∙ ap (λ (s : List ℕ). record { answer = appended.Next (at + length (field ++ rest)); out = s }) (sets_append field out at rest))
+    ∙ ap (λ (k : ℕ). record { answer = Ok k; out = sets (sets out at field) (at + length field) rest }) (omega arith)
+    ∙ ap (λ (s : List ℕ). record { answer = Ok (at + length (field ++ rest)); out = s }) (sets_append field out at rest))
 
 pub records_made : RecordsMade
 records_made order values at out h room =
     let r = record_octets order values in
     append_all_lem order values at out h room
-    ∙ ap (λ (s : List ℕ). record { answer = appended.Next (at + length r); out = s }) (sets-eq r out at room)
+    ∙ ap (λ (s : List ℕ). record { answer = Ok (at + length r); out = s }) (sets-eq r out at room)
 
 -- ---- read back
 
@@ -229,7 +229,7 @@ record_of t id values found given =
 pub records_read_back : RecordsReadBack
 records_read_back t id values at out found given room =
     let octets = record_octets (table_order t) values in
-    let part : take (length octets) (drop at (append_all (table_order t) values (appended.Next at) out).out) ≡ octets =
+    let part : take (length octets) (drop at (append_all (table_order t) values (Ok at) out).out) ≡ octets =
     ap (λ (o : Output). take (length octets) (drop at o.out)) (append_all_lem (table_order t) values at out given.fit room)
     ∙ stored_part out octets at room in
     subst (RecordOf t id values) (sym part) (record_of t id values found given)

@@ -1,7 +1,8 @@
 -- Demand 2: what is written reads back as the same meaning: messages, single fields, whole records (01, "Messages", "Template table"; 02,
 -- ask 6).
-use Rattle.std.specs.Prelude.{ℕ, ◌+◌, ◌≤◌, ◌≡◌, Bool, true, List, [], ◌∷◌, ◌++◌, map, length, take, drop}
+use Rattle.std.specs.Prelude.{ℕ, ◌+◌, ◌≤◌, ◌≡◌, Bool, true, List, [], ◌∷◌, ◌++◌, map, length, take, drop, Result, Ok, Err, None}
 use Rattle.octets.specs.Answers.{done}
+use Rattle.numbers.specs.declared.refusal.Refusal.{Refusal}
 use Rattle.octets.specs.Each.{all_of}
 use Rattle.numbers.specs.declared.OctetOrder.{OctetOrder}
 use Rattle.tables.specs.Table.{table_order, template_of, find_answer}
@@ -10,14 +11,9 @@ use Rattle.records.specs.Walk.{value_at, integer_of, integer_at, step_of, walk_s
 use Rattle.records.specs.declared.walk.Value.{Value}
 use Rattle.records.specs.declared.walk.Value.TheVariants as held
 use Rattle.records.specs.declared.walk.Field.{Field}
-use Rattle.records.specs.declared.walk.Opened.TheVariants as opened
-use Rattle.records.specs.declared.walk.Step.TheVariants as step
 use Rattle.appending.specs.Append.{value_fits, prefix_octets, field_octets, append_answer, append_of, append_out}
-use Rattle.appending.specs.declared.append.Appended.{Appended}
-use Rattle.appending.specs.declared.append.Appended.TheVariants as appended
 use Rattle.messages.specs.Messages.{layout_of, read_of, part_of, part_at, write_out, carried, carried_at, Writable}
 use Rattle.messages.specs.declared.message.Message.{Message}
-use Rattle.messages.specs.declared.message.Reading.TheVariants as reading
 
 -- ---- messages
 
@@ -27,7 +23,7 @@ abbrev pub MessagesReadBack : Type 0
 MessagesReadBack =
     (m : Message) (part out : List ℕ) → Writable m part → length (layout_of m part) ≤ length out
     → let octets = take (length (layout_of m part)) (write_out m part out) in
-    (read_of octets ≡ reading.Message m) × ((part_of octets ≡ carried m part) × (part_at octets ≡ carried_at m))
+    (read_of octets ≡ Ok m) × ((part_of octets ≡ carried m part) × (part_at octets ≡ carried_at m))
 
 -- ---- single fields
 
@@ -74,14 +70,14 @@ record_octets order (v ∷ values) = octets_for order v ++ record_octets order v
 
 -- What appending answered, and the output afterwards.
 pub record Output : Type 0 where
-  pub answer : Appended
+  pub answer : Result ℕ Refusal
   pub out : List ℕ
 
 -- Values appended one after the other, each at the place that was answered last; behind a refusal nothing is appended.
-unfoldable pub append_all : OctetOrder → List TypedValue → Appended → List ℕ → Output
+unfoldable pub append_all : OctetOrder → List TypedValue → Result ℕ Refusal → List ℕ → Output
 append_all order [] answer out = record { answer = answer; out = out }
-append_all order (v ∷ values) (appended.Refused a) out = record { answer = appended.Refused a; out = out }
-append_all order (v ∷ values) (appended.Next at) out =
+append_all order (v ∷ values) (Err refusal) out = record { answer = Err refusal; out = out }
+append_all order (v ∷ values) (Ok at) out =
     append_all order values (append_of order v.type v.value v.octets out at)
     (append_out order v.type v.value v.octets out at)
 
@@ -102,9 +98,9 @@ EachField order (v ∷ values) at r =
 -- fields of the values and then the end, however many more steps are allowed, and each value is the field at its place.
 pub record RecordOf (t : List ℕ) (id : ℕ) (values : List TypedValue) (r : List ℕ) : Type 0 where
   pub valid : record_answer t id r ≡ done
-  pub opens : open_of t id r ≡ opened.At walk_start
+  pub opens : open_of t id r ≡ Ok walk_start
   pub visits : (n : ℕ) → length values ≤ n → visited (step_of t id r) n walk_start ≡ fields_of (table_order t) values 0
-  pub ends : (n : ℕ) → length values ≤ n → last_answer (step_of t id r) n walk_start ≡ step.End
+  pub ends : (n : ℕ) → length values ≤ n → last_answer (step_of t id r) n walk_start ≡ Ok None
   pub each : EachField (table_order t) values 0 r
 
 -- Values of their types, appended one after the other from a place of an output with room for them, leave their record there and no other
@@ -114,8 +110,8 @@ RecordsMade =
     (order : OctetOrder) (values : List TypedValue) (at : ℕ) (out : List ℕ) → all_of (map fits values) ≡ true
     → at + length (record_octets order values) ≤ length out
     → let end = at + length (record_octets order values) in
-    append_all order values (appended.Next at) out
-    ≡ record { answer = appended.Next end; out = take at out ++ record_octets order values ++ drop end out }
+    append_all order values (Ok at) out
+    ≡ record { answer = Ok end; out = take at out ++ record_octets order values ++ drop end out }
 
 -- Under every template of every sound table: values for its enabled keys that were so appended in the octet order of the table read back as
 -- a record.
@@ -124,7 +120,7 @@ RecordsReadBack =
     (t : List ℕ) (id : ℕ) (values : List TypedValue) (at : ℕ) (out : List ℕ) → find_answer t id ≡ done → ValuesFor t id values
     → let octets = record_octets (table_order t) values in
     at + length octets ≤ length out
-    → RecordOf t id values (take (length octets) (drop at (append_all (table_order t) values (appended.Next at) out).out))
+    → RecordOf t id values (take (length octets) (drop at (append_all (table_order t) values (Ok at) out).out))
 
 -- Where all keys are disabled, the empty record reads back as no values, and no other record is valid.
 abbrev pub EmptyRecords : Type 0

@@ -1,6 +1,6 @@
 -- Record data under flags 1 and under flags 0, as 01 ("Template table") and 02 (ask 6) give it: the octets of fields, what is read in them,
 -- and the answers of records and tables. Each is a row of one table, and the one claim is that every row holds.
-use Rattle.std.specs.Prelude.{ℕ, ◌+◌, ◌≡◌, Bool, true, false, List, [], ◌∷◌, ◌++◌, ℤ, pos, negsuc, length, replicate}
+use Rattle.std.specs.Prelude.{ℕ, ◌+◌, ◌≡◌, Bool, true, false, List, [], ◌∷◌, ◌++◌, ℤ, pos, negsuc, length, replicate, Result, Ok}
 use Rattle.std.proofs.Math.Option.{Option, none, some}
 use Rattle.octets.specs.Numbers.{uint_in, octets_in}
 use Rattle.tables.specs.Table.{big_endian_flags, order_of, table_sound}
@@ -9,8 +9,7 @@ use Rattle.records.specs.Walk.{value_at, integer_at, step_of, walk_start, visite
 use Rattle.records.specs.declared.walk.Value.{Value}
 use Rattle.records.specs.declared.walk.Value.TheVariants.{Octets, Number, Negative}
 use Rattle.appending.specs.Append.{field_octets, append_of, append_out}
-use Rattle.appending.specs.declared.append.Appended.{Appended}
-use Rattle.appending.specs.declared.append.Appended.TheVariants.{Next}
+use Rattle.numbers.specs.declared.refusal.Refusal.{Refusal}
 
 -- A row. Where it gives two fields or lengths, the first is under flags 1 and the second under flags 0.
 pub data Row : Type 0 where
@@ -47,7 +46,7 @@ pub record Handling : Type 0 where
   pub len : ℕ
   pub value : Value
   pub integer : Option ℤ
-  pub answer : Appended
+  pub answer : Result ℕ Refusal
   pub out : List ℕ
 
 -- What is made of them under flags.
@@ -67,7 +66,7 @@ handled flags type value given field =
 -- What is to be made of them where the field holds the value.
 abbrev pub due : Value → Option ℤ → List ℕ → Handling
 due value integer field =
-    record { octets = field; len = length field; value = value; integer = integer; answer = Next (1 + length field); out = amid field }
+    record { octets = field; len = length field; value = value; integer = integer; answer = Ok (1 + length field); out = amid field }
 
 -- Under flags, the field holds the value.
 abbrev pub HandledAs : ℕ → ℕ → Value → List ℕ → Option ℤ → List ℕ → Type 0

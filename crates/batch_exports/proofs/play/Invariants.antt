@@ -7,8 +7,5 @@ use Rattle.batch_exports.proofs.play.Given as goal
 abbrev pub invariant-loop-i : goal.invariant-loop-i
 invariant-loop-i l =
     (l.from ≤ l.i)
-    × ((l.i - l.from ≤ l.n - l.from)
+    × ((l.i - l.from ≤ l.i-end - l.from)
     × (progress l.last l.store l.out ≡ played l.tape l.from (l.i - l.from) (progress l.initial.last l.initial.store l.initial.out)))
-
-abbrev pub decreases-loop-i : goal.decreases-loop-i
-decreases-loop-i l = l.n - l.i

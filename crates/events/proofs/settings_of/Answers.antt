@@ -7,13 +7,13 @@ pub returns : goal.returns
 unfolding settings_of
 returns c =
     rw (
-      c.priorities_of-priorities.ensures,
-      c.get_u8.ensures,
-      c.get_u8-2.ensures,
-      c.get_u32.ensures,
-      c.get_u32-2.ensures,
-      c.get_u8-3.ensures,
-      c.get_u8-4.ensures,
-      c.get_u16.ensures,
+      c.get.ensures,
+      c.get-2.ensures,
+      c.get-3.ensures,
+      c.get-4.ensures,
+      c.get-5.ensures,
+      c.priorities_of.ensures,
+      c.get-6.ensures,
+      c.get-7.ensures,
     )
     refl

@@ -4,4 +4,4 @@ use mathlib.Core.Path.{refl}
 use Rattle.events.proofs.store_length.Goals as goal
 
 pub returns : goal.returns
-returns c = rw (c.get_u16.ensures, c.body-b.ensures) refl
+returns c = rw (c.get.ensures, c.body.ensures) refl

@@ -40,5 +40,5 @@ returns c =
     let p = n in
     let a = p.args in
     line_joined a.text.now a.octets.now _ _ _ _ _ a.place a.answer _ _ _ (omega arith)
-    p.write_decimal-first.ensures n.put_u8.ensures n.write_decimal-second.ensures
-    w.write_written-last.ensures c.put_u8-2.ensures
+    p.write_decimal-first.ensures n.put.ensures n.write_decimal-second.ensures
+    w.write_written-last.ensures c.put-2.ensures

@@ -1,50 +1,10 @@
--- `write_hex`: the answers to what its invariant leaves.
-use mathlib.Core.Path.{refl, sym, ◌∙◌}
+-- `write_hex`: the digits of one octet more are stored, and at the end none are left.
+use mathlib.Core.Path.{sym, ◌∙◌}
 use Prim.Native.Nat.{◌+◌, ◌*◌}
-use native.Mathlib.Nat.{add-zero}
 use native.Mathlib.Omega.{arith}
 use lib.ListN.{length-set}
 use Rattle.lines.proofs.Lines.{hex_step, hex_done}
 use Rattle.lines.proofs.write_hex.Goals as goal
-
-pub loop-i-init : goal.loop-i-init
-loop-i-init c = (omega arith, (refl, simp add-zero))
-
-pub bounds-octets-i : goal.bounds-octets-i
-bounds-octets-i c = omega arith
-
-pub digit_of-requires : goal.digit_of-requires
-digit_of-requires c = omega arith
-
-pub overflow_mul-text : goal.overflow_mul-text
-overflow_mul-text c = omega arith
-
-pub overflow_add-text : goal.overflow_add-text
-overflow_add-text c = omega arith
-
-pub bounds-text-at : goal.bounds-text-at
-bounds-text-at c = omega arith
-
-pub digit_of-requires-in-loop-i : goal.digit_of-requires-in-loop-i
-digit_of-requires-in-loop-i c = omega arith
-
-pub overflow_mul-text-in-loop-i : goal.overflow_mul-text-in-loop-i
-overflow_mul-text-in-loop-i c = omega arith
-
-pub overflow_add-text-in-loop-i : goal.overflow_add-text-in-loop-i
-overflow_add-text-in-loop-i c = omega arith
-
-pub overflow_add-text-in-loop-i-2 : goal.overflow_add-text-in-loop-i-2
-overflow_add-text-in-loop-i-2 c = omega arith
-
-pub bounds-text-at-in-loop-i : goal.bounds-text-at-in-loop-i
-bounds-text-at-in-loop-i c = simp length-set (omega arith)
-
-pub overflow_add-i : goal.overflow_add-i
-overflow_add-i c = omega arith
-
-pub loop-i-smaller : goal.loop-i-smaller
-loop-i-smaller c = omega arith
 
 pub loop-i-preserved : goal.loop-i-preserved
 loop-i-preserved c =
@@ -57,9 +17,6 @@ loop-i-preserved c =
             c.digit_of-in-loop-i.ensures ∙ l.invariant.1.1,
       ),
     )
-
-pub shape_of-text : goal.shape_of-text
-shape_of-text c = omega arith
 
 pub returns : goal.returns
 returns c =

@@ -4,11 +4,8 @@ use native.Mathlib.Omega.{arith}
 use lib.ListN.{length}
 use Rattle.octets.proofs.Stores.{put_fits}
 use Rattle.lines.specs.Lines.{tape_refused}
-use Rattle.lines.proofs.Lines.{printed_none, whole_printed}
+use Rattle.lines.proofs.Lines.{whole_printed}
 use Rattle.lines.proofs.write_refused.Goals as goal
-
-pub returns-then-text-lt-REFUSED_OCTETS : goal.returns-then-text-lt-REFUSED_OCTETS
-returns-then-text-lt-REFUSED_OCTETS c = printed_none c.args.text.now tape_refused (length tape_refused) (omega arith)
 
 pub returns : goal.returns
 returns c =

@@ -17,7 +17,7 @@ loop-i-preserved c =
     let a = c.args in
     let l = c.loop-i in
     let digit = c.octet.ensures ∙ ap (λ (k : ℕ). get_or a.s.now (a.at + k) 0) c.place_in.ensures in
-    (omega arith, omega (arith, digit, number_more (λ k. get_or a.s.now (a.at + place_in a.order a.w k) 0) l.i))
+    omega (arith, digit, number_more (λ k. get_or a.s.now (a.at + place_in a.order a.w k) 0) l.i)
 
 pub returns : goal.returns
 unfolding uint_in

@@ -2,11 +2,7 @@
 -- `choose`.
 use mathlib.Core.Path.{◌≡◌}
 use Rattle.session.specs.Servers.{choose}
-use Prim.Native.Nat.{◌≤◌, ◌-◌}
 use Rattle.servers.proofs.choose_server.Given as goal
 
 abbrev pub invariant-loop-v : goal.invariant-loop-v
-invariant-loop-v l = (l.v ≤ l.n) × (l.best ≡ choose l.priorities l.servers l.v)
-
-abbrev pub decreases-loop-v : goal.decreases-loop-v
-decreases-loop-v l = l.n - l.v
+invariant-loop-v l = l.best ≡ choose l.priorities l.servers l.v

@@ -1,28 +1,20 @@
--- `restart_servers`: the answers to what its invariant leaves.
-use mathlib.Core.Path.{◌≡◌, refl, ◌∙◌}
+-- `restart_servers` meets its contract: each entry is the restarted one.
+use mathlib.Core.Path.{◌≡◌, ◌∙◌, sym}
+use mathlib.Core.List.{map}
+use lib.ListN.{length, get_or-map}
 use native.Mathlib.Omega.{arith}
-use lib.ListN.{length}
+use borrow.Author.Rules.{rules}
+use Rattle.std.proofs.lemmas.List.{ext_get_or, length-map}
 use Rattle.session.specs.Limits.{max_servers}
 use Rattle.session.specs.Servers.{restart, server}
 use Rattle.session.specs.declared.state.Phase.TheVariants.{Closed}
-use Rattle.session.proofs.Arrays.{map_suc, map_all}
-use borrow.Author.Rules.{rules}
 use Rattle.servers.proofs.restart_servers.Goals as goal
-
-pub loop-i-init : goal.loop-i-init
-loop-i-init c = (omega arith, refl)
-
-pub loop-i-preserved : goal.loop-i-preserved
-loop-i-preserved c =
-    let xs = c.args.servers in
-    let l : length xs ≡ max_servers = search rules in (
-      omega arith,
-      rw (c.loop-i.invariant.1, c.restart_server.ensures)
-          (map_suc restart (server Closed) xs c.loop-i.i (omega arith)),
-    )
 
 pub returns : goal.returns
 returns c =
+    let d = server Closed in
+    let m = c.map.ensures.items in
     let xs = c.args.servers in
     let l : length xs ≡ max_servers = search rules in
-    c.loop-i.invariant.1 ∙ map_all restart xs c.loop-i.i (omega arith)
+    ext_get_or d c.map.result (map restart xs) (omega (arith, m.long, l, length-map xs restart))
+    (λ i h. let z = m.at i d d (omega (arith, m.long)) in z.2.met ∙ sym (get_or-map restart xs i d))

@@ -12,21 +12,18 @@ use Rattle.appending.proofs.append.append.Goals as goal
 
 pub returns-then-octets_fit : goal.returns-then-octets_fit
 returns-then-octets_fit c =
-    let f = c in
-    let o = f.field_order-field_order in
+    let o = c.field_order-field_order in
     answered_with_lem (append_answer_lem _ _ _ _ _ _)
-    (append_stored _ _ _ Octets _ _ _ _ _ f.in-Octets.is
-    (sym f.octets_fit.ensures ∙ c.if-octets_fit.true)
+    (append_stored _ _ _ Octets _ _ _ _ _ c.in-Octets.is
+    (sym c.octets_fit.ensures ∙ c.if-octets_fit.true)
     (rw o.ensures at c.store_octets.ensures))
 
 pub returns-then-number_fits : goal.returns-then-number_fits
 returns-then-number_fits c =
-    let f = c in
-    let o = f in
     answered_with_lem (append_answer_lem _ _ _ _ _ _)
-    (append_stored _ _ _ (Number f.in-Number.n) _ _ _ _ _ f.in-Number.is
-    (sym f.number_fits.ensures ∙ c.if-number_fits.true)
-    (rw (o.field_order-field_order.ensures, o.width-width.ensures) at c.store_number.ensures))
+    (append_stored _ _ _ (Number c.in-Number.n) _ _ _ _ _ c.in-Number.is
+    (sym c.number_fits.ensures ∙ c.if-number_fits.true)
+    (rw (c.field_order-field_order.ensures, c.width-width.ensures) at c.store_number.ensures))
 
 pub overflow_sub-greatest : goal.overflow_sub-greatest
 overflow_sub-greatest c =
@@ -42,17 +39,15 @@ overflow_add-greatest c =
 
 pub returns-then-negative_fits : goal.returns-then-negative_fits
 returns-then-negative_fits c =
-    let r = c in
-    let n = r.in-Negative.n in
-    let o = r in
-    let w = o.width-width in
-    let f = sym r.negative_fits.ensures ∙ r.if-negative_fits.true in
-    let g = greatest_of w.result (omega (arith, negative_range _ _ f, w.ensures)) r.greatest.ensures in
-    let e : r.greatest.result - n + 1 ≡ 256 ^ w.result - n =
+    let n = c.in-Negative.n in
+    let w = c.width-width in
+    let f = sym c.negative_fits.ensures ∙ c.if-negative_fits.true in
+    let g = greatest_of w.result (omega (arith, negative_range _ _ f, w.ensures)) c.greatest.ensures in
+    let e : c.greatest.result - n + 1 ≡ 256 ^ w.result - n =
     omega (arith, negative_range _ _ f, ap (λ (w : ℕ). 256 ^ w) w.ensures, g) in
     answered_with_lem (append_answer_lem _ _ _ _ _ _)
-    (append_stored _ _ _ (Negative n) _ _ _ _ _ r.in-Negative.is f
-    (rw (o.field_order-field_order.ensures, w.ensures) at (rw e at c.store_number-then-negative_fits.ensures)))
+    (append_stored _ _ _ (Negative n) _ _ _ _ _ c.in-Negative.is f
+    (rw (c.field_order-field_order.ensures, w.ensures) at (rw e at c.store_number-then-negative_fits.ensures)))
 
 pub returns-else-octets_fit : goal.returns-else-octets_fit
 returns-else-octets_fit c =

@@ -6,15 +6,15 @@ use Rattle.exports.proofs.message_calls.part_place.Goals as goal
 
 pub returns-then-number-eq-DATA : goal.returns-then-number-eq-DATA
 returns-then-number-eq-DATA c =
-    let number = sym c.get_u8-number.ensures ∙ c.if-number-eq-DATA.true in
+    let number = sym c.get-number.ensures ∙ c.if-number-eq-DATA.true in
     sym (part_of_data _ c.requires number).0
 
 pub returns-then-number-eq-TMPL_DATA : goal.returns-then-number-eq-TMPL_DATA
 returns-then-number-eq-TMPL_DATA c =
-    let number = sym c.get_u8-number.ensures ∙ c.if-number-eq-TMPL_DATA.true in
+    let number = sym c.get-number.ensures ∙ c.if-number-eq-TMPL_DATA.true in
     sym (part_of_table _ c.requires number).0
 
 pub returns : goal.returns
 returns c =
-    let number = c.get_u8-number.ensures in
+    let number = c.get-number.ensures in
     sym (part_of_other _ (λ e. c.if-number-eq-DATA.false (number ∙ e)) (λ e. c.if-number-eq-TMPL_DATA.false (number ∙ e))).0

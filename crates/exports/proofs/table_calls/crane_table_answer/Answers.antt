@@ -10,4 +10,4 @@ returns-then-table_sound c = rw (sym c.table_sound.ensures ∙ c.if-table_sound.
 
 pub returns : goal.returns
 unfolding table_form_answer
-returns c = rw (sym c.table_sound.ensures ∙ c.if-table_sound.false)
+returns c = rw (sym c.table_sound.ensures ∙ c.if-table_sound.false) c.number.ensures

@@ -15,22 +15,10 @@ returns-then-out-lt-HEADER_OCTETS c =
     let a = c.args in
     sym (put_short a.out.now 0 (header_for a.version a.number a.session a.len) c.if-out-lt-HEADER_OCTETS.true)
 
-pub bounds-out-1 : goal.bounds-out-1
-bounds-out-1 c = simp length-set (omega arith)
-
-pub bounds-out-2 : goal.bounds-out-2
-bounds-out-2 c = simp length-set (omega arith)
-
-pub bounds-out-3 : goal.bounds-out-3
-bounds-out-3 c = simp length-set (omega arith)
-
-pub shape_of-out : goal.shape_of-out
-shape_of-out c = c.put_u32.auto.out ∙ simp length-set
-
 pub returns : goal.returns
 returns c =
     let a = c.args in
     let v = a.len in
-    c.put_u32.ensures
+    c.put.ensures
     ∙ put_fits _ 4 (octets_of 4 v) (simp length-set (omega (arith, octets_length 4 v)))
     ∙ sym (put_fits a.out.now 0 (header_for a.version a.number a.session v) (omega (arith, octets_length 4 v)))

@@ -1,15 +1,15 @@
 -- `read_other` meets its contract: the body's refusal is answered; else the fields are read by the message's number.
-use mathlib.Core.Path.{sym, ◌∙◌}
-use borrow.Author.Tests.{ne_eqb}
+use mathlib.Core.Path.{sym}
+use Rattle.octets.specs.Answers.{judged}
+use Rattle.octets.proofs.Judging.{judged_ok}
+use Rattle.headers.proofs.Headers.{passed_on}
 use Rattle.ipdr.specs.Messages.{read_body}
 use Rattle.ipdr_reading.proofs.read.read_other.Goals as goal
 
-pub returns-then-answer-ne-DONE : goal.returns-then-answer-ne-DONE
+pub returns-in_err-check_body : goal.returns-in_err-check_body
 unfolding read_body
-returns-then-answer-ne-DONE c = rw (← c.body_answer-answer.ensures, ne_eqb _ _ c.if-answer-ne-DONE.true)
+returns-in_err-check_body c = passed_on _ tt _ c.in_err-check_body.ensures c.from_residual.ensures.1
 
 pub returns : goal.returns
-unfolding read_body
-returns c =
-    let b = sym c.body_answer-answer.ensures ∙ c.if-answer-ne-DONE.false in
-    rw (b, ← c.get_u8.ensures, ← c.content_of.ensures)
+unfolding judged read_body
+returns c = rw (judged_ok _ tt (sym c.in_ok-check_body.ensures), ← c.get.ensures, ← c.content_of.ensures)

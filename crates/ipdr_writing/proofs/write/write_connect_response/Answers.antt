@@ -1,45 +1,29 @@
 -- `write_connect_response` meets its contract: header, fields and text are put one behind the other.
 use mathlib.Core.Path.{refl}
 use mathlib.Core.List.{[], ◌∷◌}
-use Rattle.ipdr.specs.Messages.{connect_response, numbers, widths_of, is_counted}
-use Rattle.ipdr.proofs.Messages.{counted_long, counted_short, counted_done}
+use native.Mathlib.Omega.{arith}
+use Rattle.ipdr.specs.Messages.{numbers, connect_response, widths_of, is_counted}
+use Rattle.ipdr.proofs.Messages.{begun_short, counted_refused, counted_done}
 use Rattle.ipdr_writing.proofs.write.write_connect_response.Goals as goal
 
-pub returns-then-part-gt-MAX_PART_OCTETS : goal.returns-then-part-gt-MAX_PART_OCTETS
+pub returns-in_err-len : goal.returns-in_err-len
 unfolding widths_of is_counted
-returns-then-part-gt-MAX_PART_OCTETS c =
-    let b3 = c in
-    let a = b3.args in
-    counted_long (numbers connect_response a.session (a.capabilities ∷ a.keep_alive_interval ∷ [])) _ _
-    (4 ∷ 4 ∷ []) refl refl c.if-part-gt-MAX_PART_OCTETS.true
+returns-in_err-len c =
+    let a = c.args in
+    counted_refused (numbers connect_response a.session (a.capabilities ∷ a.keep_alive_interval ∷ []))
+    _ _ (4 ∷ 4 ∷ []) refl refl c.in_err-len.ensures c.from_residual.ensures.1
 
-pub returns-then-out-len : goal.returns-then-out-len
-unfolding widths_of is_counted
-returns-then-out-len c =
-    let b1 = c in
-    let b4 = b1 in
-    let a = b4.args in
-    counted_short (numbers connect_response a.session (a.capabilities ∷ a.keep_alive_interval ∷ [])) _ _
-    (4 ∷ 4 ∷ []) refl refl b1.if-part-gt-MAX_PART_OCTETS.false c.if-out-len.true
+pub put_counted-requires : goal.put_counted-requires
+put_counted-requires c = (omega arith, begun_short _ _ _ _ _ c.in_ok-len.ensures)
 
 pub returns : goal.returns
 unfolding widths_of is_counted
 returns c =
-    let b2 = c in
-    let b6 = b2 in
-    let b10 = b6 in
-    let b14 = b10 in
-    let b16 = b14 in
-    let b17 = b16 in
-    let b20 = b17 in
-    let a = b20.args in
-    counted_done (numbers connect_response a.session (a.capabilities ∷ a.keep_alive_interval ∷ [])) a.part.now a.out.now
-    (4 ∷ 4 ∷ []) refl refl
-    b17.if-part-gt-MAX_PART_OCTETS.false _ _ _
-    b16.if-out-len.false
-    b14.put_header.ensures
+    let a = c.args in
+    counted_done (numbers connect_response a.session (a.capabilities ∷ a.keep_alive_interval ∷ []))
+    _ _ (4 ∷ 4 ∷ []) refl refl c.in_ok-len.ensures _ _
     (rw (
-      ← b10.put_u32.ensures,
-      ← b6.put_u32-2.ensures,
+      ← c.put.ensures,
+      ← c.put-2.ensures,
     ))
-    b2.put_counted.ensures
+    c.put_counted.ensures

@@ -1,48 +1,32 @@
 -- `write_data` meets its contract: header, fields and record are put one behind the other.
-use mathlib.Core.Path.{refl}
+use mathlib.Core.Path.{refl, ◌∙◌}
 use mathlib.Core.List.{[], ◌∷◌}
-use Rattle.ipdr.specs.Messages.{data_number, data_values, numbers, widths_of, is_counted}
-use Rattle.ipdr.proofs.Messages.{counted_long, counted_short, counted_done}
+use native.Mathlib.Omega.{arith}
+use Rattle.ipdr.specs.Messages.{numbers, data_number, data_values, widths_of, is_counted}
+use Rattle.ipdr.proofs.Messages.{octet_from, begun_short, counted_refused, counted_done}
 use Rattle.ipdr_writing.proofs.write.write_data.Goals as goal
 
-pub returns-then-part-gt-MAX_PART_OCTETS : goal.returns-then-part-gt-MAX_PART_OCTETS
+pub returns-in_err-len : goal.returns-in_err-len
 unfolding widths_of is_counted
-returns-then-part-gt-MAX_PART_OCTETS c =
+returns-in_err-len c =
     let a = c.args in
-    counted_long (numbers data_number a.session (data_values a.head)) _ _ (2 ∷ 2 ∷ 1 ∷ 8 ∷ []) refl refl c.if-part-gt-MAX_PART_OCTETS.true
+    counted_refused (numbers data_number a.session (data_values a.head))
+    _ _ (2 ∷ 2 ∷ 1 ∷ 8 ∷ []) refl refl c.in_err-len.ensures c.from_residual.ensures.1
 
-pub returns-then-out-len : goal.returns-then-out-len
-unfolding widths_of is_counted
-returns-then-out-len c =
-    let b1 = c in
-    let b4 = b1 in
-    let a = b4.args in
-    counted_short (numbers data_number a.session (data_values a.head)) _ _ (2 ∷ 2 ∷ 1 ∷ 8 ∷ []) refl refl
-    b1.if-part-gt-MAX_PART_OCTETS.false c.if-out-len.true
+pub put_counted-requires : goal.put_counted-requires
+put_counted-requires c = (omega arith, begun_short _ _ _ _ _ c.in_ok-len.ensures)
 
 pub returns : goal.returns
 unfolding widths_of is_counted
 returns c =
-    let b2 = c in
-    let b6 = b2 in
-    let b10 = b6 in
-    let b14 = b10 in
-    let b18 = b14 in
-    let b22 = b18 in
-    let b24 = b22 in
-    let b25 = b24 in
-    let b26 = b25 in
-    let b29 = b26 in
-    let a = b29.args in
-    counted_done (numbers data_number a.session (data_values a.head)) a.part.now a.out.now (2 ∷ 2 ∷ 1 ∷ 8 ∷ []) refl refl
-    b26.if-part-gt-MAX_PART_OCTETS.false _ _ _
-    b25.if-out-len.false
-    b22.put_header.ensures
+    let a = c.args in
+    counted_done (numbers data_number a.session (data_values a.head))
+    _ _ (2 ∷ 2 ∷ 1 ∷ 8 ∷ []) refl refl c.in_ok-len.ensures _ _
     (rw (
-      ← b24.octet_of-flags.ensures,
-      ← b18.put_u16.ensures,
-      ← b14.put_u16-2.ensures,
-      ← b10.put_u8.ensures,
-      ← b6.put_u64.ensures,
+      ← c.put.ensures,
+      ← c.put-2.ensures,
+      ← (c.from.ensures ∙ octet_from a.head.duplicate),
+      ← c.put-3.ensures,
+      ← c.put-4.ensures,
     ))
-    b2.put_counted.ensures
+    c.put_counted.ensures

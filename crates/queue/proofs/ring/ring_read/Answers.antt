@@ -25,7 +25,7 @@ returns-then-n-first c =
     let a = c.args in
     let s = a.store.now in
     let e : a.at + a.n - a.at ≡ a.n = omega arith in
-    c.copy_blocks.ensures
+    c.copy.ensures
     ∙ ap (λ (k : ℕ). put_at a.out.now a.place (take k (drop a.at s))) e
     ∙ copied_near s a.at a.n a.out.now a.place (omega arith) (omega arith)
 
@@ -33,10 +33,10 @@ pub returns-then-saturating_sub-n : goal.returns-then-saturating_sub-n
 returns-then-saturating_sub-n c =
     let a = c.args in
     copied_short a.store.now a.at a.n a.out.now a.place (omega arith) (omega arith)
-    (omega (arith, c.if-saturating_sub-n.true, c.saturating_sub.ensures))
+    (omega (arith, c.if-saturating_sub-n.true))
 
-pub slice_bounds-copy-length-2 : goal.slice_bounds-copy-length-2
-slice_bounds-copy-length-2 c =
+pub slice_bounds-copy-length-3 : goal.slice_bounds-copy-length-3
+slice_bounds-copy-length-3 c =
     let a = c.args in
     sym (length-take-le (a.n - (length a.store.now - a.at)) a.store.now (omega arith))
 
@@ -48,8 +48,8 @@ returns c =
     let o = a.out.now in
     let f = length s - a.at in
     let l : length (drop a.at s) ≤ f = omega (arith, length-drop a.at s) in
-    let h : a.place + a.n ≤ length o = omega (arith, w.if-saturating_sub-n.false, w.saturating_sub.ensures) in
-    c.copy-2.ensures
+    let h : a.place + a.n ≤ length o = omega (arith, w.if-saturating_sub-n.false) in
+    c.copy-3.ensures
     ∙ ap (λ (l : List ℕ). put_at l (a.place + f) (take (a.n - f) s))
-    (c.copy.ensures ∙ ap (put_at o a.place) (take_all f (drop a.at s) l))
+    (c.copy-2.ensures ∙ ap (put_at o a.place) (take_all f (drop a.at s) l))
     ∙ copied_far s a.at a.n o a.place f refl (omega arith) (omega arith) (omega arith) h

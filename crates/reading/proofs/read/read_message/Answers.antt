@@ -1,17 +1,11 @@
 -- `read_message` meets its contract: the header's refusal is the message's, and where there is none its body is read.
-use mathlib.Core.Path.{◌∙◌}
-use borrow.Author.Tests.{ne_eqb}
 use Rattle.octets.proofs.Judging.{answered}
-use Rattle.messages.specs.Messages.{read_of}
-use Rattle.messages.proofs.Messages.{header_refused}
+use Rattle.messages.proofs.Messages.{read_handed_on}
 use Rattle.messages.proofs.RoundTrip.{reading_number}
 use Rattle.reading.proofs.read.read_message.Goals as goal
 
-pub returns-then-answer-ne-DONE : goal.returns-then-answer-ne-DONE
-unfolding read_of
-returns-then-answer-ne-DONE c =
-    let a = c.header_answer-answer.ensures in
-    answered (reading_number _) (rw (header_refused _ (λ e. c.if-answer-ne-DONE.true (a ∙ e)), ← a, ne_eqb _ _ c.if-answer-ne-DONE.true))
+pub returns-in_err-check_header : goal.returns-in_err-check_header
+returns-in_err-check_header c = answered (reading_number _) (read_handed_on _ c.in_err-check_header.ensures c.from_residual.ensures.1)
 
 pub returns : goal.returns
 returns c = answered (reading_number _) c.read_body.ensures

@@ -9,24 +9,25 @@ returns-then-h-p c =
     λ v. rw c.refuse_message.ensures
     (request_session _ v _ _
     (sym c.read_header-header.ensures.same
-    ∙ c.in-Header.is) c.if-h-p.true)
+    ∙ c.in-Ok.is) c.if-h-p.true)
 
 pub returns-then-not-is_received : goal.returns-then-not-is_received
 returns-then-not-is_received c = λ v.
     rw c.refuse_message-then-not-is_received.ensures
     (request_number _ v _ _
     (sym c.read_header-header.ensures.same
-    ∙ c.in-Header.is) c.if-h-p.false
+    ∙ c.in-Ok.is) c.if-h-p.false
     (sym c.is_received.ensures ∙ c.if-not-is_received.true))
 
 pub returns-else-not-is_received : goal.returns-else-not-is_received
 returns-else-not-is_received c = λ v.
     c.decode_body.ensures v
     ∙ request_body _ v _ _ (sym c.read_header-header.ensures.same
-    ∙ c.in-Header.is) c.if-h-p.false
+    ∙ c.in-Ok.is) c.if-h-p.false
     (sym c.is_received.ensures ∙ c.if-not-is_received.false)
 
-pub returns-in-Refused : goal.returns-in-Refused
-returns-in-Refused c =
-    λ v. rw c.refuse_message-in-Refused.ensures
-    (request_refused _ v _ _ (sym c.read_header-header.ensures.same ∙ c.in-Refused.is))
+pub returns-in-Err : goal.returns-in-Err
+returns-in-Err c =
+    λ v. rw c.refuse_message-in-Err.ensures
+    (request_refused _ v _ _ (rw c.in-Err.is at c.read_header-header.ensures.number)
+    (sym c.read_header-header.ensures.same ∙ c.in-Err.is))

@@ -2,14 +2,8 @@
 use Rattle.std.proofs.Common.{sym, ◌∙◌}
 use Rattle.receiving.proofs.decode.decode_body.Goals as goal
 
-pub returns-in-Message : goal.returns-in-Message
-returns-in-Message c =
-    λ v. rw (sym c.read_message-reading.ensures.same ∙ c.in-Message.is)
-    (c.decode_message.ensures v)
+pub returns-in-Ok : goal.returns-in-Ok
+returns-in-Ok c = λ v. rw (sym c.read_message-reading.ensures.same ∙ c.in-Ok.is) (c.decode_message.ensures v)
 
-pub returns-in-Refused : goal.returns-in-Refused
-returns-in-Refused c =
-    λ v. rw (
-      sym c.read_message-reading.ensures.same ∙ c.in-Refused.is,
-      c.refuse_message.ensures,
-    )
+pub returns-in-Err : goal.returns-in-Err
+returns-in-Err c = λ v. rw (sym c.read_message-reading.ensures.same ∙ c.in-Err.is, c.refuse_message.ensures)

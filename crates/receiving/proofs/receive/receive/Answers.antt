@@ -17,4 +17,4 @@ returns-in-Move c =
     let v = c.args.v in
     rw (sym (c.decode-request.ensures v)
     ∙ ap (call_of_request v) c.in-Move.is)
-    c.move_server-left.ensures
+    c.move_server.ensures

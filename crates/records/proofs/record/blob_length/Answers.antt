@@ -13,12 +13,11 @@ returns-then-saturating_sub-lt-LENGTH_OCTETS c = rw (← c.saturating_sub.ensure
 pub returns-then-saturating_sub-n : goal.returns-then-saturating_sub-n
 unfolding blob_length
 returns-then-saturating_sub-n c =
-    let d = c in
-    let a = d.args in
+    let a = c.args in
     let n : c.u32_in-n.result ≡ uint_in a.order a.r.now a.at 4 = c.u32_in-n.ensures in
     rw (
-      ← d.saturating_sub.ensures,
-      le-ltb _ _ d.if-saturating_sub-lt-LENGTH_OCTETS.false,
+      ← c.saturating_sub.ensures,
+      le-ltb _ _ c.if-saturating_sub-lt-LENGTH_OCTETS.false,
       ← c.saturating_sub-2.ensures,
       ← n,
       lt-ltb _ _ c.if-saturating_sub-n.true,
@@ -27,12 +26,11 @@ returns-then-saturating_sub-n c =
 pub returns : goal.returns
 unfolding blob_length
 returns c =
-    let d = c in
-    let a = d.args in
+    let a = c.args in
     let n : c.u32_in-n.result ≡ uint_in a.order a.r.now a.at 4 = c.u32_in-n.ensures in
     rw (
-      ← d.saturating_sub.ensures,
-      le-ltb _ _ d.if-saturating_sub-lt-LENGTH_OCTETS.false,
+      ← c.saturating_sub.ensures,
+      le-ltb _ _ c.if-saturating_sub-lt-LENGTH_OCTETS.false,
       ← c.saturating_sub-2.ensures,
       ← n,
       le-ltb _ _ c.if-saturating_sub-n.false,

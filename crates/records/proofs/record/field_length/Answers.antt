@@ -9,7 +9,6 @@ use Rattle.records.proofs.record.field_length.Goals as goal
 
 pub returns-then-width-gt0 : goal.returns-then-width-gt0
 returns-then-width-gt0 c =
-    let b = c in
-    let a = b.args in
-    let some : 0 < width_of a.kind = omega (arith, b.width-width.ensures) in
+    let a = c.args in
+    let some : 0 < width_of a.kind = omega (arith, c.width-width.ensures) in
     c.fixed_length.ensures ∙ fixed_length_lem a.order a.kind a.r.now a.at some

@@ -11,7 +11,7 @@ use Rattle.records.proofs.record.fields_valid.Goals as goal
 
 pub loop-k-init : goal.loop-k-init
 unfolding every field_at
-loop-k-init c = (search rules, (search rules, (refl, refl)))
+loop-k-init c = (search rules, (refl, refl))
 
 pub returns-then-is_enabled-n : goal.returns-then-is_enabled-n
 unfolding record_valid
@@ -20,7 +20,7 @@ returns-then-is_enabled-n c =
     let a = c.args in
     let t = a.t.now in
     let r = a.r.now in
-    let n = c.length_under-n.ensures ∙ ap (length_under t a.m r l.k) l.invariant.1.1.0 in
+    let n = c.length_under-n.ensures ∙ ap (length_under t a.m r l.k) l.invariant.1.0 in
     rw (every_false a.m.count (field_valid t a.m r) l.k (search rules)
     (invalid_field (is_enabled t (key_at a.m.keys l.k)) (length_under t a.m r l.k (field_at t a.m r l.k))
     (rw (c.is_enabled.ensures, n) at c.if-is_enabled-n.true)))
@@ -37,16 +37,13 @@ loop-k-preserved c =
     let a = c.args in
     let t = a.t.now in
     let r = a.r.now in
-    let n = c.length_under-n.ensures ∙ ap (length_under t a.m r l.k) l.invariant.1.1.0 in (
-      search rules,
+    let n = c.length_under-n.ensures ∙ ap (length_under t a.m r l.k) l.invariant.1.0 in (
+      omega (arith, under_within t a.m r l.k l.at),
       (
-        omega (arith, under_within t a.m r l.k l.at),
-        (
-          rw (n, l.invariant.1.1.0) (sym (field_at_more t a.m r l.k)),
-          every_step l.k (field_valid t a.m r) l.invariant.1.1.1
-              (valid_field (is_enabled t (key_at a.m.keys l.k)) (length_under t a.m r l.k (field_at t a.m r l.k))
-              (rw (c.is_enabled.ensures, n) at c.if-is_enabled-n.false)),
-        ),
+        rw (n, l.invariant.1.0) (sym (field_at_more t a.m r l.k)),
+        every_step l.k (field_valid t a.m r) l.invariant.1.1
+            (valid_field (is_enabled t (key_at a.m.keys l.k)) (length_under t a.m r l.k (field_at t a.m r l.k))
+            (rw (c.is_enabled.ensures, n) at c.if-is_enabled-n.false)),
       ),
     )
 
@@ -55,4 +52,4 @@ unfolding record_valid
 returns c =
     let l = c.loop-k in
     let e : l.k ≡ c.args.m.count = omega arith in
-    rw (rw e at l.invariant.1.1.1) (rw (l.invariant.1.1.0, e))
+    rw (rw e at l.invariant.1.1) (rw (l.invariant.1.0, e))

@@ -8,6 +8,3 @@ use Rattle.records.proofs.record.first_zero.Given as goal
 
 abbrev pub invariant-loop-p : goal.invariant-loop-p
 invariant-loop-p l = first_from l.p (length l.r - l.p) (λ q. eqb (get_or l.r q 0) 0) ≡ first_from l.at (length l.r - l.at) (λ q. eqb (get_or l.r q 0) 0)
-
-abbrev pub decreases-loop-p : goal.decreases-loop-p
-decreases-loop-p l = length l.r - l.p

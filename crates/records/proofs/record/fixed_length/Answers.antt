@@ -7,21 +7,18 @@ use Rattle.records.proofs.record.fixed_length.Goals as goal
 pub returns-then-saturating_sub-width : goal.returns-then-saturating_sub-width
 unfolding fixed_length
 returns-then-saturating_sub-width c =
-    let s = c in
-    rw (← s.requires.0, ← c.saturating_sub.ensures, lt-ltb _ _ c.if-saturating_sub-width.true)
+    rw (← c.requires.0, ← c.saturating_sub.ensures, lt-ltb _ _ c.if-saturating_sub-width.true)
 
 pub returns-then-kind-ne-BOOLEAN : goal.returns-then-kind-ne-BOOLEAN
 unfolding fixed_length
 returns-then-kind-ne-BOOLEAN c =
-    let s = c in
-    rw (← s.requires.0, ← c.saturating_sub.ensures, le-ltb _ _ c.if-saturating_sub-width.false, ne_eqb _ _ c.if-kind-ne-BOOLEAN.true)
+    rw (← c.requires.0, ← c.saturating_sub.ensures, le-ltb _ _ c.if-saturating_sub-width.false, ne_eqb _ _ c.if-kind-ne-BOOLEAN.true)
 
 pub returns-then-r-at-gt1 : goal.returns-then-r-at-gt1
 unfolding fixed_length
 returns-then-r-at-gt1 c =
-    let s = c in
     rw (
-      ← s.requires.0,
+      ← c.requires.0,
       ← c.saturating_sub.ensures,
       le-ltb _ _ c.if-saturating_sub-width.false,
       eq-eqb _ _ c.if-kind-ne-BOOLEAN.false,
@@ -31,9 +28,8 @@ returns-then-r-at-gt1 c =
 pub returns : goal.returns
 unfolding fixed_length
 returns c =
-    let s = c in
     rw (
-      ← s.requires.0,
+      ← c.requires.0,
       ← c.saturating_sub.ensures,
       le-ltb _ _ c.if-saturating_sub-width.false,
       eq-eqb _ _ c.if-kind-ne-BOOLEAN.false,

@@ -1,7 +1,8 @@
 -- `next_key`: the answers to what its invariant leaves.
 use mathlib.Core.Path.{◌≡◌, refl, sym, ◌∙◌}
 use native.Mathlib.Omega.{arith}
-use Prim.Native.Nat.{◌+◌, ◌-◌}
+use Prim.Native.Nat.{◌+◌, ◌-◌, ◌≤◌}
+use Rattle.octets.specs.Each.{first_from}
 use Rattle.octets.proofs.Each.{first_here, first_on, first_none}
 use Rattle.tables.specs.Table.{key_at, is_enabled}
 use Rattle.records.specs.Walk.{next_key}
@@ -27,7 +28,11 @@ loop-k-preserved c =
     (sym c.is_enabled.ensures ∙ c.if-is_enabled.false)) ∙ l.invariant)
 
 pub returns : goal.returns
+unfolding next_key
 returns c =
     let l = c.loop-k in
     let a = c.args in
-    sym (first_none l.k (a.m.count - l.k) (λ j. is_enabled a.t.now (key_at a.m.keys j)) (omega arith)) ∙ l.invariant
+    let last = sym (first_none l.k (a.m.count - l.k) (λ j. is_enabled a.t.now (key_at a.m.keys j)) (omega arith)) ∙ l.invariant in
+    let past : a.m.count ≤ a.index → first_from a.index (a.m.count - a.index) (λ j. is_enabled a.t.now (key_at a.m.keys j)) ≡ a.index =
+    λ h. first_none a.index (a.m.count - a.index) (λ j. is_enabled a.t.now (key_at a.m.keys j)) (omega arith) in
+    grind (arith, last, past, l.auto.k-end)

@@ -7,7 +7,4 @@ use Rattle.records.specs.Walk.{next_key}
 use Rattle.records.proofs.walk.next_key.Given as goal
 
 abbrev pub invariant-loop-k : goal.invariant-loop-k
-invariant-loop-k l = first_from l.k (l.count - l.k) (λ j. is_enabled l.t (key_at l.m.keys j)) ≡ next_key l.t l.m l.index
-
-abbrev pub decreases-loop-k : goal.decreases-loop-k
-decreases-loop-k l = l.count - l.k
+invariant-loop-k l = first_from l.k (l.m.count - l.k) (λ j. is_enabled l.t (key_at l.m.keys j)) ≡ next_key l.t l.m l.index

@@ -16,7 +16,7 @@ returns-then-n-most c =
     let a = c.args in
     let g = greatest_of a.w (omega arith) c.greatest-most.ensures in
     let u =
-    uint_u64 a.order a.r.now (λ i. (c.shared_slice_known-1.given i).fits) a.at a.w
+    uint_u64 a.order a.r.now (λ i. omega (arith, c.type_inv.r i)) a.at a.w
     (omega arith) in
     let n : c.get_uint-n.result ≡ uint_in a.order a.r.now a.at a.w =
     c.get_uint-n.ensures ∙ u.1 in
@@ -27,7 +27,7 @@ overflow_sub-result c =
     let a = c.args in
     let g = greatest_of a.w (omega arith) c.greatest-most.ensures in
     let u =
-    uint_u64 a.order a.r.now (λ i. (c.shared_slice_known-1.given i).fits) a.at a.w
+    uint_u64 a.order a.r.now (λ i. omega (arith, c.type_inv.r i)) a.at a.w
     (omega arith) in
     omega (arith, u.0, u.1, g, c.get_uint-n.ensures)
 
@@ -37,7 +37,7 @@ returns c =
     let a = c.args in
     let g = greatest_of a.w (omega arith) c.greatest-most.ensures in
     let u =
-    uint_u64 a.order a.r.now (λ i. (c.shared_slice_known-1.given i).fits) a.at a.w
+    uint_u64 a.order a.r.now (λ i. omega (arith, c.type_inv.r i)) a.at a.w
     (omega arith) in
     let n : c.get_uint-n.result ≡ uint_in a.order a.r.now a.at a.w =
     c.get_uint-n.ensures ∙ u.1 in

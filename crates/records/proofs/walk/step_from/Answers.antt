@@ -1,12 +1,14 @@
 -- `step_from` meets its contract: each arm is given what the place is, and the definition has the same case for it.
 use mathlib.Core.Path.{refl}
+use Rattle.octets.proofs.Judging.{handed_on}
 use Rattle.records.specs.Walk.{step_from}
 use Rattle.records.proofs.walk.step_from.Goals as goal
 
-pub returns-in-At : goal.returns-in-At
+pub returns : goal.returns
 unfolding step_from
-returns-in-At c = rw c.in-At.is c.step_walk.ensures
+returns c = rw c.in_ok-place.was c.step_walk.ensures
 
-pub returns-in-Refused : goal.returns-in-Refused
+pub returns-in_err-place : goal.returns-in_err-place
 unfolding step_from
-returns-in-Refused c = rw c.in-Refused.is (record { same = refl; number = refl }, tt)
+returns-in_err-place c =
+    rw (c.in_err-place.was, handed_on c.from_residual.ensures.1) (record { same = refl; number = refl }, tt)

@@ -14,40 +14,34 @@ returns-then-m-k c = rw (← c.next_key-k.ensures, le-leb _ _ c.if-m-k.true)
 pub returns-then-len-eq0 : goal.returns-then-len-eq0
 unfolding step_under
 returns-then-len-eq0 c =
-    let o = c in
-    let u = o in
-    let d = u in
     rw (
-      ← d.next_key-k.ensures,
-      lt-leb _ _ d.if-m-k.false,
-      ← u.u16_at-kind.ensures,
-      uint_one d.args.t.now 1,
-      ← o.order_of-order.ensures,
+      ← c.next_key-k.ensures,
+      lt-leb _ _ c.if-m-k.false,
+      ← c.kind_of-kind.ensures,
+      uint_one c.args.t.now 1,
+      ← c.order_of-order.ensures,
       ← c.field_length-len.ensures,
       eq-eqb _ _ c.if-len-eq0.true,
     )
 
-pub overflow_add-result-2 : goal.overflow_add-result-2
-overflow_add-result-2 c =
+pub overflow_add-next-2 : goal.overflow_add-next-2
+overflow_add-next-2 c =
     let a = c.args in
     omega (
       arith,
-      field_within c.order_of-order.result c.u16_at-kind.result
+      field_within c.order_of-order.result c.kind_of-kind.result
           a.r.now a.c.at,
     )
 
 pub returns : goal.returns
 unfolding step_under
 returns c =
-    let o = c in
-    let u = o in
-    let d = u in
     rw (
-      ← d.next_key-k.ensures,
-      lt-leb _ _ d.if-m-k.false,
-      ← u.u16_at-kind.ensures,
-      uint_one d.args.t.now 1,
-      ← o.order_of-order.ensures,
+      ← c.next_key-k.ensures,
+      lt-leb _ _ c.if-m-k.false,
+      ← c.kind_of-kind.ensures,
+      uint_one c.args.t.now 1,
+      ← c.order_of-order.ensures,
       ← c.field_length-len.ensures,
       ne_eqb _ _ c.if-len-eq0.false,
       c.value_at-value.ensures,

@@ -19,29 +19,25 @@ returns-then-not-is_number c =
 
 pub signed_at-requires : goal.signed_at-requires
 signed_at-requires c =
-    let w = c in
-    let a = w.args in
-    let n : is_number a.kind ≡ true = sym w.is_number.ensures ∙ w.if-not-is_number.false in
-    omega (arith, number_width a.kind n, w.width-width.ensures)
+    let a = c.args in
+    let n : is_number a.kind ≡ true = sym c.is_number.ensures ∙ c.if-not-is_number.false in
+    omega (arith, number_width a.kind n, c.width-width.ensures)
 
 pub returns-then-is_signed : goal.returns-then-is_signed
 unfolding value_at
 returns-then-is_signed c =
-    let o = c in
-    rw (← c.is_signed.ensures, c.if-is_signed.true, ← o.width-width.ensures, ← o.field_order-field_order.ensures)
+    rw (← c.is_signed.ensures, c.if-is_signed.true, ← c.width-width.ensures, ← c.field_order-field_order.ensures)
     c.signed_at.ensures
 
 pub returns : goal.returns
 unfolding value_at
 returns c =
-    let o = c in
-    let b = o in
-    let a = b.args in
-    let w = b.width-width in
-    let n : is_number a.kind ≡ true = sym b.is_number.ensures ∙ b.if-not-is_number.false in
+    let a = c.args in
+    let w = c.width-width in
+    let n : is_number a.kind ≡ true = sym c.is_number.ensures ∙ c.if-not-is_number.false in
     let s : is_signed a.kind ≡ false = sym c.is_signed.ensures ∙ c.if-is_signed.false in
     let l : w.result ≤ 8 = omega (arith, number_width a.kind n, w.ensures) in
     let u =
-    uint_u64 o.field_order-field_order.result a.r.now (λ i. (b.shared_slice_known-1.given i).fits) a.at
+    uint_u64 c.field_order-field_order.result a.r.now (λ i. omega (arith, c.type_inv.r i)) a.at
     w.result l in
-    rw (s, n, ← w.ensures, ← o.field_order-field_order.ensures, c.get_uint.ensures, u.1)
+    rw (s, n, ← w.ensures, ← c.field_order-field_order.ensures, c.get_uint.ensures, u.1)

@@ -1,280 +1,106 @@
 -- `send_records`: the answers to what its invariant leaves.
-use Rattle.std.proofs.Common.{◌-◌, ltb, length, get_or, drop, sym, refl, ap, ◌∙◌, subst, arith, length-drop, take_all, rules, ltb-true}
-use Rattle.octets.proofs.Each.{and_left, and_right}
-use Rattle.session.specs.Limits.{max_servers}
-use Rattle.session.specs.Queue.{marked_set}
+use Rattle.std.proofs.Common.{◌-◌, length, drop, ap, arith, length-drop, take_all, rules}
+use Rattle.octets.specs.Answers.{judged, refusal_of}
 use Rattle.session.proofs.SoundFacts.{sound_facts}
 use Rattle.session.proofs.SoundKept.{Sized}
-use Rattle.soundness.specs.Parts.{Below, state_of}
 use Rattle.soundness.proofs.Parts.{active_below}
-use Rattle.session.specs.declared.state.Active.{Active}
 use Rattle.session.specs.declared.state.State.{State}
+use Rattle.session.specs.Steps.{after}
 use Rattle.sending.proofs.Sends.{sent_few}
-use Rattle.sending.proofs.Batches.{turned_first, turned_facts, turned_inside, turned_fits, turned_more, turned_refused}
-use Rattle.sending.proofs.Batches.{turned_ended, part_back}
+use Rattle.sending.proofs.Batches.{turned_by, turned_first, turned_facts, turned_inside, turned_more, turned_refused, turned_nothing}
+use Rattle.sending.proofs.Batches.{turned_ended, part_back, counted_as}
 use Rattle.sending.proofs.batch.send_records.Goals as goal
 
-pub loop-left-init : goal.loop-left-init
-loop-left-init c =
-    let z = c.requires in
-    let sized : Sized _ = record { lengths = z.1.of_lengths; templates = z.1.of_templates; receivers = z.1.of_receivers } in
-    (refl, turned_first _ _ _ _ _ z.0 sized c.record_start-at.ensures)
+pub loop-count-init : goal.loop-count-init
+loop-count-init c =
+    let q = c.args.s.queue in
+    let sized : Sized q = record { lengths = search rules; templates = search rules; receivers = search rules } in
+    turned_by (omega arith) (turned_first c.args.limit _ _ _ _ c.requires sized c.record_start-at.ensures)
 
-pub offset_bounds-lengths-i : goal.offset_bounds-lengths-i
-offset_bounds-lengths-i c =
+pub returns-then-state : goal.returns-then-state
+unfolding judged refusal_of
+returns-then-state c =
     let a = c.args in
-    let h = c.loop-left in
-    let s : State =
-    state_of a.p a.capacity h.delivery a.due a.count a.lengths.now a.templates.now h.receivers a.start
-    a.next in
-    let both = c.loop-left-test.true in
-    let more = ltb-true s.delivery.sent s.queue.count (and_right (ltb 0 h.left) _ both) in
-    omega (arith, sent_few s a.store.now (turned_facts a.limit a.out.now a.store.now _ h.left h.written s h.out h.at h.invariant.1 more))
+    let h = c.loop-count in
+    let s : State = h.state in
+    let left = a.limit - h.count in
+    let k = turned_nothing a.limit a.out.now a.store.now a.s left h.written s h.out h.at h.invariant (omega arith) c.if-state.true in
+    (counted_as s _ h.written h.count (a.limit - left) (omega arith) k.0, k.1)
 
-pub bounds-lengths-i : goal.bounds-lengths-i
-bounds-lengths-i c =
+pub offset_bounds-state-state : goal.offset_bounds-state-state
+offset_bounds-state-state c =
     let a = c.args in
-    let h = c.loop-left in
-    let s : State =
-    state_of a.p a.capacity h.delivery a.due a.count a.lengths.now a.templates.now h.receivers a.start
-    a.next in
-    let both = c.loop-left-test.true in
-    let more = ltb-true s.delivery.sent s.queue.count (and_right (ltb 0 h.left) _ both) in
-    sent_few s a.store.now (turned_facts a.limit a.out.now a.store.now _ h.left h.written s h.out h.at h.invariant.1 more)
+    let h = c.loop-count in
+    let f = turned_facts a.limit a.out.now a.store.now a.s _ h.written h.state h.out h.at h.invariant c.if-state.false in
+    omega (arith, sent_few h.state a.store.now f)
 
-pub next_head-head-requires : goal.next_head-head-requires
-next_head-head-requires c =
+pub bounds-state-state : goal.bounds-state-state
+bounds-state-state c =
     let a = c.args in
-    let h = c.loop-left in
-    let s : State =
-    state_of a.p a.capacity h.delivery a.due a.count a.lengths.now a.templates.now h.receivers a.start
-    a.next in
-    let both = c.loop-left-test.true in
-    let more = ltb-true s.delivery.sent s.queue.count (and_right (ltb 0 h.left) _ both) in
-    let f = sound_facts s h.invariant.1.live.is_sound in (
-      f.numbers.few,
-      (sent_few s a.store.now (turned_facts a.limit a.out.now a.store.now _ h.left h.written s h.out h.at h.invariant.1 more), (active_below s h.invariant.1.live.is_sound, f.known s.delivery.sent more)),
-    )
+    let h = c.loop-count in
+    sent_few h.state a.store.now (turned_facts a.limit a.out.now a.store.now a.s _ h.written h.state h.out h.at h.invariant c.if-state.false)
 
-pub slice_bounds-write_record-start : goal.slice_bounds-write_record-start
-slice_bounds-write_record-start c =
-    let a = c.args in
-    let h = c.loop-left in
-    let s : State =
-    state_of a.p a.capacity h.delivery a.due a.count a.lengths.now a.templates.now h.receivers a.start
-    a.next in
-    omega (arith, h.invariant.1.under.inside)
+pub slice_bounds-write_next-count : goal.slice_bounds-write_next-count
+slice_bounds-write_next-count c = c.loop-count.invariant.under.inside
 
-pub write_record-wrote-requires : goal.write_record-wrote-requires
-write_record-wrote-requires c =
-    let a = c.args in
-    let h = c.loop-left in
-    let s : State =
-    state_of a.p a.capacity h.delivery a.due a.count a.lengths.now a.templates.now h.receivers a.start
-    a.next in
-    let both = c.loop-left-test.true in
-    let more = ltb-true s.delivery.sent s.queue.count (and_right (ltb 0 h.left) _ both) in
-    let f = sound_facts s h.invariant.1.live.is_sound in
-    let short = f.short s.delivery.sent more in
-    let len = c.wide-len.ensures in
-    let stored = h.invariant.1.live.stored in (
-      omega (arith, turned_inside a.limit a.out.now a.store.now _ h.left h.written s h.out h.at h.invariant.1 more, stored),
-      (omega (arith, short, len, stored, f.numbers.settings.some_room), omega (arith, short, len)),
-    )
+pub slice_bounds-write_next-start : goal.slice_bounds-write_next-start
+slice_bounds-write_next-start c = omega (arith, c.loop-count.invariant.under.inside)
 
-pub offset_bounds-receivers-i : goal.offset_bounds-receivers-i
-offset_bounds-receivers-i c =
+pub write_next-wrote-requires : goal.write_next-wrote-requires
+write_next-wrote-requires c =
     let a = c.args in
-    let h = c.loop-left in
-    let s : State =
-    state_of a.p a.capacity h.delivery a.due a.count a.lengths.now a.templates.now h.receivers a.start
-    a.next in
-    let both = c.loop-left-test.true in
-    let more = ltb-true s.delivery.sent s.queue.count (and_right (ltb 0 h.left) _ both) in
-    omega (arith, sent_few s a.store.now (turned_facts a.limit a.out.now a.store.now _ h.left h.written s h.out h.at h.invariant.1 more))
+    let h = c.loop-count in
+    (turned_facts a.limit a.out.now a.store.now a.s _ h.written h.state h.out h.at h.invariant c.if-state.false, h.invariant.place)
 
-pub bounds-receivers-i : goal.bounds-receivers-i
-bounds-receivers-i c =
+pub mark_sent-requires : goal.mark_sent-requires
+mark_sent-requires c =
     let a = c.args in
-    let h = c.loop-left in
-    let s : State =
-    state_of a.p a.capacity h.delivery a.due a.count a.lengths.now a.templates.now h.receivers a.start
-    a.next in
-    let both = c.loop-left-test.true in
-    let more = ltb-true s.delivery.sent s.queue.count (and_right (ltb 0 h.left) _ both) in
-    sent_few s a.store.now (turned_facts a.limit a.out.now a.store.now _ h.left h.written s h.out h.at h.invariant.1 more)
-
-pub marked_set-requires : goal.marked_set-requires
-marked_set-requires c =
-    let a = c.args in
-    let h = c.loop-left in
-    let s : State =
-    state_of a.p a.capacity h.delivery a.due a.count a.lengths.now a.templates.now h.receivers a.start
-    a.next in
-    subst (Below max_servers) (ap (λ (z : State). z.delivery.active) (sym h.invariant.1.same) ∙ sym h.invariant.0)
-    (active_below s h.invariant.1.live.is_sound)
-
-pub offset_bounds-receivers-i-in-Octets : goal.offset_bounds-receivers-i-in-Octets
-offset_bounds-receivers-i-in-Octets c =
-    let a = c.args in
-    let h = c.loop-left in
-    let s : State =
-    state_of a.p a.capacity h.delivery a.due a.count a.lengths.now a.templates.now h.receivers a.start
-    a.next in
-    let both = c.loop-left-test.true in
-    let more = ltb-true s.delivery.sent s.queue.count (and_right (ltb 0 h.left) _ both) in
-    omega (arith, sent_few s a.store.now (turned_facts a.limit a.out.now a.store.now _ h.left h.written s h.out h.at h.invariant.1 more))
-
-pub bounds-receivers-i-in-Octets : goal.bounds-receivers-i-in-Octets
-bounds-receivers-i-in-Octets c =
-    let a = c.args in
-    let h = c.loop-left in
-    let s : State =
-    state_of a.p a.capacity h.delivery a.due a.count a.lengths.now a.templates.now h.receivers a.start
-    a.next in
-    let both = c.loop-left-test.true in
-    let more = ltb-true s.delivery.sent s.queue.count (and_right (ltb 0 h.left) _ both) in
-    sent_few s a.store.now (turned_facts a.limit a.out.now a.store.now _ h.left h.written s h.out h.at h.invariant.1 more)
-
-pub overflow_add-delivery : goal.overflow_add-delivery
-overflow_add-delivery c =
-    let a = c.args in
-    let h = c.loop-left in
-    let s : State =
-    state_of a.p a.capacity h.delivery a.due a.count a.lengths.now a.templates.now h.receivers a.start
-    a.next in
-    let both = c.loop-left-test.true in
-    let more = ltb-true s.delivery.sent s.queue.count (and_right (ltb 0 h.left) _ both) in
-    omega (arith, sent_few s a.store.now (turned_facts a.limit a.out.now a.store.now _ h.left h.written s h.out h.at h.invariant.1 more))
-
-pub overflow_add-i : goal.overflow_add-i
-overflow_add-i c =
-    let a = c.args in
-    let h = c.loop-left in
-    let s : State =
-    state_of a.p a.capacity h.delivery a.due a.count a.lengths.now a.templates.now h.receivers a.start
-    a.next in
-    let both = c.loop-left-test.true in
-    let more = ltb-true s.delivery.sent s.queue.count (and_right (ltb 0 h.left) _ both) in
-    omega (arith, sent_few s a.store.now (turned_facts a.limit a.out.now a.store.now _ h.left h.written s h.out h.at h.invariant.1 more))
-
-pub overflow_add-written : goal.overflow_add-written
-overflow_add-written c =
-    let a = c.args in
-    let h = c.loop-left in
-    let s : State =
-    state_of a.p a.capacity h.delivery a.due a.count a.lengths.now a.templates.now h.receivers a.start
-    a.next in
-    let both = c.loop-left-test.true in
-    let more = ltb-true s.delivery.sent s.queue.count (and_right (ltb 0 h.left) _ both) in
-    omega (
-      arith,
-      h.invariant.1.under.long,
-      turned_fits a.limit a.out.now a.store.now _ h.left h.written s h.out h.at h.invariant.1 more
-          c.next_head-head.result c.wide-len.result c.write_record-wrote.result _ _
-          (take_all (length h.out - h.written) (drop h.written h.out) (omega (arith, length-drop h.written h.out)))
-          c.next_head-head.ensures c.wide-len.ensures c.write_record-wrote.ensures
-          _ c.in-Octets.is,
-    )
+    let h = c.loop-count in
+    let f = turned_facts a.limit a.out.now a.store.now a.s _ h.written h.state h.out h.at h.invariant c.if-state.false in
+    (sent_few h.state a.store.now f, active_below h.state f.is_sound)
 
 pub place_behind-at-requires : goal.place_behind-at-requires
+unfolding after
 place_behind-at-requires c =
     let a = c.args in
-    let h = c.loop-left in
-    let s : State =
-    state_of a.p a.capacity h.delivery a.due a.count a.lengths.now a.templates.now h.receivers a.start
-    a.next in
-    let both = c.loop-left-test.true in
-    let more = ltb-true s.delivery.sent s.queue.count (and_right (ltb 0 h.left) _ both) in
-    let f = sound_facts s h.invariant.1.live.is_sound in
-    let short = f.short s.delivery.sent more in (
-      turned_inside a.limit a.out.now a.store.now _ h.left h.written s h.out h.at h.invariant.1 more,
-      (omega (arith, short, c.wide-len.ensures, f.numbers.settings.some_room), f.numbers.settings.small_room),
-    )
+    let h = c.loop-count in
+    let f = sound_facts h.state h.invariant.live.is_sound in
+    let inside = turned_inside a.limit a.out.now a.store.now a.s _ h.written h.state h.out h.at h.invariant c.if-state.false in
+    let short = f.short h.state.delivery.sent c.if-state.false in
+    let e = ap (λ (s : State). s.capacity) c.mark_sent.ensures in
+    (omega (arith, e, inside), (omega (arith, e, short, f.numbers.settings.some_room), omega (arith, e, f.numbers.settings.small_room)))
 
-pub overflow_sub-left : goal.overflow_sub-left
-overflow_sub-left c =
+pub returns-in-Err : goal.returns-in-Err
+returns-in-Err c =
     let a = c.args in
-    let h = c.loop-left in
-    let s : State =
-    state_of a.p a.capacity h.delivery a.due a.count a.lengths.now a.templates.now h.receivers a.start
-    a.next in
-    let both = c.loop-left-test.true in
-    omega (arith, ltb-true 0 h.left (and_left (ltb 0 h.left) _ both))
-
-pub loop-left-smaller : goal.loop-left-smaller
-loop-left-smaller c =
-    let a = c.args in
-    let h = c.loop-left in
-    let s : State =
-    state_of a.p a.capacity h.delivery a.due a.count a.lengths.now a.templates.now h.receivers a.start
-    a.next in
-    let both = c.loop-left-test.true in
-    omega (arith, ltb-true 0 h.left (and_left (ltb 0 h.left) _ both))
-
-pub loop-left-preserved : goal.loop-left-preserved
-loop-left-preserved c =
-    let a = c.args in
-    let h = c.loop-left in
-    let s : State =
-    state_of a.p a.capacity h.delivery a.due a.count a.lengths.now a.templates.now h.receivers a.start
-    a.next in
-    let both = c.loop-left-test.true in
-    let more = ltb-true s.delivery.sent s.queue.count (and_right (ltb 0 h.left) _ both) in
-    let active = h.invariant.0 ∙ ap (λ (z : State). z.delivery.active) h.invariant.1.same in (
-      h.invariant.0,
-      turned_more a.limit a.out.now a.store.now _ h.left h.written s h.out h.at h.invariant.1 more
-          c.next_head-head.result c.wide-len.result c.write_record-wrote.result _ _
-          (take_all (length h.out - h.written) (drop h.written h.out) (omega (arith, length-drop h.written h.out)))
-          c.next_head-head.ensures c.wide-len.ensures c.write_record-wrote.ensures
-          _ _ _ _ _ (ltb-true 0 h.left (and_left (ltb 0 h.left) _ both)) c.in-Octets.is (part_back h.written h.out _)
-          (c.marked_set.ensures ∙ ap (λ (v : Active). marked_set v (get_or h.receivers h.delivery.sent 0)) active) c.larger.ensures
-          c.place_behind-at.ensures,
-    )
-
-pub overflow_sub-limit : goal.overflow_sub-limit
-overflow_sub-limit c =
-    let a = c.args in
-    let h = c.loop-left in
-    let s : State =
-    state_of a.p a.capacity h.delivery a.due a.count a.lengths.now a.templates.now h.receivers a.start
-    a.next in
-    omega (arith, h.invariant.1.under.few)
-
-pub shape_of-out-in-Refused : goal.shape_of-out-in-Refused
-shape_of-out-in-Refused c =
-    let h = c.loop-left in
-    search (rules, c.out-1.given.1 ∙ h.invariant.1.under.long)
-
-pub returns-in-Refused : goal.returns-in-Refused
-returns-in-Refused c =
-    let a = c.args in
-    let h = c.loop-left in
-    let s : State =
-    state_of a.p a.capacity h.delivery a.due a.count a.lengths.now a.templates.now h.receivers a.start
-    a.next in
-    let both = c.loop-left-test.true in
-    let more = ltb-true s.delivery.sent s.queue.count (and_right (ltb 0 h.left) _ both) in
-    turned_refused a.limit a.out.now a.store.now _ h.left h.written s h.out h.at h.invariant.1 more
-    c.next_head-head.result c.wide-len.result c.write_record-wrote.result _ _
+    let h = c.loop-count in
+    let s : State = h.state in
+    let left = a.limit - h.count in
+    let k =
+    turned_refused a.limit a.out.now a.store.now a.s left h.written s h.out h.at h.invariant c.if-state.false
+    c.write_next-wrote.result _ c.write_next-wrote.new.out
     (take_all (length h.out - h.written) (drop h.written h.out) (omega (arith, length-drop h.written h.out)))
-    c.next_head-head.ensures c.wide-len.ensures c.write_record-wrote.ensures
-    _ _ _ (ltb-true 0 h.left (and_left (ltb 0 h.left) _ both)) c.in-Refused.is (part_back h.written h.out _) c.ended.ensures
+    c.write_next-wrote.ensures _ _ (omega arith) c.in-Err.is (part_back h.written h.out _) in
+    (counted_as s _ h.written h.count (a.limit - left) (omega arith) k.0, k.1)
 
-pub overflow_sub-limit-2 : goal.overflow_sub-limit-2
-overflow_sub-limit-2 c =
+pub loop-count-preserved : goal.loop-count-preserved
+loop-count-preserved c =
     let a = c.args in
-    let h = c.loop-left in
-    let s : State =
-    state_of a.p a.capacity h.delivery a.due a.count a.lengths.now a.templates.now h.receivers a.start
-    a.next in
-    omega (arith, h.invariant.1.under.few)
+    let h = c.loop-count in
+    let s : State = h.state in
+    let left = a.limit - h.count in
+    turned_by (omega arith)
+    (turned_more a.limit a.out.now a.store.now a.s left h.written s h.out h.at h.invariant c.if-state.false
+    c.write_next-wrote.result _ c.write_next-wrote.new.out
+    (take_all (length h.out - h.written) (drop h.written h.out) (omega (arith, length-drop h.written h.out)))
+    c.write_next-wrote.ensures _ _ _ _ (omega arith) c.in-Ok.is (part_back h.written h.out _) c.mark_sent.ensures c.place_behind-at.ensures)
 
 pub returns : goal.returns
+unfolding judged
 returns c =
     let a = c.args in
-    let h = c.loop-left in
-    let s : State =
-    state_of a.p a.capacity h.delivery a.due a.count a.lengths.now a.templates.now h.receivers a.start
-    a.next in
-    turned_ended a.limit a.out.now a.store.now _ h.left h.written s h.out h.at h.invariant.1 _ _ c.loop-left-test.false c.end_answer.ensures c.ended-2.ensures
+    let h = c.loop-count in
+    let s : State = h.state in
+    let left = a.limit - h.count in
+    let k = turned_ended a.limit a.out.now a.store.now a.s left h.written s h.out h.at h.invariant (omega arith) in
+    (counted_as s _ h.written a.limit (a.limit - left) (omega arith) k.0, k.1)

@@ -7,12 +7,12 @@ use Rattle.soundness.specs.Parts.{Below}
 use Rattle.sending.proofs.next_data.is_duplicate.Goals as goal
 
 pub has_other-requires : goal.has_other-requires
-has_other-requires c = subst (Below max_servers) c.in-Server.is c.requires.0
+has_other-requires c = subst (Below max_servers) c.in-Some.is c.requires.0
 
-pub returns-in-Server : goal.returns-in-Server
-returns-in-Server c =
+pub returns-in-Some : goal.returns-in-Some
+returns-in-Some c =
     let z = c in
     let m = z.args.set in
     let low : m < 2 ^ max_servers = search rules in
-    let below : c.in-Server.v < max_servers = subst (Below max_servers) c.in-Server.is z.requires.0 in
-    rw c.in-Server.is (c.has_other.ensures ∙ sym (other_beside z.args.p.servers max_servers c.in-Server.v m z.requires.1 low below))
+    let below : c.in-Some.v < max_servers = subst (Below max_servers) c.in-Some.is z.requires.0 in
+    rw c.in-Some.is (c.has_other.ensures ∙ sym (other_beside z.args.p.servers max_servers c.in-Some.v m z.requires.1 low below))

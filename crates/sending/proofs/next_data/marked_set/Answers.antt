@@ -6,7 +6,7 @@ use Rattle.soundness.specs.Parts.{Below}
 use Rattle.sending.proofs.next_data.marked_set.Goals as goal
 
 pub with_server-requires : goal.with_server-requires
-with_server-requires c = subst (Below max_servers) c.in-Server.is c.requires
+with_server-requires c = subst (Below max_servers) c.in-Some.is c.requires
 
-pub returns-in-Server : goal.returns-in-Server
-returns-in-Server c = rw c.in-Server.is c.with_server.ensures
+pub returns-in-Some : goal.returns-in-Some
+returns-in-Some c = rw c.in-Some.is c.with_server.ensures

@@ -1,30 +1,35 @@
--- `next_data` meets its contract. What sending changes was computed of the parts of the state, and is stored into the state once. The one
--- entry that is stored lies below 64, and a refusal stores what was there.
-use Rattle.std.proofs.Common.{arith}
-use Rattle.sending.proofs.Sends.{sending_inside, sent_applied}
+-- `next_data` meets its contract. A refusal leaves what came. Where there is a record to send and a server to send it to, only the output's
+-- length can refuse it.
+use Rattle.std.proofs.Common.{sym, ◌∙◌}
+use Rattle.octets.proofs.Judging.{judged_ok, handed_on}
+use Rattle.soundness.proofs.Parts.{active_below}
+use Rattle.sending.proofs.Sends.{send_facts, sent_few, next_err, next_short, next_done}
 use Rattle.sending.proofs.next_data.next_data.Goals as goal
 
-pub offset_bounds-receivers-place : goal.offset_bounds-receivers-place
-offset_bounds-receivers-place c =
+pub returns-in_err-check_send : goal.returns-in_err-check_send
+returns-in_err-check_send c =
     let a = c.args in
-    omega (
-      arith,
-      sending_inside a.s a.store.now a.out.now c.next_change-change.result
-          c.next_change-change.ensures.0,
-    )
+    rw (handed_on c.from_residual.ensures.1) (next_err a.s a.store.now a.out.now (sym c.check_send.ensures ∙ c.in_err-check_send.was))
 
-pub bounds-receivers-place : goal.bounds-receivers-place
-bounds-receivers-place c =
+pub write_next-requires : goal.write_next-requires
+write_next-requires c =
     let a = c.args in
-    omega (
-      arith,
-      sending_inside a.s a.store.now a.out.now c.next_change-change.result
-          c.next_change-change.ensures.0,
-    )
+    (send_facts a.s a.store.now (judged_ok _ (tt {0}) (sym c.check_send.ensures ∙ c.in_ok-check_send.was)), c.record_start-at.ensures)
+
+pub returns-in_err-written : goal.returns-in_err-written
+returns-in_err-written c =
+    let a = c.args in
+    let f = send_facts a.s a.store.now (judged_ok _ (tt {0}) (sym c.check_send.ensures ∙ c.in_ok-check_send.was)) in
+    rw (handed_on c.from_residual-in_err-written.ensures.1) (next_short a.s a.store.now a.out.now _ _ _ f c.write_next.ensures c.in_err-written.was)
+
+pub mark_sent-requires : goal.mark_sent-requires
+mark_sent-requires c =
+    let a = c.args in
+    let f = send_facts a.s a.store.now (judged_ok _ (tt {0}) (sym c.check_send.ensures ∙ c.in_ok-check_send.was)) in
+    (sent_few a.s a.store.now f, active_below a.s f.is_sound)
 
 pub returns : goal.returns
 returns c =
-    let b = c in
-    let a = b.args in
-    let x = b.next_change-change in
-    (sent_applied a.s a.store.now a.out.now x.result x.ensures.0, x.ensures.1)
+    let a = c.args in
+    let f = send_facts a.s a.store.now (judged_ok _ (tt {0}) (sym c.check_send.ensures ∙ c.in_ok-check_send.was)) in
+    next_done a.s a.store.now a.out.now _ _ _ _ f c.write_next.ensures c.in_ok-written.was c.mark_sent.ensures

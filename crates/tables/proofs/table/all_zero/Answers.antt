@@ -1,35 +1,33 @@
--- `all_zero`: the answers to what its invariant leaves.
-use mathlib.Core.Path.{◌≡◌, refl, sym}
+-- `all_zero` meets its contract: a test that every octet of a part passes is one that the octet at each place of it passes.
+use mathlib.Core.List.{List}
+use mathlib.Core.Path.{◌≡◌, ap, ◌∙◌}
+use Prim.Native.Nat.{ℕ, ◌+◌, ◌-◌, ◌≤◌}
 use native.Mathlib.Omega.{arith}
-use Prim.Native.Nat.{◌+◌, ◌≤◌, ◌<◌}
-use lib.ListN.{get_or}
-use borrow.Author.Tests.{eq-eqb, ne_eqb}
-use borrow.Author.Rules.{rules}
+use Rattle.std.proofs.Common.{rules, tests}
+use Rattle.std.proofs.lemmas.Iterator.{YieldsList-from_slice}
+use Rattle.std.proofs.lemmas.Iterator.Search.{all_from_yields_List}
+use lib.Dec.{eqb}
+use lib.ListN.{length, get_or, take, drop, length-drop}
+use lib.Seq.{length-take-le, get_or-take, get_or-drop}
 use Rattle.octets.specs.Each.{every}
-use Rattle.octets.proofs.Each.{every_false, every_step}
+use Rattle.octets.proofs.Each.{every_listed, every_same}
 use Rattle.tables.proofs.table.all_zero.Goals as goal
 
-pub loop-i-init : goal.loop-i-init
-unfolding every
-loop-i-init c = (search rules, refl)
-
-pub returns-then-t-at-gt0 : goal.returns-then-t-at-gt0
-returns-then-t-at-gt0 c =
-    let a = c.args in
-    let i = c.loop-i.i in
-    let octet = get_or a.t.now (a.at + i) 0 in
-    let h : 0 < octet = c.if-t-at-gt0.true in
-    sym (every_false _ _ i (search rules) (ne_eqb octet 0 (λ e. omega arith)))
-
-pub loop-i-preserved : goal.loop-i-preserved
-loop-i-preserved c =
-    let a = c.args in
-    let l = c.loop-i in
-    let octet = get_or a.t.now (a.at + l.i) 0 in
-    let h : octet ≤ 0 = c.if-t-at-gt0.false in
-    (search rules, every_step l.i _ l.invariant.1 (eq-eqb octet 0 (omega arith)))
+-- the octets of a part are those at its places
+part_zero : (t : List ℕ) (at n : ℕ) → at + n ≤ length t
+    → every (length (take (at + n - at) (drop at t))) (λ i. eqb (get_or (take (at + n - at) (drop at t)) i 0) 0)
+    ≡ every n (λ i. eqb (get_or t (at + i) 0) 0)
+part_zero t at n h =
+    let part = take (at + n - at) (drop at t) in
+    let size : length part ≡ n = length-take-le (at + n - at) (drop at t) (omega (arith, length-drop at t)) ∙ omega arith in
+    ap (λ (k : ℕ). every k (λ i. eqb (get_or part i 0) 0)) size
+    ∙ every_same n (λ i. eqb (get_or part i 0) 0) (λ i. eqb (get_or t (at + i) 0) 0)
+    (λ i l. ap (λ (x : ℕ). eqb x 0) (get_or-take (at + n - at) (drop at t) i 0 (omega arith) ∙ get_or-drop at t i 0))
 
 pub returns : goal.returns
 returns c =
-    let e : c.loop-i.i ≡ c.args.n = omega arith in
-    sym (rw e at c.loop-i.invariant.1)
+    let a = c.args in
+    let part = take (a.at + a.n - a.at) (drop a.at a.t.now) in
+    all_from_yields_List (λ x. eqb x 0) _ _ _ c.all.ensures.ran (YieldsList-from_slice part cc) (λ x b q k. search (rules, tests))
+    ∙ every_listed (λ x. eqb x 0) part
+    ∙ part_zero a.t.now a.at a.n (omega arith)

@@ -48,9 +48,8 @@ keys_sound-requires c =
 pub returns-then-not-keys_sound : goal.returns-then-not-keys_sound
 unfolding block_sound template_at
 returns-then-not-keys_sound c =
-    let d = c in
     rw (
-      sym d.head_sound.ensures ∙ d.if-not-head_sound.false,
+      sym c.head_sound.ensures ∙ c.if-not-head_sound.false,
       sym c.padding_sound.ensures ∙ c.if-not-padding_sound.false,
       sym (rw c.template_at-template.ensures at c.keys_sound.ensures) ∙ c.if-not-keys_sound.true,
     )
@@ -58,19 +57,16 @@ returns-then-not-keys_sound c =
 pub keys_differ-requires : goal.keys_differ-requires
 unfolding block_end template_at
 keys_differ-requires c =
-    let d = c in
-    let a = d.args in
-    let h = head_facts a.t.now a.at (sym d.head_sound.ensures ∙ d.if-not-head_sound.false) in
+    let a = c.args in
+    let h = head_facts a.t.now a.at (sym c.head_sound.ensures ∙ c.if-not-head_sound.false) in
     rw c.template_at-template.ensures (omega (arith, h.within), h.few)
 
 pub returns : goal.returns
 unfolding block_sound template_at
 returns c =
-    let k = c in
-    let d = k in
     rw (
-      sym d.head_sound.ensures ∙ d.if-not-head_sound.false,
-      sym k.padding_sound.ensures ∙ k.if-not-padding_sound.false,
-      sym (rw k.template_at-template.ensures at k.keys_sound.ensures) ∙ c.if-not-keys_sound.false,
+      sym c.head_sound.ensures ∙ c.if-not-head_sound.false,
+      sym c.padding_sound.ensures ∙ c.if-not-padding_sound.false,
+      sym (rw c.template_at-template.ensures at c.keys_sound.ensures) ∙ c.if-not-keys_sound.false,
     )
-    (rw k.template_at-template.ensures at c.keys_differ.ensures ∙ sym (clause_last _))
+    (rw c.template_at-template.ensures at c.keys_differ.ensures ∙ sym (clause_last _))

@@ -1,12 +1,8 @@
 -- `find_template` meets its contract: the table is judged first, then the template is located.
 use mathlib.Core.Path.{sym, ◌∙◌}
-use Rattle.tables.specs.Table.{find_of}
 use Rattle.octets.proofs.Judging.{answered}
-use Rattle.tables.proofs.Tables.{find_located, found_number}
+use Rattle.tables.proofs.Tables.{find_located, find_unsound, found_number}
 use Rattle.tables.proofs.table.find_template.Goals as goal
-
-pub locate-requires : goal.locate-requires
-locate-requires c = sym c.table_sound.ensures ∙ c.if-table_sound.true
 
 pub returns-then-table_sound : goal.returns-then-table_sound
 returns-then-table_sound c =
@@ -14,5 +10,4 @@ returns-then-table_sound c =
     (c.locate.ensures ∙ sym (find_located _ _ (sym c.table_sound.ensures ∙ c.if-table_sound.true)))
 
 pub returns : goal.returns
-unfolding find_of
-returns c = answered (found_number _ _) (rw (sym c.table_sound.ensures ∙ c.if-table_sound.false))
+returns c = answered (found_number _ _) (sym (find_unsound _ _ (sym c.table_sound.ensures ∙ c.if-table_sound.false)))

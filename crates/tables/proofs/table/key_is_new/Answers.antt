@@ -1,6 +1,5 @@
 -- `key_is_new`: the answers to what its invariant leaves.
-use mathlib.Core.Path.{◌≡◌, refl, sym, ap, ◌∙◌}
-use native.Mathlib.Omega.{arith}
+use mathlib.Core.Path.{refl, sym, ap, ◌∙◌}
 use mathlib.Core.Bool.{not}
 use borrow.Author.Tests.{eq-eqb, ne_eqb}
 use Rattle.octets.specs.Each.{every}
@@ -10,7 +9,7 @@ use Rattle.tables.proofs.table.key_is_new.Goals as goal
 
 pub loop-j-init : goal.loop-j-init
 unfolding every
-loop-j-init c = (search rules, refl)
+loop-j-init c = refl
 
 pub returns-then-key_id-id : goal.returns-then-key_id-id
 returns-then-key_id-id c =
@@ -20,14 +19,5 @@ returns-then-key_id-id c =
 
 pub loop-j-preserved : goal.loop-j-preserved
 loop-j-preserved c =
-    let l = c.loop-j in (
-      search rules,
-      every_step l.j _ l.invariant.1
-          (ap not (ne_eqb _ _ (λ e. c.if-key_id-id.false
-          (c.key_id.ensures ∙ e ∙ sym c.key_id-id.ensures)))),
-    )
-
-pub returns : goal.returns
-returns c =
-    let e : c.loop-j.j ≡ c.args.k = omega arith in
-    sym (rw e at c.loop-j.invariant.1)
+    let l = c.loop-j in
+    every_step l.j _ l.invariant (ap not (ne_eqb _ _ (λ e. c.if-key_id-id.false (c.key_id.ensures ∙ e ∙ sym c.key_id-id.ensures))))

@@ -1,6 +1,5 @@
 -- `keys_differ`: the answers to what its invariant leaves.
-use mathlib.Core.Path.{◌≡◌, refl, sym, ◌∙◌}
-use native.Mathlib.Omega.{arith}
+use mathlib.Core.Path.{refl, sym, ◌∙◌}
 use Rattle.octets.specs.Each.{every}
 use Rattle.octets.proofs.Each.{every_false, every_step}
 use borrow.Author.Rules.{rules}
@@ -11,7 +10,7 @@ returns-then-keys_rise c = sym (c.keys_rise.ensures c.if-keys_rise.true)
 
 pub loop-k-init : goal.loop-k-init
 unfolding every
-loop-k-init c = (search rules, refl)
+loop-k-init c = refl
 
 pub returns-then-not-key_is_new : goal.returns-then-not-key_is_new
 returns-then-not-key_is_new c =
@@ -21,9 +20,4 @@ returns-then-not-key_is_new c =
 pub loop-k-preserved : goal.loop-k-preserved
 loop-k-preserved c =
     let l = c.loop-k in
-    (search rules, every_step l.k _ l.invariant.1 (sym c.key_is_new.ensures ∙ c.if-not-key_is_new.false))
-
-pub returns : goal.returns
-returns c =
-    let e : c.loop-k.k ≡ c.args.n = omega arith in
-    sym (rw e at c.loop-k.invariant.1)
+    every_step l.k _ l.invariant (sym c.key_is_new.ensures ∙ c.if-not-key_is_new.false)

@@ -3,11 +3,10 @@ use native.Mathlib.Omega.{arith}
 use Rattle.octets.proofs.Each.{every_fewer}
 use Rattle.tables.proofs.Tables.{rise_start, rise_step}
 use mathlib.Core.Bool.{false≢true}
-use borrow.Author.Rules.{rules}
 use Rattle.tables.proofs.table.keys_rise.Goals as goal
 
 pub loop-k-init : goal.loop-k-init
-loop-k-init c = (search rules, rise_start _)
+loop-k-init c = rise_start _
 
 pub returns-then-key_id : goal.returns-then-key_id
 returns-then-key_id c = λ e. absurd (false≢true e)
@@ -15,7 +14,7 @@ returns-then-key_id c = λ e. absurd (false≢true e)
 pub loop-k-preserved : goal.loop-k-preserved
 loop-k-preserved c =
     let l = c.loop-k in
-    (search rules, rise_step _ l.k l.invariant.0 l.invariant.1 (omega arith))
+    rise_step _ l.k (omega arith) l.invariant (omega arith)
 
 pub returns : goal.returns
-returns c = λ e. every_fewer _ _ c.loop-k.invariant.1.0 _ (omega arith)
+returns c = λ e. every_fewer _ _ c.loop-k.invariant.0 _ (omega arith)

@@ -1,6 +1,5 @@
 -- `keys_sound`: the answers to what its invariant leaves.
-use mathlib.Core.Path.{◌≡◌, refl, sym, ◌∙◌}
-use native.Mathlib.Omega.{arith}
+use mathlib.Core.Path.{refl, sym, ◌∙◌}
 use borrow.Author.Rules.{rules}
 use Rattle.octets.specs.Each.{every}
 use Rattle.octets.proofs.Each.{every_false, every_step}
@@ -8,7 +7,7 @@ use Rattle.tables.proofs.table.keys_sound.Goals as goal
 
 pub loop-k-init : goal.loop-k-init
 unfolding every
-loop-k-init c = (search rules, refl)
+loop-k-init c = refl
 
 pub returns-then-not-key_sound : goal.returns-then-not-key_sound
 returns-then-not-key_sound c =
@@ -16,13 +15,4 @@ returns-then-not-key_sound c =
     (sym c.key_sound.ensures ∙ c.if-not-key_sound.true))
 
 pub loop-k-preserved : goal.loop-k-preserved
-loop-k-preserved c = (
-  search rules,
-  every_step c.loop-k.k _ c.loop-k.invariant.1
-      (sym c.key_sound.ensures ∙ c.if-not-key_sound.false),
-)
-
-pub returns : goal.returns
-returns c =
-    let e : c.loop-k.k ≡ c.args.n = omega arith in
-    sym (rw e at c.loop-k.invariant.1)
+loop-k-preserved c = every_step c.loop-k.k _ c.loop-k.invariant (sym c.key_sound.ensures ∙ c.if-not-key_sound.false)

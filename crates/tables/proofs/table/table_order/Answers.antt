@@ -4,4 +4,4 @@ use Rattle.tables.specs.Table.{order_of}
 use Rattle.tables.proofs.table.table_order.Goals as goal
 
 pub returns : goal.returns
-returns c = c.order_of.ensures ∙ ap order_of c.get_u8.ensures
+returns c = c.order_of.ensures ∙ ap order_of c.get.ensures

@@ -14,38 +14,33 @@ returns-then-t-gt-MAX_TABLE_OCTETS c = rw (lt-leb _ max_table_octets c.if-t-gt-M
 pub returns-then-not-flags_sound : goal.returns-then-not-flags_sound
 unfolding table_sound
 returns-then-not-flags_sound c =
-    let f = c in
     rw (
-      le-leb _ max_table_octets f.if-t-gt-MAX_TABLE_OCTETS.false,
-      ← f.get_u8.ensures,
-      sym f.flags_sound.ensures ∙ c.if-not-flags_sound.true,
+      le-leb _ max_table_octets c.if-t-gt-MAX_TABLE_OCTETS.false,
+      ← c.get.ensures,
+      sym c.flags_sound.ensures ∙ c.if-not-flags_sound.true,
     )
 
 pub returns-then-count-lt1 : goal.returns-then-count-lt1
 unfolding table_sound
 returns-then-count-lt1 c =
-    let d = c in
-    let f = d in
-    let h : template_count f.args.t.now < 1 = omega arith in
+    let h : template_count c.args.t.now < 1 = omega arith in
     rw (
-      le-leb _ max_table_octets f.if-t-gt-MAX_TABLE_OCTETS.false,
-      ← f.get_u8.ensures,
-      sym f.flags_sound.ensures ∙ d.if-not-flags_sound.false,
+      le-leb _ max_table_octets c.if-t-gt-MAX_TABLE_OCTETS.false,
+      ← c.get.ensures,
+      sym c.flags_sound.ensures ∙ c.if-not-flags_sound.false,
       lt-leb 1 _ h,
     )
 
 pub returns-then-count-gt-MAX_TEMPLATES : goal.returns-then-count-gt-MAX_TEMPLATES
 unfolding table_sound
 returns-then-count-gt-MAX_TEMPLATES c =
-    let d = c in
-    let f = d in
-    let n = template_count f.args.t.now in
+    let n = template_count c.args.t.now in
     let h : 1 ≤ n = omega arith in
     let m : 8 < n = omega arith in
     rw (
-      le-leb _ max_table_octets f.if-t-gt-MAX_TABLE_OCTETS.false,
-      ← f.get_u8.ensures,
-      sym f.flags_sound.ensures ∙ d.if-not-flags_sound.false,
+      le-leb _ max_table_octets c.if-t-gt-MAX_TABLE_OCTETS.false,
+      ← c.get.ensures,
+      sym c.flags_sound.ensures ∙ c.if-not-flags_sound.false,
       le-leb 1 _ h,
       lt-leb _ 8 m,
     )
@@ -53,16 +48,14 @@ returns-then-count-gt-MAX_TEMPLATES c =
 pub returns : goal.returns
 unfolding table_sound
 returns c =
-    let d = c in
-    let f = d in
-    let n = template_count f.args.t.now in
+    let n = template_count c.args.t.now in
     let h : 1 ≤ n = omega arith in
     let m : n ≤ 8 = omega arith in
     rw (
-      le-leb _ max_table_octets f.if-t-gt-MAX_TABLE_OCTETS.false,
-      ← f.get_u8.ensures,
-      sym f.flags_sound.ensures ∙ d.if-not-flags_sound.false,
+      le-leb _ max_table_octets c.if-t-gt-MAX_TABLE_OCTETS.false,
+      ← c.get.ensures,
+      sym c.flags_sound.ensures ∙ c.if-not-flags_sound.false,
       le-leb 1 _ h,
       le-leb _ 8 m,
     )
-    (rw c.get_u16-count.ensures at c.blocks_sound.ensures)
+    (rw c.get-count.ensures at c.blocks_sound.ensures)

@@ -8,14 +8,14 @@ use Rattle.tape.proofs.Turns.{called_fits, line_fits, call_turn_lem}
 use Rattle.tape.proofs.replay.take_call.Goals as goal
 
 pub slice_bounds-write_line-end : goal.slice_bounds-write_line-end
-slice_bounds-write_line-end c = omega (arith, called_fits _ _ _ _ _ _ _ _ _ _ c.call-wrote.ensures)
+slice_bounds-write_line-end c = omega (arith, called_fits _ _ _ _ _ _ _ _ _ _ c.call-called.ensures)
 
 pub slice_bounds-write_line-end-2 : goal.slice_bounds-write_line-end-2
 slice_bounds-write_line-end-2 c =
-    sym (length-take-le _ _ (omega (arith, called_fits _ _ _ _ _ _ _ _ _ _ c.call-wrote.ensures)))
+    sym (length-take-le _ _ (omega (arith, called_fits _ _ _ _ _ _ _ _ _ _ c.call-called.ensures)))
 
-pub overflow_sub-left : goal.overflow_sub-left
-overflow_sub-left c =
+pub overflow_sub-result : goal.overflow_sub-result
+overflow_sub-result c =
     let w = c in
     w.requires.some
 
@@ -25,9 +25,9 @@ returns c =
     let k = w in
     let z = k in
     let a = z.args in
-    let fits = line_fits _ _ a.out.now a.text.now (called_fits _ _ _ _ _ _ _ _ _ _ k.call-wrote.ensures) z.requires.room in
+    let fits = line_fits _ _ a.out.now a.text.now (called_fits _ _ _ _ _ _ _ _ _ _ k.call-called.ensures) z.requires.room in
     let l = printed_whole a.text.now _ _ _ _ fits w.write_line-len.ensures in
     call_turn_lem a.tape.now a.r a.store.now a.out.now a.text.now a.i _ _ a.b.now _ _ _ _ _ _ _ z.requires
     k.body-table.ensures k.kind_at-kind.ensures
-    k.server_at-server.ensures k.call-wrote.ensures
+    k.server_at-server.ensures k.call-called.ensures
     l.0 l.1

@@ -1,18 +1,13 @@
--- `tick_change` meets its contract. Each part of the change is one call, whose contract is that part of the definition; there is no branch,
--- so one rewriting by all of them closes it.
+-- `tick_change` meets its contract. Where the timer has not run out the definition chooses among no servers, so nothing but it changes.
+use mathlib.Core.Path.{sym, ap, ◌∙◌}
+use mathlib.Core.Bool.{Bool}
+use borrow.Author.Tests.{not-true}
+use Rattle.ticking.specs.Clocks.{tick_change_by}
+use Rattle.ticking.proofs.Ticks.{unmoved}
 use Rattle.ticking.proofs.tick.tick_change.Goals as goal
 
-pub returns : goal.returns
-returns c =
-    simp (
-      c.pick_number-2.ensures,
-      c.pick_place-2.ensures,
-      c.pick_place.ensures,
-      c.pick_active.ensures,
-      c.pick_servers.ensures,
-      c.is_nobody-switched.ensures,
-      c.choose_server-choice.ensures,
-      c.pick_number.ensures,
-      c.with_phase-late.ensures,
-      c.number_of.ensures,
-    )
+pub returns-then-not-clock : goal.returns-then-not-clock
+returns-then-not-clock c =
+    let a = c.args in
+    unmoved a.p a.d a.due a.clock.timer
+    ∙ ap (λ (b : Bool). tick_change_by a.p a.d a.due (record { timer = a.clock.timer; expired = b })) (sym (not-true a.clock.expired c.if-not-clock.true))
