@@ -21,8 +21,8 @@ pub fn put_uint(order: OctetOrder, out: &mut [u8], at: usize, w: usize, v: u64)
         return;
     }
     let mut n = v;
-    for written in 0..w {
-        out[at + number_reading::place_in(order, w, w - 1 - written)] = (n % 256) as u8;
+    for i in (0..w).rev() {
+        out[at + number_reading::place_in(order, w, i)] = (n % 256) as u8;
         n /= 256;
     }
 }

@@ -1,5 +1,5 @@
 -- Laws of judging: what an answer of 0 says of the checks, one list of checks behind another, which numbers an answer can have, and the
--- number of an answer that is an enum.
+-- number of what a call answers.
 -- Each goes by the checks in their order, or by whether the answer is 0.
 use mathlib.Core.Path.{◌≡◌, refl, sym, ap, ◌∙◌}
 use mathlib.Core.Bool.{Bool, true, false, cond, not, ◌&&◌}

@@ -1,4 +1,4 @@
--- The answer numbers by name, how a call's refusals are judged (01, "Answer numbers"), and what is promised of an answer that is an enum.
+-- The answer numbers by name, how a call's refusals are judged (01, "Answer numbers"), and what is promised of what a call answers.
 use Rattle.std.specs.Prelude.{ℕ, ◌≡◌, Bool, cond, List, [], ◌∷◌, nat_eq, Result, Ok, Err}
 use Rattle.numbers.specs.Each.{look_up}
 use Rattle.numbers.specs.declared.refusal.Refusal.{Refusal}

@@ -66,6 +66,15 @@ impl Refusal {
     }
 }
 
+impl From<Refusal> for u8 {
+    ghost from_gives = { λ refusal n. n ≡ refusal_number refusal };
+
+    // The refusal's answer number.
+    fn from(refusal: Refusal) -> u8 {
+        refusal.number()
+    }
+}
+
 // The number of what a call answers: that of its refusal, or 0.
 pub fn answer_number<T>(answer: &Result<T, Refusal>) -> u8
     ensures { result ≡ answer_number answer.now }

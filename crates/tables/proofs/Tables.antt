@@ -13,6 +13,7 @@ use lib.Dec.{ltb, leb, eqb, lit≤}
 use lib.ListN.{length}
 use Rattle.std.specs.Prelude.{Ok, Err}
 use Rattle.octets.specs.Answers.{Check, ◌when◌, judge, judged, done, unsound_table, template_not_found, answer_number, refusal_of}
+use Rattle.octets.specs.Answers.{refusal_number}
 use Rattle.octets.proofs.Judging.{judged_number}
 use Rattle.octets.specs.Each.{every, absent, differ}
 use Rattle.tables.specs.Table.{key_octets, block_head_octets, max_keys, max_table_octets, max_templates, table_head_octets, flags_sound}
@@ -192,15 +193,19 @@ found_within t id m e =
     let f = found t id m e in
     rw f.1.1 at (template_within t id f.0 f.1.0)
 
--- a refusal is the answer of whatever is judged further
-pub not_found : {A : Type 0} (t : List ℕ) (id : ℕ) (refusal : Refusal) → find_of t id ≡ Err refusal
-    → (more : List Check) (value : A) → judged (judge (template_checks t id ++ more)) value ≡ Err refusal
+-- a refusal is not 0, and is the answer of whatever is judged further, which is judged by its number
+pub not_found : {A : Type 0} (t : List ℕ) (id : ℕ) (refusal : Refusal) → find_of t id ≡ Err refusal → (more : List Check) (value : A)
+    → (eqb (refusal_number refusal) done ≡ false)
+    × ((judge (template_checks t id ++ more) ≡ refusal_number refusal)
+    × (judged (judge (template_checks t id ++ more)) value ≡ Err refusal))
 unfolding find_of judged refusal_of
 not_found {A = A} t id refusal = go (table_sound t) (is_missing t id)
   where
     go : (s b : Bool) → let checks = (unsound_table when not s) ∷ (template_not_found when b) ∷ [] in
         judged (judge checks) (template_of t id) ≡ Err refusal → (more : List Check) (value : A)
-        → judged (judge (checks ++ more)) value ≡ Err refusal
-    go true true e more value = cc
+        → (eqb (refusal_number refusal) done ≡ false)
+        × ((judge (checks ++ more) ≡ refusal_number refusal)
+        × (judged (judge (checks ++ more)) value ≡ Err refusal))
+    go true true e more value = (cc, (cc, cc))
     go true false e more value = absurd (search rules)
-    go false b e more value = cc
+    go false b e more value = (cc, (cc, cc))

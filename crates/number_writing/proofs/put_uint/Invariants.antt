@@ -8,8 +8,7 @@ use Rattle.numbers.specs.Numbers.{octets_in}
 use Rattle.numbers.proofs.Numbers.{high_at}
 use Rattle.number_writing.proofs.put_uint.Given as goal
 
-abbrev pub invariant-loop-written : goal.invariant-loop-written
-invariant-loop-written l =
+abbrev pub invariant-loop-i : goal.invariant-loop-i
+invariant-loop-i l =
     (length l.out ≡ length l.initial.out)
-    × (sets l.out (high_at l.order l.at l.written) (octets_in l.order (l.w - l.written) l.n)
-    ≡ sets l.initial.out l.at (octets_in l.order l.w l.v))
+    × (sets l.out (high_at l.order l.at (l.w - l.i)) (octets_in l.order l.i l.n) ≡ sets l.initial.out l.at (octets_in l.order l.w l.v))
