@@ -2,7 +2,7 @@
 ghost use Rattle.std.specs.Prelude.{◌≡◌, Ok};
 ghost use Rattle.octets.specs.Answers.{Answered, answer_number};
 ghost use Rattle.records.specs.Record.{record_answer};
-ghost use Rattle.records.specs.Walk.{step_of, step_from, step_from_judged, Exact, open_of};
+ghost use Rattle.records.specs.Walk.{step_of, StepFrom, Exact, open_of};
 ghost use Rattle.readers.specs.Count.{count_of};
 
 use octets::Refusal;
@@ -14,9 +14,9 @@ const MAX_FIELDS: usize = MAX_KEYS as usize;
 
 // The record, and where the walk over it stands: at a cursor, or refused when it was opened.
 #[derive(Clone, Copy, Debug, PartialEq, Eq)]
-pub struct Reader<'a> {
+pub struct Reader<'a, E = Refusal> {
     pub record: &'a [u8],
-    pub place: Result<Cursor, Refusal>,
+    pub place: Result<Cursor, E>,
 }
 
 impl<'a> Reader<'a> {
@@ -29,18 +29,21 @@ impl<'a> Reader<'a> {
         let place = records::walk::open_walk(t, id, record);
         Reader { record, place }
     }
+}
 
+impl<'a, E: Copy> Reader<'a, E> {
     // The field where the reader stands and the cursor after it, none at the end, or a refusal; that of the opening where it was refused.
-    pub fn step(self, t: &[u8], id: u16) -> Result<Option<(Field, Cursor)>, Refusal>
-        ensures { Answered answer_number result (step_from t.now id self.entry.«record».now self.entry.place)
-            (step_from_judged t.now id self.entry.«record».now self.entry.place)
+    pub fn step(self, t: &[u8], id: u16) -> Result<Option<(Field, Cursor)>, E>
+    where
+        E: From<Refusal>,
+        ensures { StepFrom E.from_gives t.now id self.entry.«record».now self.entry.place result
             × Exact t.now self.entry.«record».now result }
     {
         records::walk::step_from(t, id, self.record, self.place)
     }
 
     // Where the reader stands.
-    pub fn place(self) -> Result<Cursor, Refusal>
+    pub fn place(self) -> Result<Cursor, E>
         ensures { result ≡ self.entry.place }
     {
         self.place
@@ -54,7 +57,7 @@ impl<'a> Reader<'a> {
     }
 
     // A reader of the same record, at a cursor.
-    pub fn moved(self, c: Cursor) -> Reader<'a>
+    pub fn moved(self, c: Cursor) -> Reader<'a, E>
         ensures { (result.«record» ≡ self.entry.«record») × (result.place ≡ Ok c) }
     {
         Reader {
@@ -75,11 +78,11 @@ fn opening(t: &[u8], id: u16, r: &[u8]) -> Result<Cursor, Refusal>
 fn step_at(t: &[u8], id: u16, r: &[u8], c: Cursor) -> Result<Option<(Field, Cursor)>, Refusal>
     ensures { result ≡ step_of t.now id r.now c }
 {
-    Reader {
+    let reader: Reader = Reader {
         record: r,
         place: Ok(c),
-    }
-    .step(t, id)
+    };
+    reader.step(t, id)
 }
 
 // How many fields a record has under the template with an ID; 21, 15 or 16 as for opening.

@@ -13,22 +13,24 @@ use borrow.Author.Tests.{le-leb, lt-leb, ne_eqb, ltb-true, eqb-true}
 use lib.Dec.{eqb, leb, ltb, lit≤}
 use lib.ListN.{length, take, drop, take-append-drop, drop_of_length-le}
 use lib.Seq.{drop-drop}
-use Rattle.std.specs.Prelude.{Option, Ok, Err, Some, None}
-use Rattle.octets.specs.Answers.{done, ◌when◌, judged, answer_number, refusal_of, unsound_table, template_not_found, record_invalid}
+use Rattle.std.specs.Prelude.{Option, Result, Ok, Err, Some, None}
+use Rattle.octets.specs.Answers.{done, ◌when◌, judged, Answered, answer_number, refusal_number, refusal_of, unsound_table}
+use Rattle.octets.specs.Answers.{template_not_found, record_invalid}
 use Rattle.octets.specs.Each.{every}
 use Rattle.tables.specs.Table.{table_order, key_at, key_type, is_enabled, table_sound, is_missing, template_of, template_checks}
 use Rattle.tables.specs.Table.{find_answer, find_of}
 use Rattle.records.specs.Record.{field_length, length_under, field_at, field_valid, record_valid, record_answer}
-use Rattle.records.specs.Walk.{field_of, step_judged}
+use Rattle.records.specs.Walk.{field_of, step_judged, step_from, step_from_judged, Told, StepFrom, numbered, told_number, step_from_octet}
+use Rattle.records.specs.Walk.{octet_judged}
 use Rattle.records.specs.Walk.{next_key, step_under, step_of, walk_start, open_of, after_step, visited, last_cursor, last_answer, laid_out}
 use Rattle.records.specs.Walk.{enabled_from, enabled_keys, enabled_types, field_under}
 use Rattle.tables.specs.declared.table.Template.{Template}
 use Rattle.records.specs.declared.walk.Field.{Field}
 use Rattle.records.specs.declared.walk.Cursor.{Cursor}
-use Rattle.records.specs.Step.{Step}
+use Rattle.records.specs.Step.{Step, StepOr}
 use Rattle.numbers.specs.declared.refusal.Refusal.{Refusal}
 use Rattle.numbers.specs.declared.refusal.Refusal.TheVariants.{RecordInvalid}
-use Rattle.octets.proofs.Judging.{judged_next, judged_number}
+use Rattle.octets.proofs.Judging.{judged_next, judged_number, answered, handed_on}
 use Rattle.octets.proofs.Each.{and_left, and_right, every_at, first_here, first_on, first_none}
 
 -- ---- walks by any step function
@@ -274,6 +276,36 @@ step_number t id r c = go (table_sound t) (is_missing t id) (leb m.count k) (eqb
     go true false true none = refl
     go true false false true = refl
     go true false false false = refl
+
+-- ---- a step from where an opening stands
+
+-- where refusals are told as they are
+pub told_same : (s : Step) {result : Step} → Told (λ refusal told. told ≡ refusal) s result → result ≡ s
+told_same (Ok found) h = h
+told_same (Err refusal) h = handed_on h
+
+pub step_from_refusal : (t : List ℕ) (id : ℕ) (r : List ℕ) (place : Result Cursor Refusal) {result : Step}
+    → StepFrom (λ refusal told. told ≡ refusal) t id r place result
+    → Answered answer_number result (step_from t id r place) (step_from_judged t id r place)
+unfolding step_from
+step_from_refusal t id r (Ok c) h = answered h.1 (told_same (step_of t id r c) h.0)
+step_from_refusal t id r (Err refusal) {result} h = let e : ◌≡◌ {A = Step} result (Err refusal) = h in answered refl e
+
+-- where they are told as their numbers, from any octet
+told_numbered : (s : Step) {result : StepOr ℕ} → Told (λ refusal a. a ≡ refusal_number refusal) s result → result ≡ numbered s
+told_numbered (Ok found) h = h
+told_numbered (Err refusal) {result = Ok found} h = absurd (search rules)
+told_numbered (Err refusal) {result = Err a} h = search rules
+
+numbered_number : (s : Step) → told_number (numbered s) ≡ answer_number s
+numbered_number (Ok found) = refl
+numbered_number (Err refusal) = refl
+
+pub step_from_any_octet : (t : List ℕ) (id : ℕ) (r : List ℕ) (place : Result Cursor ℕ) {result : StepOr ℕ}
+    → StepFrom (λ refusal a. a ≡ refusal_number refusal) t id r place result
+    → Answered told_number result (step_from_octet t id r place) (octet_judged t id r place)
+step_from_any_octet t id r (Ok c) h = answered (numbered_number (step_of t id r c) ∙ h.1) (told_numbered (step_of t id r c) h.0)
+step_from_any_octet t id r (Err a) {result} h = let e : ◌≡◌ {A = StepOr ℕ} result (Err a) = h in answered refl e
 
 -- ---- the same of the public calls
 

@@ -2,8 +2,8 @@
 use Rattle.std.specs.Prelude.{ℕ, zero, suc, ◌+◌, ◌-◌, ◌*◌, ◌^◌, ◌≡◌, Bool, cond, not, ◌&&◌, List, [], ◌∷◌, ◌++◌, map, eqb, leb}
 use Rattle.std.proofs.Math.Option.{Option, none, some}
 use Rattle.std.proofs.Math.IntN.{sub_ℕ}
-use Rattle.std.specs.Prelude.{ltb, ℤ, pos, neg_ℤ, get_or, take, drop, Result, Ok, Err, Some, None}
-use Rattle.octets.specs.Answers.{◌when◌, judge, judged, done, record_invalid, refusal_number, refusal_of}
+use Rattle.std.specs.Prelude.{ltb, ℤ, pos, neg_ℤ, get_or, take, drop, Result, Ok, Err, Some, None, IsErrAnd}
+use Rattle.octets.specs.Answers.{◌when◌, judge, judged, done, record_invalid, refusal_number, refusal_of, answer_number}
 use Rattle.octets.specs.Numbers.{place_in, uint_in}
 use Rattle.octets.specs.Each.{first_from}
 use Rattle.numbers.specs.declared.OctetOrder.{OctetOrder}
@@ -15,7 +15,7 @@ use Rattle.records.specs.declared.walk.Value.{Value}
 use Rattle.records.specs.declared.walk.Value.TheVariants.{Octets, Number, Negative}
 use Rattle.records.specs.declared.walk.Field.{Field}
 use Rattle.records.specs.declared.walk.Cursor.{Cursor}
-use Rattle.records.specs.Step.{Step}
+use Rattle.records.specs.Step.{Step, StepOr}
 use Rattle.numbers.specs.declared.refusal.Refusal.{Refusal}
 use Rattle.numbers.specs.declared.refusal.Refusal.TheVariants.{RecordInvalid}
 
@@ -106,8 +106,39 @@ abbrev pub step_from_judged : List ℕ → ℕ → List ℕ → Result Cursor Re
 step_from_judged t id r (Ok c) = step_judged t id r c
 step_from_judged t id r (Err refusal) = refusal_number refusal
 
+-- What a step answers, its refusal told as what `gives` holds of.
+abbrev pub Told : {E : Type 0} → (Refusal → E → Type 0) → Step → StepOr E → Type 0
+Told gives (Ok found) result = result ≡ Ok found
+Told gives (Err refusal) result = IsErrAnd result (gives refusal)
+
+-- The same where refusals are told as `gives` says, and an opening may be refused with anything of the type that they are told in: a walk
+-- whose opening was refused answers that at every step.
+abbrev pub StepFrom : {E : Type 0} → (Refusal → E → Type 0) → List ℕ → ℕ → List ℕ → Result Cursor E → StepOr E → Type 0
+StepFrom gives t id r (Ok c) result = Told gives (step_of t id r c) result × (answer_number (step_of t id r c) ≡ step_judged t id r c)
+StepFrom gives t id r (Err refused) result = result ≡ Err refused
+
+-- What a step answers, its refusal told as its number.
+abbrev pub numbered : Step → StepOr ℕ
+numbered (Ok found) = Ok found
+numbered (Err refusal) = Err (refusal_number refusal)
+
+-- The number of that: `done`, or the refusal's.
+abbrev pub told_number : StepOr ℕ → ℕ
+told_number (Ok found) = done
+told_number (Err a) = a
+
+-- A step from where an opening stands, or was refused with any octet, where refusals are told as their numbers.
+abbrev pub step_from_octet : List ℕ → ℕ → List ℕ → Result Cursor ℕ → StepOr ℕ
+step_from_octet t id r (Ok c) = numbered (step_of t id r c)
+step_from_octet t id r (Err a) = Err a
+
+-- Its number: that of the step at a cursor, or the octet again.
+abbrev pub octet_judged : List ℕ → ℕ → List ℕ → Result Cursor ℕ → ℕ
+octet_judged t id r (Ok c) = step_judged t id r c
+octet_judged t id r (Err a) = a
+
 -- The value of a field that a step under a table answers stands for the integer in the field's octets; the end and a refusal have no value.
-abbrev pub Exact : List ℕ → List ℕ → Step → Type 0
+abbrev pub Exact : {E : Type 0} → List ℕ → List ℕ → StepOr E → Type 0
 Exact t r (Ok (Some (f, c))) = integer_of f.value ≡ integer_at (table_order t) f.kind r f.at
 Exact t r (Ok None) = Unit {0}
 Exact t r (Err refusal) = Unit {0}

@@ -3,7 +3,7 @@ ghost use Rattle.std.specs.Prelude.{◌≡◌, ◌+◌, ◌-◌, ◌*◌, ◌≤
 ghost use Rattle.octets.specs.Answers.{Answered, answer_number};
 ghost use Rattle.tables.specs.Table.{key_octets};
 ghost use Rattle.records.specs.Record.{record_answer};
-ghost use Rattle.records.specs.Walk.{signed_at, value_at, next_key, step_under, step_judged, step_of, step_from, step_from_judged};
+ghost use Rattle.records.specs.Walk.{signed_at, value_at, next_key, step_under, step_judged, step_of, StepFrom};
 ghost use Rattle.records.specs.Walk.{Exact, open_of};
 
 use field_types::field_type::FieldType;
@@ -131,15 +131,14 @@ pub fn step_walk(t: &[u8], id: u16, r: &[u8], c: Cursor) -> Result<Option<(Field
     step_under(t, template, r, c)
 }
 
-// A step from where an opening stands; the refusal again where it was refused.
-pub fn step_from(
+// A step from where an opening stands; what it was refused with again where it was refused.
+pub fn step_from<E: From<Refusal>>(
     t: &[u8],
     id: u16,
     r: &[u8],
-    place: Result<Cursor, Refusal>,
-) -> Result<Option<(Field, Cursor)>, Refusal>
-    ensures { Answered answer_number result (step_from t.now id r.now place)
-        (step_from_judged t.now id r.now place) × Exact t.now r.now result }
+    place: Result<Cursor, E>,
+) -> Result<Option<(Field, Cursor)>, E>
+    ensures { StepFrom E.from_gives t.now id r.now place result × Exact t.now r.now result }
 {
-    step_walk(t, id, r, place?)
+    Ok(step_walk(t, id, r, place?)?)
 }

@@ -39,4 +39,4 @@ returns-in_err-template c =
     let n = not_found a.t.now a.id _ (sym c.find_template.ensures.same ∙ c.in_err-template.was) in
     answered (judged_number _ _ (record_number a.t.now a.id a.r.now))
     (handed_on c.from_residual.ensures.1
-    ∙ sym (n ((record_invalid when not (record_valid a.t.now (template_of a.t.now a.id) a.r.now)) ∷ []) tt))
+    ∙ sym (n ((record_invalid when not (record_valid a.t.now (template_of a.t.now a.id) a.r.now)) ∷ []) tt).1.1)
