@@ -49,7 +49,12 @@ fn negative_fits(kind: u16, n: u64) -> bool
 fn none_zero(octets: &[u8]) -> bool
     ensures { result ≡ every (length octets.now) (λ i. not (eqb (get_or octets.now i 0) 0)) }
 {
-    octets.iter().all(|octet| *octet != 0)
+    // It goes to the end, which is quicker than to stop.
+    let mut ok = true;
+    for octet in octets {
+        ok &= *octet != 0;
+    }
+    ok
 }
 
 // Whether octets are of a type.

@@ -12,19 +12,21 @@ use Rattle.std.specs.Prelude.{Ok, Err, Result, Some, None}
 use Rattle.std.specs.Result.{IsErrAnd}
 use Rattle.std.specs.Int.{from_bool}
 use Rattle.numbers.specs.declared.refusal.Refusal.{Refusal}
-use Rattle.numbers.specs.declared.refusal.Refusal.TheVariants.{MessageNotAccepted, BodyLengthWrong, OutputTooShort}
-use Rattle.octets.specs.Answers.{judged, refusal_of, done, body_length_wrong, output_too_short}
+use Rattle.numbers.specs.declared.refusal.Refusal.TheVariants.{MessageNotAccepted, BodyLengthWrong, OutputTooShort, RecordTooLong}
+use Rattle.octets.specs.Answers.{judged, refusal_of, done, message_not_accepted, body_length_wrong, output_too_short, record_too_long}
 use Rattle.octets.specs.Numbers.{octets_in, octets_of, put_at}
 use Rattle.octets.proofs.Numbers.{octets_length}
 use Rattle.octets.proofs.Stores.{put_fits, sets_append}
 use Rattle.octets.proofs.Judging.{Passed, passed, judged_done, judged_first, judged_next, judged_ok}
 use Rattle.octets.proofs.Each.{and_false}
-use Rattle.octets.proofs.Rows.{none, ◌and◌, found, has_row}
+use Rattle.octets.proofs.Rows.{none, ◌and◌, found, has_row, Others, not_found}
 use Rattle.headers.specs.Headers.{header_octets, message_number, header_for, header_checks_for, header_answer_for}
 use Rattle.headers.proofs.Headers.{HeaderRight, header_facts, message_length, Checked, check_refused, handed_on, passed_on}
 use Rattle.ipdr.specs.declared.message.Message.{Message}
+use Rattle.ipdr.specs.declared.message.Content.TheVariants as content
 use Rattle.ipdr.specs.Fields.{widths_total, length_octets, counted_fits, octets_by_widths, counted_octets}
 use Rattle.ipdr.specs.Messages.{Form, forms, protocol_version, is_message, widths_of, is_counted, fixed_octets, counted_place, behind_length}
+use Rattle.ipdr.specs.Messages.{content_by}
 use Rattle.ipdr.specs.Messages.{flow_start, flow_stop, connect, connect_response, disconnect, session_start, session_stop, data_number}
 use Rattle.ipdr.specs.Messages.{data_acknowledge, error_number}
 use Rattle.ipdr.specs.Messages.{MessageNumbers, body_of, layout_by, body_fits, body_checks, body_answer, read_answer, read_body}
@@ -44,22 +46,40 @@ fields_small n =
     (omega arith)
     n
 
+-- No row has the number.
+abbrev pub NoRow : ℕ → Type 0
+NoRow n = Others (λ (f : Form). f.number) (Unit {0}) forms n
+
+-- then it is no message's, and nothing is said or carried
+pub no_message : (n : ℕ) → NoRow n → is_message n ≡ false
+unfolding is_message
+no_message n h = (not_found (λ (f : Form). f.number) (Unit {0}) (λ f. true) false forms n h).0
+
+pub no_content : (n : ℕ) (vs : List ℕ) → NoRow n → content_by n vs ≡ content.FlowStart
+unfolding content_by
+no_content n vs h = (not_found (λ (f : Form). f.number) (Unit {0}) (λ f. f.says vs) content.FlowStart forms n h).0
+
+-- The number is none of the numbers of messages that a text or a record ends.
+abbrev pub NotCounted : ℕ → Type 0
+NotCounted n =
+    (((((Unit {0} × (n ≡ flow_stop → ⊥)) × (n ≡ connect → ⊥)) × (n ≡ connect_response → ⊥)) × (n ≡ session_stop → ⊥))
+    × (n ≡ data_number → ⊥)) × (n ≡ error_number → ⊥)
+
 neither : (b x : Bool) → x ≡ false → cond b false x ≡ false
 neither true x e = refl
 neither false x e = e
 
--- a number that is none of the numbers of messages that a text or a record ends is not of such a message
-pub not_counted : (n : ℕ) → (n ≡ flow_stop → ⊥) → (n ≡ connect → ⊥) → (n ≡ connect_response → ⊥) → (n ≡ session_stop → ⊥)
-    → (n ≡ data_number → ⊥) → (n ≡ error_number → ⊥) → is_counted n ≡ false
+-- any other number is not of such a message
+pub not_counted : (n : ℕ) → NotCounted n → is_counted n ≡ false
 unfolding is_counted
-not_counted n a b c d e f =
+not_counted n h =
     rw (
-      ne_eqb n flow_stop a,
-      ne_eqb n connect b,
-      ne_eqb n connect_response c,
-      ne_eqb n session_stop d,
-      ne_eqb n data_number e,
-      ne_eqb n error_number f,
+      ne_eqb n flow_stop h.0.0.0.0.0.1,
+      ne_eqb n connect h.0.0.0.0.1,
+      ne_eqb n connect_response h.0.0.0.1,
+      ne_eqb n session_stop h.0.0.1,
+      ne_eqb n data_number h.0.1,
+      ne_eqb n error_number h.1,
     )
     (neither (eqb n flow_start) _ (neither (eqb n disconnect) _
     (neither (eqb n session_start) _ (neither (eqb n data_acknowledge) false refl))))
@@ -140,6 +160,10 @@ pub judged_counted : {A : Type 0} (n : ℕ) (m : List ℕ) (x : A) → is_messag
 judged_counted n m x known c = rw (body_counted n m known c) (fits_judged (counted_fits m (fixed_octets n)) x)
 
 -- a number without a row is refused
+pub body_unknown : (n : ℕ) (m : List ℕ) → NoRow n → body_answer n m ≡ message_not_accepted
+unfolding body_answer
+body_unknown n m h = rw (no_message n h)
+
 pub judged_unknown : {A : Type 0} (n : ℕ) (m : List ℕ) (x : A) → is_message n ≡ false → Err MessageNotAccepted ≡ judged (body_answer n m) x
 unfolding judged refusal_of body_answer
 judged_unknown n m x h = rw h
@@ -351,6 +375,16 @@ module _ (x : MessageNumbers) (part : List ℕ) where
 
         abbrev judgement : ℕ
         judgement = counted_answer fixed part (length out)
+
+        pub counted_long : max_part_octets < length part → WrittenBy x part out (Err RecordTooLong) out
+        unfolding refusal_of
+        counted_long h = refused record_too_long (λ z. omega arith) (answer_by ∙ rw (lt-ltb max_part_octets (length part) h))
+
+        pub counted_short : length part ≤ max_part_octets → length out < whole → WrittenBy x part out (Err OutputTooShort) out
+        unfolding refusal_of
+        counted_short short h =
+            refused output_too_short (λ z. omega arith)
+            (answer_by ∙ rw (le-ltb max_part_octets (length part) short, lt-ltb (length out) whole h))
 
         -- where beginning it is refused
         module _ {refusal : Refusal} {after : List ℕ} (b : Begun n x.session fixed part out (Err refusal) after) where

@@ -1,15 +1,23 @@
--- `none_zero` meets its contract: a test that every octet of a list passes is one that the octet at each place passes.
+-- `none_zero`: the answers to what its invariant leaves.
+use mathlib.Core.Path.{refl, sym, ap, ◌∙◌}
 use mathlib.Core.Bool.{not}
-use mathlib.Core.Path.{◌∙◌}
-use Rattle.std.proofs.Common.{rules, tests}
-use Rattle.std.proofs.lemmas.Iterator.{YieldsList-from_slice}
-use Rattle.std.proofs.lemmas.Iterator.Search.{all_from_yields_List}
+use native.Mathlib.Omega.{arith}
+use Prim.Native.Nat.{ℕ}
 use lib.Dec.{eqb}
-use Rattle.octets.proofs.Each.{every_listed}
+use lib.ListN.{get_or}
+use Rattle.numbers.specs.Each.{every}
+use Rattle.numbers.proofs.Each.{every_more}
 use Rattle.appending.proofs.append.none_zero.Goals as goal
+
+pub loop-octet-init : goal.loop-octet-init
+unfolding every
+loop-octet-init c = refl
+
+pub loop-octet-preserved : goal.loop-octet-preserved
+loop-octet-preserved c =
+    let l = c.loop-octet in
+    rw l.invariant (sym (every_more l.octet-index (λ i. not (eqb (get_or c.args.octets.now i 0) 0))))
 
 pub returns : goal.returns
 returns c =
-    let octets = c.args.octets.now in
-    all_from_yields_List (λ x. not (eqb x 0)) _ _ _ c.all.ensures.ran (YieldsList-from_slice octets cc) (λ x b q k. search (rules, tests))
-    ∙ every_listed (λ x. not (eqb x 0)) octets
+    c.loop-octet.invariant ∙ ap (λ (n : ℕ). every n (λ i. not (eqb (get_or c.args.octets.now i 0) 0))) (omega arith)
