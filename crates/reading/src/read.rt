@@ -1,4 +1,5 @@
-// Reading a message alone, by the layout of its octets.
+// Reading a message alone, by the layout of its octets. The functions that each read the messages of one form are put in their caller's
+// place, so that a caller who goes on by what was read follows each form on its own: the compiler then knows there what was judged.
 ghost use Rattle.std.specs.Prelude.{◌≡◌, ◌+◌, ◌≤◌, cond, eqb, leb, length, Ok, Err};
 ghost use Rattle.octets.specs.Numbers.{uint_at};
 ghost use Rattle.octets.specs.Answers.{done, Answered, answer_number};
@@ -23,6 +24,7 @@ pub fn read_header(message: &[u8]) -> Result<Header, Refusal>
 }
 
 // Reads a message without a body, which says `meaning` where it is its header alone.
+#[inline(always)]
 fn read_bare(message: &[u8], meaning: Message) -> Result<Message, Refusal>
     ensures { result ≡ read_where (eqb (length message.now) 8) meaning }
 {
@@ -33,6 +35,7 @@ fn read_bare(message: &[u8], meaning: Message) -> Result<Message, Refusal>
 }
 
 // Reads a START ACK.
+#[inline(always)]
 fn read_start_ack(message: &[u8]) -> Result<Message, Refusal>
     ensures { result ≡ read_where (eqb (length message.now) 12)
         (StartAck (session_of message.now) (uint_at message.now 8 4)) }
@@ -47,6 +50,7 @@ fn read_start_ack(message: &[u8]) -> Result<Message, Refusal>
 }
 
 // Reads a TMPL DATA, whose body is its table.
+#[inline(always)]
 fn read_tmpl_data(session: u8, table: &[u8]) -> Result<Message, Refusal>
     ensures { result ≡ cond (table_sound table.now) (Ok (TmplData session)) (Err UnsoundTable) }
 {
@@ -57,6 +61,7 @@ fn read_tmpl_data(session: u8, table: &[u8]) -> Result<Message, Refusal>
 }
 
 // Reads a FINAL TMPL DATA ACK.
+#[inline(always)]
 fn read_final_tmpl_data_ack(message: &[u8]) -> Result<Message, Refusal>
     ensures { result ≡ read_where (eqb (length message.now) 12)
         (FinalTmplDataAck (session_of message.now) (uint_at message.now 8 1)) }
@@ -87,6 +92,7 @@ fn data_head(message: &[u8]) -> DataHead
 }
 
 // Reads a DATA.
+#[inline(always)]
 fn read_data(message: &[u8]) -> Result<Message, Refusal>
     ensures { result ≡ read_where (leb data_head_length (length message.now)) (Data (data_head_of message.now)) }
 {
@@ -97,6 +103,7 @@ fn read_data(message: &[u8]) -> Result<Message, Refusal>
 }
 
 // Reads a DATA ACK.
+#[inline(always)]
 fn read_data_ack(message: &[u8]) -> Result<Message, Refusal>
     ensures { result ≡ read_where (eqb (length message.now) 16)
         (DataAck (session_of message.now) (uint_at message.now 8 4) (uint_at message.now 12 1)) }
