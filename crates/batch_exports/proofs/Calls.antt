@@ -4,6 +4,7 @@ use mathlib.Core.List.{List}
 use Prim.Native.Nat.{ℕ, suc, ◌+◌, ◌-◌, ◌≤◌, max}
 use native.Mathlib.Omega.{arith}
 use lib.ListN.{length, take}
+use Rattle.octets.specs.Answers.{answer_number}
 use Rattle.batches.specs.Batches.{BatchOutcome, batch, batch_of, output_after_batch}
 use Rattle.session.specs.declared.state.Batch.{Batch}
 use Rattle.events.specs.declared.Left.{Left}
@@ -37,14 +38,14 @@ pub handed_back : (g : Given) (part : ℕ) (store out messages b : List ℕ) (fr
     → b ≡ body_of g.tape 0 → fresh ≡ (set_up_by b (length store)).state
     → progress before store_then out_then ≡ played_to g.tape first_call g.place (progress (uncalled fresh) store out)
     → let o = batch g.number (length messages) before.state (take g.lent store_then) in
-    (x ≡ batch_of o) × (messages_after ≡ output_after_batch messages o)
+    (x ≡ batch_of o) × ((answer_number x.answer ≡ o.answer) × (messages_after ≡ output_after_batch messages o))
     → first ≡ max g.place first_call
     → progress last store_after out_after ≡ played_to g.tape first g.end (progress (uncalled x.state) store_then out_then)
-    → n ≡ asked part x last
+    → n ≡ asked part (answer_number x.answer) x last
     → HandedBack (end_of g store out (length messages)) part messages n store_after out_after messages_after
 handed_back g part store out messages b fresh before store_then out_then x first last store_after out_after messages_after n f m p₁ e k p₂ q =
     let o : BatchOutcome = batch g.number (length messages) before.state (take g.lent store_then) in
     let p : Progress = progress before store_then out_then in
     let here : p ≡ reached g store out = rw (m, f) at p₁ in
     let end : progress last store_after out_after ≡ followed g o p = rw (k, e.0) at p₂ in
-    rw (← here, ← end) (record { answered = rw (q, e.0) refl; stored = refl; written = refl; batched = e.1 })
+    rw (← here, ← end) (record { answered = rw (q, e.1.0, e.0) refl; stored = refl; written = refl; batched = e.1.1 })

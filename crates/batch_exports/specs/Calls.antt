@@ -1,6 +1,6 @@
 -- A batch among the calls of a tape: an exporter is set up, calls of the tape are made, then one batch, then further calls of the tape.
 use Rattle.std.specs.Prelude.{ℕ, zero, suc, ◌+◌, ◌-◌, min, max, ◌≡◌, cond, List, eqb, length, take}
-use Rattle.octets.specs.Answers.{done, answer_number}
+use Rattle.octets.specs.Answers.{done}
 use Rattle.exporter.specs.Steps.{output_after}
 use Rattle.exporter.specs.InOctets.{Event}
 use Rattle.batches.specs.Batches.{BatchOutcome, batch, batch_of, output_after_batch}
@@ -89,16 +89,16 @@ end_of g store out room =
 
 -- The number that is asked for: 0 the batch's answer, 1 how many messages it wrote, 2 how many octets; 3 the answer of the last call after
 -- the batch, any other how many octets that call wrote, and 0 of both where none was made.
-abbrev pub asked : ℕ → Batch → Left → ℕ
-asked part b last =
-    cond (eqb part 0) (answer_number b.answer)
+abbrev pub asked : ℕ → ℕ → Batch → Left → ℕ
+asked part answer b last =
+    cond (eqb part 0) answer
     (cond (eqb part 1) b.count
     (cond (eqb part 2) b.written
     (cond (eqb part 3) last.answer last.written)))
 
 -- What is handed back: the number asked for, and the store, the output and the batch's own output at the end.
 pub record HandedBack (end : End) (part : ℕ) (messages : List ℕ) (n : ℕ) (store out messages_after : List ℕ) : Type 0 where
-  pub answered : n ≡ asked part (batch_of end.outcome) end.calls.last
+  pub answered : n ≡ asked part end.outcome.answer (batch_of end.outcome) end.calls.last
   pub stored : store ≡ end.calls.store
   pub written : out ≡ end.calls.out
   pub batched : messages_after ≡ output_after_batch messages end.outcome

@@ -3,6 +3,7 @@
 #![tactic(auto)]
 
 ghost use Rattle.std.specs.Prelude.{◌≡◌, length, take};
+ghost use Rattle.octets.specs.Answers.{answer_number};
 ghost use Rattle.batches.specs.Batches.{batch, batch_of, output_after_batch};
 ghost use Rattle.contents.specs.Tape.{kind_at, server_at, body_of};
 ghost use Rattle.events.specs.Events.{event_call, Called};
@@ -65,14 +66,14 @@ fn play(s: State, tape: &[u8], from: u16, end: u16, store: &mut [u8], out: &mut 
 // Makes a batch that is lent the first octets of a store, or the whole store where it has not more.
 fn batch_of(s: State, store: &[u8], lent: usize, messages: &mut [u8], number: usize) -> Batch
     ensures { let b = batch number (length messages.old) s (take lent store.now) in
-        (result ≡ batch_of b) × (messages.new ≡ output_after_batch messages.old b) }
+        (result ≡ batch_of b) × ((answer_number result.answer ≡ b.answer) × (messages.new ≡ output_after_batch messages.old b)) }
 {
     exporter::batch::send_batch(s, contents::part(store, 0, lent), messages, number)
 }
 
 // The number that is asked for.
 fn asked(part: u8, b: Batch, last: Left) -> u64
-    ensures { result ≡ asked part b last }
+    ensures { result ≡ asked part (answer_number b.answer) b last }
 {
     match part {
         BATCH_ANSWER => answer_number(&b.answer) as u64,

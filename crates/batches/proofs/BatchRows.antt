@@ -18,7 +18,7 @@ use Rattle.session.specs.declared.state.Phase.TheVariants.{Agreed}
 records_end_lem : (n : ℕ) → Holds (row Agreed 1 1024 (suc (suc (suc n))) 1000 nothing_to_send 2 36 3)
 unfolding octets_in every message_of layout_of choose changed settle sent_one ring_read sum_of record_at has has_other marked settings_sound
     numbers_sound sound head_of written checks answer after settled store_after step batch
-records_end_lem n = refl
+records_end_lem n = (refl, refl)
 
 -- so with the largest number
 largest_number : Holds (row Agreed 1 1024 18446744073709551615 1000 nothing_to_send 2 36 3)
@@ -28,10 +28,10 @@ pub batch_rows : BatchRows
 unfolding octets_in every message_of layout_of choose changed settle sent_one ring_read sum_of record_at has has_other marked settings_sound
     numbers_sound sound head_of written checks answer after settled store_after step batch
 batch_rows = record {
-  at_number = (refl, (refl, (refl, (refl, tt))));
-  records_end = (refl, (refl, (largest_number, (refl, (refl, tt)))));
-  refused = (refl, (refl, (refl, (refl, (refl, (refl, tt))))));
-  none_asked = (refl, (refl, (refl, tt)));
-  unsound = (refl, (refl, (refl, (refl, (refl, (refl, tt))))));
+  at_number = ((refl, refl), ((refl, refl), ((refl, refl), ((refl, refl), tt))));
+  records_end = ((refl, refl), ((refl, refl), (largest_number, ((refl, refl), ((refl, refl), tt)))));
+  refused = ((refl, refl), ((refl, refl), ((refl, refl), ((refl, refl), ((refl, refl), ((refl, refl), tt))))));
+  none_asked = ((refl, refl), ((refl, refl), ((refl, refl), tt)));
+  unsound = ((refl, refl), ((refl, refl), ((refl, refl), ((refl, refl), ((refl, refl), ((refl, refl), tt))))));
   octets = refl;
 }

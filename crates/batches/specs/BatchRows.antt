@@ -41,11 +41,13 @@ row phase sent store_length number room answer count written sent_after =
 abbrev pub exporter_for : Phase → ℕ → State
 exporter_for phase sent = alone phase 3 (replicate max_held 2) sent 1
 
--- What a row says; the state left is that of a row with `sent_after` records sent.
+-- What a row says: the batch's answer by its number, and what the call hands back; the state left is that of a row with `sent_after`
+-- records sent.
 abbrev pub Holds : Row → Type 0
 Holds r =
-    batch_of (batch r.number r.room (exporter_for r.phase r.sent) (replicate r.store_length 0))
-    ≡ record { answer = judged r.answer tt; count = r.count; written = r.written; state = exporter_for r.phase r.sent_after }
+    let b = batch r.number r.room (exporter_for r.phase r.sent) (replicate r.store_length 0) in
+    (b.answer ≡ r.answer)
+    × (batch_of b ≡ record { answer = judged r.answer tt; count = r.count; written = r.written; state = exporter_for r.phase r.sent_after })
 
 -- Every row holds.
 abbrev pub AllHold : List Row → Type 0

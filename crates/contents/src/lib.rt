@@ -202,16 +202,13 @@ fn events_sound(tape: &[u8], n: u16) -> bool
     true
 }
 
-// Whether a tape is sound.
+// Whether a tape is sound. Its events are read only where their number fits.
 fn tape_sound(tape: &[u8]) -> bool
     ensures { result ≡ tape_sound tape.now }
 {
     let count = event_count(tape);
-    (tape.len() <= MAX_TAPE_OCTETS)
-        & (MIN_EVENTS <= count)
-        & (count <= MAX_EVENTS)
-        & events_sound(tape, count)
-        & (body_at(tape, count) == tape.len())
+    let sizes_fit = (tape.len() <= MAX_TAPE_OCTETS) & (MIN_EVENTS <= count) & (count <= MAX_EVENTS);
+    sizes_fit && events_sound(tape, count) && (body_at(tape, count) == tape.len())
 }
 
 // Nothing for a sound tape, else 22.

@@ -4,4 +4,4 @@ use Rattle.batch_exports.proofs.batch_of.Goals as goal
 
 pub returns : goal.returns
 unfolding octets_at
-returns c = let e = rw c.part.ensures at c.send_batch.ensures in (e.0, e.1.1)
+returns c = rw c.part.ensures at c.send_batch.ensures
