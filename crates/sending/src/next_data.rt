@@ -87,6 +87,7 @@ fn next_head(s: &State) -> DataHead
 }
 
 // Writes a DATA whose record lies in the store from a place on.
+#[inline(always)]
 fn write_record(
     head: DataHead,
     store: &[u8],
@@ -104,6 +105,7 @@ fn write_record(
 }
 
 // Writes the record at place "sent", which lies in the store from a place on, as DATA, if there is room for it.
+#[inline(always)]
 pub(crate) fn write_next(
     s: &State,
     store: &[u8],

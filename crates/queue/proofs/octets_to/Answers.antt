@@ -1,9 +1,11 @@
 -- `octets_to`: the answers to what its invariant leaves.
 use mathlib.Core.Path.{refl}
-use Prim.Native.Nat.{◌<◌}
+use Prim.Native.Nat.{ℕ, ◌<◌}
 use native.Mathlib.Omega.{arith}
 use lib.ListN.{length}
 use Rattle.std.proofs.lemmas.List.{get_or-take}
+use Rattle.std.proofs.lemmas.Grind.{common_steps}
+use lib.Seq.{get_or-drop}
 use Rattle.session.specs.Queue.{sum_of}
 use Rattle.session.proofs.Arrays.{sum_more}
 use borrow.Author.Rules.{rules}
@@ -18,4 +20,5 @@ loop-length-preserved c =
     let i = c.loop-length.length-index in
     let xs = c.args.lengths.now in
     let l : i < length xs = search rules in
-    omega (arith, get_or-take c.min.result xs i 0 (omega arith), sum_more xs i l)
+    let m = sum_more xs i l in
+    grind (arith, common_steps, get_or-take {A = ℕ}, get_or-drop {A = ℕ}, m)
