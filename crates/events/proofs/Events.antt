@@ -33,7 +33,7 @@ use Rattle.session.specs.declared.state.Wrote.{Wrote}
 use Rattle.contents.specs.Tape.{put_kind, message_kind, down_kind, tick_kind, next_kind, body_length, body_at, octets_at, body_of, priorities_at}
 use Rattle.contents.proofs.Parts.{octets_part}
 use Rattle.events.specs.Events.{priorities_of, settings_of, set_up_by, event_call, store_length}
-use Rattle.events.specs.Events.{effect, effect_store, left_of, left_by, Answers, Gives}
+use Rattle.events.specs.Events.{effect, effect_store, left_of, left_by, stepped_by, Answers, Gives}
 use Rattle.events.specs.declared.Left.{Left}
 
 -- ---- the settings
@@ -267,11 +267,43 @@ left_called x e (Err refusal) a =
     let k = event_kept x e (λ z. refused_number (record { state = o.state; written = length (octets_written o) }) (sym a.same) z) in
     rw (k.0, k.1, a.number) refl
 
+-- what a call without output hands back, in the form of one that may write
+abbrev pub unwritten_of : Result State Refusal → Result Wrote Refusal
+unwritten_of (Ok s) = Ok (record { state = s; written = 0 })
+unwritten_of (Err refusal) = Err refusal
+
+-- what such a call leaves
+pub stepped : (x : Exporter) (e : Event) (s : Result State Refusal) (r : Left) → let o = event_step x e in
+    o.written ≡ silent → Answered answer_number s (stepped_of o) o.answer → r ≡ left_by x.state (unwritten_of s) → r ≡ left_of o
+stepped x e (Ok s) r f g h = h ∙ left_called x e (Ok (record { state = s; written = 0 })) (nothing_written (event_step x e) (Ok s) s f refl g)
+stepped x e (Err refusal) r f g h = h ∙ left_called x e (Err refusal) (refused_on (event_step x e) (Err refusal) refusal refl g)
+
 -- so an answer that is known gives what it leaves
 pub called_left : (s : State) (store out : List ℕ) (e : Event) (r known : Result Wrote Refusal) (left : Left) (afters : List ℕ × List ℕ)
     → known ≡ r → left ≡ left_by s known → Answers s store out e r afters.0 afters.1 → Gives s store out e left afters.0 afters.1
 called_left s store out e r known left afters k l a =
     (l ∙ ap (left_by s) k ∙ left_called (record { state = s; store = store }) e r a.0, a.1)
+
+-- a call without output, and one that may write: what its answer leaves is what is left of the outcome
+pub stepped_gives : (s : State) (store out store_after : List ℕ) (e : Event) (x : Result State Refusal) → (effect s store e).written ≡ silent
+    → Answered answer_number x (stepped_of (effect s store e)) (effect s store e).answer → store_after ≡ effect_store s store e
+    → Gives s store out e (stepped_by s x) store_after out
+stepped_gives s store out store_after e (Ok next) none a k =
+    let o = effect s store e in
+    (left_called (record { state = s; store = store }) e _ (nothing_written o (Ok next) next none refl a), (k, rw none refl))
+stepped_gives s store out store_after e (Err refusal) none a k =
+    let o = effect s store e in
+    (left_called (record { state = s; store = store }) e _ (refused_on o (Err refusal) refusal refl a), (k, rw none refl))
+
+pub wrote_gives : (s : State) (store out out_after : List ℕ) (e : Event) (x : Result Wrote Refusal)
+    → Answered answer_number x (wrote_of (effect s store e)) (effect s store e).answer → out_after ≡ output_after out (effect s store e)
+    → store ≡ effect_store s store e → Gives s store out e (left_by s x) store out_after
+wrote_gives s store out out_after e x a l k = (left_called (record { state = s; store = store }) e x a, (k, l))
+
+-- an event's call is the call that it names
+pub gives_of : (s : State) (store out : List ℕ) (e f : Event) (left : Left) (store_after out_after : List ℕ) → e ≡ f
+    → Gives s store out f left store_after out_after → Gives s store out e left store_after out_after
+gives_of s store out e f left store_after out_after g h = rw g h
 
 -- the store that a tape names is no longer than the longest
 pub store_small : (t : List ℕ) → Octets t → store_length (body_of t 0) ≤ max_store_octets

@@ -78,6 +78,16 @@ abbrev pub left_by : State → Result Wrote Refusal → Left
 left_by s (Ok w) = record { state = w.state; answer = done; written = w.written }
 left_by s (Err refusal) = record { state = s; answer = refusal_number refusal; written = 0 }
 
+-- The same of a call without output.
+abbrev pub stepped_by : State → Result State Refusal → Left
+stepped_by s (Ok next) = record { state = next; answer = done; written = 0 }
+stepped_by s (Err refusal) = record { state = s; answer = refusal_number refusal; written = 0 }
+
+-- What is left where s is the state after the call, and it answers how many octets it wrote, or a refusal.
+abbrev pub settled : State → Result ℕ Refusal → Left
+settled s (Ok written) = record { state = s; answer = done; written = written }
+settled s (Err refusal) = record { state = s; answer = refusal_number refusal; written = 0 }
+
 -- A call answers this, and leaves this store and this output.
 abbrev pub Answers : State → List ℕ → List ℕ → Event → Result Wrote Refusal → List ℕ → List ℕ → Type 0
 Answers s store out e r store_after out_after =

@@ -2,12 +2,13 @@
 // Every function answers any octets.
 #![tactic(auto)]
 
-ghost use Rattle.std.specs.Prelude.{◌≡◌, length, drop};
+ghost use Rattle.std.specs.Prelude.{◌≡◌, ℕ, List, length, drop};
+ghost use Rattle.octets.specs.Numbers.{uint_at};
+ghost use Rattle.session.specs.InOctets.{Put, Receive, LineDown, Tick, NextData, OfferTemplates};
 ghost use Rattle.octets.specs.Answers.{answer_number, judged, Answered};
-ghost use Rattle.exporter.specs.Replies.{silent};
-ghost use Rattle.exporter.specs.Steps.{Outcome, made_of, stepped_of, wrote_of};
+ghost use Rattle.exporter.specs.Steps.{made_of};
 ghost use Rattle.contents.specs.Tape.{body_of, template_id_octets};
-ghost use Rattle.events.specs.Events.{priorities_of, settings_of, set_up_by, store_length, table_answer, event_call, Answers, Called};
+ghost use Rattle.events.specs.Events.{priorities_of, settings_of, set_up_by, store_length, table_answer, event_call, Gives, Called, left_by, stepped_by, settled};
 
 use contents::{Kind, PRIORITIES_AT, TEMPLATE_ID_OCTETS};
 use exporter::limits::SERVER_ENTRIES;
@@ -91,45 +92,108 @@ fn record_of(b: &[u8]) -> &[u8]
     &b[TEMPLATE_ID_OCTETS..]
 }
 
-// What a call without output answers, in the form of one with it.
-fn wrote_nothing(stepped: Result<State, Refusal>) -> Result<Wrote, Refusal>
-    ensures { (o : Outcome) → o.written ≡ silent → Answered answer_number stepped (stepped_of o) o.answer
-        → Answered answer_number result (wrote_of o) o.answer }
+// Takes the state that a call without output left, if it was not refused.
+fn take_stepped(s: &mut State, stepped: &Result<State, Refusal>) -> Result<usize, Refusal>
+    ensures { settled s.new result ≡ stepped_by s.old stepped.now }
 {
-    Ok(Wrote {
-        state: stepped?,
-        written: 0,
-    })
+    match stepped {
+        Ok(next) => {
+            *s = *next;
+            Ok(0)
+        }
+        Err(refusal) => Err(*refusal),
+    }
 }
 
-// Makes the call of an event.
+// The same of a call that may write.
+fn take_wrote(s: &mut State, wrote: &Result<Wrote, Refusal>) -> Result<usize, Refusal>
+    ensures { settled s.new result ≡ left_by s.old wrote.now }
+{
+    match wrote {
+        Ok(left) => {
+            *s = left.state;
+            Ok(left.written)
+        }
+        Err(refusal) => Err(*refusal),
+    }
+}
+
+// Puts the record in a put's body. One call for each function here and below: what a call answers has the size of a state, and a function
+// makes room for each such answer at its start.
+fn put_record(s: &mut State, b: &[u8], table: &[u8], store: &mut [u8]) -> Result<usize, Refusal>
+    ensures { (out : List ℕ) → Gives s.old store.old out (Put table.now (uint_at b.now 0 2) (drop template_id_octets b.now))
+        (settled s.new result) store.new out }
+{
+    let id = octets::get(b, 0);
+    let stepped = exporter::put::put(*s, store, table, id, record_of(b));
+    take_stepped(s, &stepped)
+}
+
+// Takes a message from a server.
+fn receive(s: &mut State, server: u8, message: &[u8], out: &mut [u8]) -> Result<usize, Refusal>
+    ensures { (store : List ℕ) → Gives s.old store out.old (Receive server message.now out.old) (settled s.new result) store out.new }
+{
+    let wrote = exporter::receive::receive(*s, server, message, out);
+    take_wrote(s, &wrote)
+}
+
+// The line to a server is down.
+fn line_down(s: &mut State, server: u8) -> Result<usize, Refusal>
+    ensures { (store out : List ℕ) → Gives s.old store out (LineDown server) (settled s.new result) store out }
+{
+    let stepped = exporter::line_down::line_down(*s, server);
+    take_stepped(s, &stepped)
+}
+
+// One tick passes.
+fn tick(s: &mut State) -> Result<usize, Refusal>
+    ensures { (store out : List ℕ) → Gives s.old store out Tick (settled s.new result) store out }
+{
+    let stepped = exporter::tick::tick(*s);
+    take_stepped(s, &stepped)
+}
+
+// Sends the next record.
+fn send_next(s: &mut State, store: &[u8], out: &mut [u8]) -> Result<usize, Refusal>
+    ensures { Gives s.old store.now out.old (NextData out.old) (settled s.new result) store.now out.new }
+{
+    let wrote = exporter::next_data::next_data(*s, store, out);
+    take_wrote(s, &wrote)
+}
+
+// Offers the table to a server.
+fn offer(s: &mut State, server: u8, table: &[u8], out: &mut [u8]) -> Result<usize, Refusal>
+    ensures { (store : List ℕ) → Gives s.old store out.old (OfferTemplates server table.now out.old) (settled s.new result) store out.new }
+{
+    let wrote = exporter::offer_templates::offer_templates(*s, server, table, out);
+    take_wrote(s, &wrote)
+}
+
+// Makes the call of an event: answers how many octets it wrote, or the refusal, after which the state is as it was.
 fn make_call<'a>(
-    s: State,
+    s: &mut State,
     kind: u8,
     server: u8,
     b: &'a [u8],
     table: &'a [u8],
     store: &mut [u8],
     out: &mut [u8],
-) -> Result<Wrote, Refusal>
-    ensures { Answers s store.old out.old (event_call kind server b.now out.old table.now) result store.new out.new }
+) -> Result<usize, Refusal>
+    ensures { Gives s.old store.old out.old (event_call kind server b.now out.old table.now) (settled s.new result) store.new out.new }
 {
     match kind {
-        Kind::PUT => {
-            let id = octets::get(b, 0);
-            wrote_nothing(exporter::put::put(s, store, table, id, record_of(b)))
-        }
-        Kind::MESSAGE => exporter::receive::receive(s, server, b, out),
-        Kind::DOWN => wrote_nothing(exporter::line_down::line_down(s, server)),
-        Kind::TICK => wrote_nothing(exporter::tick::tick(s)),
-        Kind::NEXT => exporter::next_data::next_data(s, store, out),
-        _ => exporter::offer_templates::offer_templates(s, server, table, out),
+        Kind::PUT => put_record(s, b, table, store),
+        Kind::MESSAGE => receive(s, server, b, out),
+        Kind::DOWN => line_down(s, server),
+        Kind::TICK => tick(s),
+        Kind::NEXT => send_next(s, store, out),
+        _ => offer(s, server, table, out),
     }
 }
 
 // Makes the call of an event, and hands back what it left: its number is printed, and the state goes on after a refusal.
 pub fn call<'a>(
-    s: State,
+    mut s: State,
     kind: u8,
     server: u8,
     b: &'a [u8],
@@ -140,11 +204,11 @@ pub fn call<'a>(
     ensures { Called table.now s store.old out.old
         (event_call kind server b.now out.old) result store.new out.new }
 {
-    match make_call(s, kind, server, b, table, store, out) {
-        Ok(wrote) => Left {
-            state: wrote.state,
+    match make_call(&mut s, kind, server, b, table, store, out) {
+        Ok(written) => Left {
+            state: s,
             answer: DONE,
-            written: wrote.written,
+            written,
         },
         Err(refusal) => Left {
             state: s,

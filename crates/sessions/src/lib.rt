@@ -3,7 +3,9 @@
 // exporter: the compiler then puts it in its caller's place. So nothing else stands in this crate.
 #![tactic(auto)]
 
-ghost use Rattle.std.specs.Prelude.{◌≡◌, ◌+◌, ◌≤◌, length};
+ghost use Rattle.std.specs.Prelude.{◌≡◌, ◌+◌, ◌≤◌, ℕ, List, length};
+ghost use Rattle.session.specs.InOctets.{Put, NextData, Receive, OfferTemplates, Tick};
+ghost use Rattle.batches.specs.Batches.{Single, SendBatch};
 ghost use Rattle.sessions.specs.Sessions.{settings_of, event_octets, message_at, added, stepped, wrote, event_count, progress, call_at, after, played};
 ghost use Rattle.sessions.specs.Sessions.{session_end, PlayedTo};
 
@@ -93,6 +95,69 @@ fn take_wrote(state: &mut State, total: u64, left: &Result<Wrote, Refusal>) -> u
     }
 }
 
+// Puts the record; gives the sum with the answer. One call for each function here and below: what a call answers has the size of a state, and
+// a function makes room for each answer that it can get.
+fn put_record(
+    state: &mut State,
+    total: u64,
+    store: &mut [u8],
+    table: &[u8],
+    id: u16,
+    r: &[u8],
+) -> u64
+    ensures { (out : List ℕ) → progress state.new store.new out result
+        ≡ after (Single (Put table.now id r.now)) (progress state.old store.old out total) }
+{
+    let left = exporter::put::put(*state, store, table, id, r);
+    take_stepped(state, total, &left)
+}
+
+// Sends the next record; gives the sum with the answer and the octets written.
+fn send_next(state: &mut State, total: u64, store: &[u8], out: &mut [u8]) -> u64
+    ensures { progress state.new store.now out.new result
+        ≡ after (Single (NextData out.old)) (progress state.old store.now out.old total) }
+{
+    let left = exporter::next_data::next_data(*state, store, out);
+    take_wrote(state, total, &left)
+}
+
+// A tick; gives the sum with the answer.
+fn tick(state: &mut State, total: u64) -> u64
+    ensures { (store out : List ℕ) → progress state.new store out result
+        ≡ after (Single Tick) (progress state.old store out total) }
+{
+    let left = exporter::tick::tick(*state);
+    take_stepped(state, total, &left)
+}
+
+// Offers the table to a server; gives the sum with the answer and the octets written.
+fn offer(state: &mut State, total: u64, server: u8, table: &[u8], out: &mut [u8]) -> u64
+    ensures { (store : List ℕ) → progress state.new store out.new result
+        ≡ after (Single (OfferTemplates server table.now out.old)) (progress state.old store out.old total) }
+{
+    let left = exporter::offer_templates::offer_templates(*state, server, table, out);
+    take_wrote(state, total, &left)
+}
+
+// Sends a batch of at most `limit` messages; gives the sum with its answer, octets written and count.
+fn send_batch(state: &mut State, total: u64, store: &[u8], out: &mut [u8], limit: u8) -> u64
+    ensures { progress state.new store.now out.new result
+        ≡ after (SendBatch limit out.old) (progress state.old store.now out.old total) }
+{
+    let left = exporter::batch::send_batch(*state, store, out, limit as usize);
+    *state = left.state;
+    add(total, answer_number(&left.answer), left.written).wrapping_add(left.count as u64)
+}
+
+// Receives a message from a server; gives the sum with the answer and the octets written.
+fn receive(state: &mut State, total: u64, server: u8, message: &[u8], out: &mut [u8]) -> u64
+    ensures { (store : List ℕ) → progress state.new store out.new result
+        ≡ after (Single (Receive server message.now out.old)) (progress state.old store out.old total) }
+{
+    let left = exporter::receive::receive(*state, server, message, out);
+    take_wrote(state, total, &left)
+}
+
 // Makes the call of the event at a place; gives the sum with its answer, octets written and count of a batch.
 fn play_event(
     state: &mut State,
@@ -112,32 +177,12 @@ fn play_event(
 {
     let server = events[at + 1];
     match events[at] {
-        PUT => {
-            let left = exporter::put::put(*state, store, table, id, r);
-            take_stepped(state, total, &left)
-        }
-        NEXT_DATA => {
-            let left = exporter::next_data::next_data(*state, store, out);
-            take_wrote(state, total, &left)
-        }
-        TICK => {
-            let left = exporter::tick::tick(*state);
-            take_stepped(state, total, &left)
-        }
-        OFFER => {
-            let left = exporter::offer_templates::offer_templates(*state, server, table, out);
-            take_wrote(state, total, &left)
-        }
-        BATCH => {
-            let left = exporter::batch::send_batch(*state, store, out, server as usize);
-            *state = left.state;
-            add(total, answer_number(&left.answer), left.written).wrapping_add(left.count as u64)
-        }
-        _ => {
-            let m = message_at(events, at);
-            let left = exporter::receive::receive(*state, server, m, out);
-            take_wrote(state, total, &left)
-        }
+        PUT => put_record(state, total, store, table, id, r),
+        NEXT_DATA => send_next(state, total, store, out),
+        TICK => tick(state, total),
+        OFFER => offer(state, total, server, table, out),
+        BATCH => send_batch(state, total, store, out, server),
+        _ => receive(state, total, server, message_at(events, at), out),
     }
 }
 

@@ -1,12 +1,18 @@
--- `call`: what the answer leaves is what is left of the outcome.
-use mathlib.Core.Path.{refl, sym, ap}
-use Rattle.events.proofs.Events.{called_left}
+-- `call`: what its answer leaves is what is left of the outcome.
+use mathlib.Core.Path.{sym, ap, ◌∙◌}
+use Rattle.octets.specs.Answers.{refusal_number}
+use Rattle.events.specs.Events.{settled}
 use Rattle.events.proofs.call.Goals as goal
 
 pub returns-in-Ok : goal.returns-in-Ok
-returns-in-Ok c = called_left _ _ _ _ _ _ _ _ (sym c.in-Ok.is) refl c.make_call.ensures
+returns-in-Ok c =
+    let k = c.make_call.ensures in
+    (ap (settled c.make_call.new.s) (sym c.in-Ok.is) ∙ k.0, k.1)
 
 pub returns-in-Err : goal.returns-in-Err
 returns-in-Err c =
-    called_left _ _ _ _ _ _ _ _ (sym c.in-Err.is)
-    (ap (λ n. record { state = c.args.s; answer = n; written = 0 }) c.number.ensures) c.make_call.ensures
+    let k = c.make_call.ensures in (
+      ap (λ n. record { state = c.make_call.new.s; answer = n; written = 0 }) c.number.ensures
+          ∙ ap (settled c.make_call.new.s) (sym c.in-Err.is) ∙ k.0,
+      k.1,
+    )
