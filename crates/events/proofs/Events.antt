@@ -275,7 +275,8 @@ unwritten_of (Err refusal) = Err refusal
 -- what such a call leaves
 pub stepped : (x : Exporter) (e : Event) (s : Result State Refusal) (r : Left) → let o = event_step x e in
     o.written ≡ silent → Answered answer_number s (stepped_of o) o.answer → r ≡ left_by x.state (unwritten_of s) → r ≡ left_of o
-stepped x e (Ok s) r f g h = h ∙ left_called x e (Ok (record { state = s; written = 0 })) (nothing_written (event_step x e) (Ok s) s f refl g)
+stepped x e (Ok s) r f g h =
+    h ∙ left_called x e (Ok (record { state = s; written = 0 })) (nothing_written (event_step x e) (Ok s) s f refl g)
 stepped x e (Err refusal) r f g h = h ∙ left_called x e (Err refusal) (refused_on (event_step x e) (Err refusal) refusal refl g)
 
 -- so an answer that is known gives what it leaves
@@ -285,7 +286,8 @@ called_left s store out e r known left afters k l a =
     (l ∙ ap (left_by s) k ∙ left_called (record { state = s; store = store }) e r a.0, a.1)
 
 -- a call without output, and one that may write: what its answer leaves is what is left of the outcome
-pub stepped_gives : (s : State) (store out store_after : List ℕ) (e : Event) (x : Result State Refusal) → (effect s store e).written ≡ silent
+pub stepped_gives : (s : State) (store out store_after : List ℕ) (e : Event) (x : Result State Refusal)
+    → (effect s store e).written ≡ silent
     → Answered answer_number x (stepped_of (effect s store e)) (effect s store e).answer → store_after ≡ effect_store s store e
     → Gives s store out e (stepped_by s x) store_after out
 stepped_gives s store out store_after e (Ok next) none a k =

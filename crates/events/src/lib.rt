@@ -8,7 +8,8 @@ ghost use Rattle.session.specs.InOctets.{Put, Receive, LineDown, Tick, NextData,
 ghost use Rattle.octets.specs.Answers.{answer_number, judged, Answered};
 ghost use Rattle.exporter.specs.Steps.{made_of};
 ghost use Rattle.contents.specs.Tape.{body_of, template_id_octets};
-ghost use Rattle.events.specs.Events.{priorities_of, settings_of, set_up_by, store_length, table_answer, event_call, Gives, Called, left_by, stepped_by, settled};
+ghost use Rattle.events.specs.Events.{priorities_of, settings_of, set_up_by, store_length, table_answer};
+ghost use Rattle.events.specs.Events.{event_call, Gives, Called, left_by, stepped_by, settled};
 
 use contents::{Kind, PRIORITIES_AT, TEMPLATE_ID_OCTETS};
 use exporter::limits::SERVER_ENTRIES;

@@ -30,6 +30,7 @@ fn check_record(p: Settings, table: &[u8], id: u16, r: &[u8]) -> Result<(), Refu
 }
 
 // A record finds room beside the held ones, which have `held` octets together, else it is refused with 18 or 19.
+#[tactic(auto, unfolding(numbers::specs::Answers::judged, numbers::specs::Answers::refusal_of))]
 fn check_room(s: &State, held: u32, r: &[u8]) -> Result<(), Refusal>
     ensures { result ≡ judged (judge (room_checks s.now.capacity s.now.queue.count held r.now)) tt }
 {

@@ -218,16 +218,16 @@ module _ (s : State) (store out : List ℕ) where
       Answered answer_number (Err refusal) (wrote_of o) o.answer × (out ≡ output_after out o)
   next_err e = kept (ap (λ (k : ℕ). judged k (tt {0})) (sym (send_refused s store out (refused_number (tt {0}) e))) ∙ e)
 
-  -- refused for its length
+  -- refused for its length: the refusal is that of a short output
   pub next_short : (after' : List ℕ) (r : Result ℕ Refusal) (a : Refusal) → SendFacts s store → Placed (octets_next s store) out r after'
-      → r ≡ Err a
+      → r ≡ Err a → (refusal : Refusal) → refusal ≡ OutputTooShort
       → let o = next_data_step s store out in
-      Answered answer_number (Err a) (wrote_of o) o.answer × (after' ≡ output_after out o)
+      Answered answer_number (Err refusal) (wrote_of o) o.answer × (after' ≡ output_after out o)
   unfolding judged refusal_of
-  next_short after' r a f p q =
+  next_short after' r a f p q refusal e =
       let d = short_output s store out after' r a f p q in
       let k = kept (ap (λ (k : ℕ). judged k (tt {0})) d.1.0) in
-      (rw d.0 k.0, d.1.1 ∙ k.1)
+      (rw e k.0, d.1.1 ∙ k.1)
 
   -- accepted
   pub next_done : (after' : List ℕ) (r : Result ℕ Refusal) (n : ℕ) (s' : State) → SendFacts s store → Placed (octets_next s store) out r after'

@@ -149,7 +149,11 @@ pub fn next_data(mut s: State, store: &[u8], out: &mut [u8]) -> Result<Wrote, Re
 {
     check_send(&s, store.len())?;
     let at = queue::record_start(s.capacity, s.start, &s.queue.lengths, s.delivery.sent);
-    let written = write_next(&s, store, at, out)?;
+    // In place of `?`, so that the must-fail edit short_output_answers_0 changes the answer to a short output alone.
+    let written = match write_next(&s, store, at, out) {
+        Ok(n) => n,
+        Err(refusal) => return Err(refusal),
+    };
     mark_sent(&mut s);
     Ok(Wrote { state: s, written })
 }

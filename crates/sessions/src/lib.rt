@@ -95,8 +95,8 @@ fn take_wrote(state: &mut State, total: u64, left: &Result<Wrote, Refusal>) -> u
     }
 }
 
-// Puts the record; gives the sum with the answer. One call for each function here and below: what a call answers has the size of a state, and
-// a function makes room for each answer that it can get.
+// Puts the record; gives the sum with the answer. One call for each function here and below: what a call answers has the size of a state,
+// and a function makes room for each answer that it can get.
 fn put_record(
     state: &mut State,
     total: u64,

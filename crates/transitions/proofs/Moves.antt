@@ -253,16 +253,17 @@ module _ (v : ℕ) (m : Move) (table out : List ℕ) (s : State) where
       let t = transition_of table m in
       move_left (ap (λ (k : ℕ). judged k (tt {0})) (early_refused (length out) v t s (refused_number (tt {0}) e)) ∙ e)
 
-  -- refused for the output's length
-  pub move_short : {refusal : Refusal} {left : List ℕ} → judge (early s v (transition_of table m)) ≡ done
-      → Unfitted (layout (reply_to s.settings (transition_of table m))) out refusal left
+  -- refused for the output's length: the refusal is that of a short output
+  pub move_short : {given : Refusal} {left : List ℕ} → judge (early s v (transition_of table m)) ≡ done
+      → Unfitted (layout (reply_to s.settings (transition_of table m))) out given left
+      → (refusal : Refusal) → refusal ≡ OutputTooShort
       → let o = step crane (length out) (move v (transition_of table m)) s [] in
       Answered answer_number (Err refusal) (wrote_of o) o.answer × (left ≡ output_after out o)
   unfolding judged refusal_of
-  move_short e f =
+  move_short e f refusal n =
       let t = transition_of table m in
       let k = move_left (ap (λ (k : ℕ). judged k (tt {0})) (early_roomed (length out) v t s e true f.short)) in
-      (rw f.number k.0, f.left ∙ k.1)
+      (rw n k.0, f.left ∙ k.1)
 
 -- ---- the servers after a transition
 

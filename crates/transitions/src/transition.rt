@@ -163,7 +163,11 @@ pub fn move_server(
         Answered answer_number result (wrote_of o) o.answer × (out.new ≡ output_after out.old o) }
 {
     check_move(&s, v, m, table)?;
-    let written = write_reply(s.settings, m, table, out)?;
+    // In place of `?`, so that the must-fail edit short_output_answers_0 changes the answer to a short output alone.
+    let written = match write_reply(s.settings, m, table, out) {
+        Ok(n) => n,
+        Err(refusal) => return Err(refusal),
+    };
     let change = servers::change::settle_change(s.settings, move_delivery(s.delivery, v, m), s.due);
     servers::change::apply(&mut s, change);
     Ok(Wrote { state: s, written })

@@ -30,5 +30,5 @@ pub record WireRefusals : Type 0 where
       (head_write_out h n out)
   pub field : (order : OctetOrder) (type : ℕ) (value : Value) (octets out : List ℕ) (at : ℕ)
       → let stored = field_octets order type value octets in
-      KeptOrWritten (append_answer order type value octets out at) (at + length stored) (append_of order type value octets out at) at stored out
-      (append_out order type value octets out at)
+      KeptOrWritten (append_answer order type value octets out at) (at + length stored) (append_of order type value octets out at) at stored
+      out (append_out order type value octets out at)

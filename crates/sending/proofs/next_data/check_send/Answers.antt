@@ -1,6 +1,7 @@
--- `check_send` meets its contract. The code makes the tests in the definition's order, 1 first, so each return follows from the tests on the
--- way to it.
-use Rattle.std.proofs.Common.{refl, sym, ◌∙◌, le-leb}
+-- `check_send` meets its contract. The code makes the tests in the definition's order, 1 first, so each return follows from the tests on
+-- the way to it.
+use Rattle.std.proofs.Common.{◌≡◌, not, refl, sym, ◌∙◌, le-leb, rules}
+use Rattle.std.specs.Prelude.{is_some}
 use borrow.Author.Tests.{lt-leb}
 use Rattle.octets.specs.Answers.{judged, refusal_of}
 use Rattle.octets.proofs.Judging.{handed_on}
@@ -15,15 +16,17 @@ pub returns-then-is_none : goal.returns-then-is_none
 unfolding judged refusal_of
 returns-then-is_none c =
     let a = c.args.s.now.delivery.active in
-    rw (usable _ (sym c.check_usable.ensures ∙ c.in_ok-check_usable.was), nobody_by a c.is_none.result c.is_none.ensures c.if-is_none.true) refl
+    let e : is_some a ≡ not c.is_none.result = search rules in
+    rw (usable _ (sym c.check_usable.ensures ∙ c.in_ok-check_usable.was), nobody_by a c.is_none.result e c.if-is_none.true) refl
 
 pub returns-then-s : goal.returns-then-s
 unfolding judged refusal_of
 returns-then-s c =
     let s = c.args.s.now in
+    let e : is_some s.delivery.active ≡ not c.is_none.result = search rules in
     rw (
       usable _ (sym c.check_usable.ensures ∙ c.in_ok-check_usable.was),
-      nobody_by s.delivery.active c.is_none.result c.is_none.ensures c.if-is_none.false,
+      nobody_by s.delivery.active c.is_none.result e c.if-is_none.false,
       le-leb s.queue.count s.delivery.sent c.if-s.true,
     )
     refl
@@ -32,9 +35,10 @@ pub returns : goal.returns
 unfolding judged
 returns c =
     let s = c.args.s.now in
+    let e : is_some s.delivery.active ≡ not c.is_none.result = search rules in
     rw (
       usable _ (sym c.check_usable.ensures ∙ c.in_ok-check_usable.was),
-      nobody_by s.delivery.active c.is_none.result c.is_none.ensures c.if-is_none.false,
+      nobody_by s.delivery.active c.is_none.result e c.if-is_none.false,
       lt-leb s.queue.count s.delivery.sent c.if-s.false,
     )
     refl

@@ -3,7 +3,7 @@
 use Rattle.std.proofs.Common.{sym, ◌∙◌}
 use Rattle.octets.proofs.Judging.{judged_ok, handed_on}
 use Rattle.soundness.proofs.Parts.{active_below}
-use Rattle.sending.proofs.Sends.{send_facts, sent_few, next_err, next_short, next_done}
+use Rattle.sending.proofs.Sends.{send_facts, sent_few, next_err, short_output, next_short, next_done}
 use Rattle.sending.proofs.next_data.next_data.Goals as goal
 
 pub returns-in_err-check_send : goal.returns-in_err-check_send
@@ -16,11 +16,12 @@ write_next-requires c =
     let a = c.args in
     (send_facts a.s a.store.now (judged_ok _ (tt {0}) (sym c.check_send.ensures ∙ c.in_ok-check_send.was)), c.record_start-at.ensures)
 
-pub returns-in_err-written : goal.returns-in_err-written
-returns-in_err-written c =
+pub returns-in-Err : goal.returns-in-Err
+returns-in-Err c =
     let a = c.args in
     let f = send_facts a.s a.store.now (judged_ok _ (tt {0}) (sym c.check_send.ensures ∙ c.in_ok-check_send.was)) in
-    rw (handed_on c.from_residual-in_err-written.ensures.1) (next_short a.s a.store.now a.out.now _ _ _ f c.write_next.ensures c.in_err-written.was)
+    let d = short_output a.s a.store.now a.out.now _ _ _ f c.write_next.ensures c.in-Err.is in
+    next_short a.s a.store.now a.out.now _ _ _ f c.write_next.ensures c.in-Err.is _ (cc d.0)
 
 pub mark_sent-requires : goal.mark_sent-requires
 mark_sent-requires c =
@@ -32,4 +33,4 @@ pub returns : goal.returns
 returns c =
     let a = c.args in
     let f = send_facts a.s a.store.now (judged_ok _ (tt {0}) (sym c.check_send.ensures ∙ c.in_ok-check_send.was)) in
-    next_done a.s a.store.now a.out.now _ _ _ _ f c.write_next.ensures c.in_ok-written.was c.mark_sent.ensures
+    next_done a.s a.store.now a.out.now _ _ _ _ f c.write_next.ensures c.in-Ok.is c.mark_sent.ensures

@@ -19,20 +19,21 @@ returns-in_err-check_move c =
 pub write_reply-requires : goal.write_reply-requires
 write_reply-requires c =
     let a = c.args in
-    early_fits (length a.out.now) a.v (transition_of a.table.now a.m) a.s (judged_ok _ (tt {0}) (sym c.check_move.ensures ∙ c.in_ok-check_move.was))
+    let e = judged_ok _ (tt {0}) (sym c.check_move.ensures ∙ c.in_ok-check_move.was) in
+    early_fits (length a.out.now) a.v (transition_of a.table.now a.m) a.s e
 
-pub returns-in_err-written : goal.returns-in_err-written
-returns-in_err-written c =
+pub returns-in-Err : goal.returns-in-Err
+returns-in-Err c =
     let a = c.args in
     let e = judged_ok _ (tt {0}) (sym c.check_move.ensures ∙ c.in_ok-check_move.was) in
-    rw (handed_on c.from_residual-in_err-written.ensures.1)
-    (move_short a.v a.m a.table.now a.out.now a.s e (unfitted _ _ _ _ _ c.write_reply.ensures c.in_err-written.was))
+    let f = unfitted _ _ _ _ _ c.write_reply.ensures c.in-Err.is in
+    move_short a.v a.m a.table.now a.out.now a.s e f _ (cc f.number)
 
 pub returns : goal.returns
 returns c =
     let a = c.args in
     let t = transition_of a.table.now a.m in
     let e = judged_ok _ (tt {0}) (sym c.check_move.ensures ∙ c.in_ok-check_move.was) in
-    let f = fitted _ _ _ _ _ c.write_reply.ensures c.in_ok-written.was in
+    let f = fitted _ _ _ _ _ c.write_reply.ensures c.in-Ok.is in
     rw (c.apply.ensures, c.settle_change-change.ensures, c.move_delivery.ensures, any_table a.v a.m a.table.now a.s.delivery.servers)
     (moved crane (length a.out.now) a.v t a.s a.out.now _ _ (early_roomed (length a.out.now) a.v t a.s e false f.fits) f.many f.left)
