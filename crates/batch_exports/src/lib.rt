@@ -6,16 +6,15 @@ ghost use Rattle.std.specs.Prelude.{◌≡◌, length, take};
 ghost use Rattle.octets.specs.Answers.{answer_number};
 ghost use Rattle.batches.specs.Batches.{batch, batch_of, output_after_batch};
 ghost use Rattle.contents.specs.Tape.{kind_at, server_at, body_of};
-ghost use Rattle.events.specs.Events.{event_call, Called};
+ghost use Rattle.events.specs.Events.{event_call, Called, settled};
 ghost use Rattle.batch_exports.specs.Calls.{progress, played_to, uncalled, asked, end_of, HandedBack};
 
 use contents::MIN_EVENTS;
-use events::Left;
 use exporter::state::{Batch, State};
-use octets::{DONE, answer_number};
+use octets::{Refusal, answer_number};
 
-// What can be asked, by numbers for C: a batch's answer, how many messages and how many octets it wrote, and the answer of the last call after it. Any other
-// number asks how many octets that call wrote.
+// What can be asked, by numbers for C: a batch's answer, how many messages and how many octets it wrote, and the answer of the last call
+// after it. Any other number asks how many octets that call wrote.
 const BATCH_ANSWER: u8 = 0;
 
 const BATCH_COUNT: u8 = 1;
@@ -27,38 +26,41 @@ const LAST_ANSWER: u8 = 3;
 // The place of the first call, after settings and table.
 const FIRST_CALL: u16 = MIN_EVENTS;
 
-// A state before the first call, as if a call had answered 0 and written nothing.
-fn uncalled(state: State) -> Left
-    ensures { result ≡ uncalled state }
-{
-    Left {
-        state,
-        answer: DONE,
-        written: 0,
-    }
-}
-
-// Makes the call of event i.
-fn call_at(s: State, tape: &[u8], i: u16, store: &mut [u8], out: &mut [u8]) -> Left
-    ensures { Called (body_of tape.now 1) s store.old out.old
+// Makes the call of event i on the state: answers how many octets it wrote, or the refusal, after which the state is as it was.
+fn call_at(
+    s: &mut State,
+    tape: &[u8],
+    i: u16,
+    store: &mut [u8],
+    out: &mut [u8],
+) -> Result<usize, Refusal>
+    ensures { Called (body_of tape.now 1) s.old store.old out.old
         (event_call (kind_at tape.now i) (server_at tape.now i) (body_of tape.now i) out.old)
-        result store.new out.new }
+        (settled s.new result) store.new out.new }
 {
     let table = contents::body(tape, 1);
     let b = contents::body(tape, i);
     let kind = contents::kind_at(tape, i);
     let server = contents::server_at(tape, i);
-    events::call(s, kind, server, b, table, store, out)
+    events::call_in_place(s, kind, server, b, table, store, out)
 }
 
-// Makes the calls of the events from one to that before `end`, of those that the tape has.
-fn play(s: State, tape: &[u8], from: u16, end: u16, store: &mut [u8], out: &mut [u8]) -> Left
-    ensures { progress result store.new out.new
-        ≡ played_to tape.now from end (progress (uncalled s) store.old out.old) }
+// Makes the calls of the events from one to that before `end`, of those that the tape has: answers what the last one does, or that no octet
+// was written where none is made.
+fn play(
+    s: &mut State,
+    tape: &[u8],
+    from: u16,
+    end: u16,
+    store: &mut [u8],
+    out: &mut [u8],
+) -> Result<usize, Refusal>
+    ensures { progress (settled s.new result) store.new out.new
+        ≡ played_to tape.now from end (progress (uncalled s.old) store.old out.old) }
 {
-    let mut last = uncalled(s);
+    let mut last = Ok(0);
     for i in from..end.min(contents::event_count(tape)) {
-        last = call_at(last.state, tape, i, store, out);
+        last = call_at(s, tape, i, store, out);
     }
     last
 }
@@ -71,16 +73,16 @@ fn batch_of(s: State, store: &[u8], lent: usize, messages: &mut [u8], number: us
     exporter::batch::send_batch(s, contents::part(store, 0, lent), messages, number)
 }
 
-// The number that is asked for.
-fn asked(part: u8, b: Batch, last: Left) -> u64
-    ensures { result ≡ asked part (answer_number b.answer) b last }
+// The number that is asked for, of the batch and of what the last call answered.
+fn asked(part: u8, b: Batch, last: Result<usize, Refusal>) -> u64
+    ensures { (s : State) → result ≡ asked part (answer_number b.answer) b (settled s last) }
 {
     match part {
         BATCH_ANSWER => answer_number(&b.answer) as u64,
         BATCH_COUNT => b.count as u64,
         BATCH_WRITTEN => b.written as u64,
-        LAST_ANSWER => last.answer as u64,
-        _ => last.written as u64,
+        LAST_ANSWER => answer_number(&last) as u64,
+        _ => last.unwrap_or(0) as u64,
     }
 }
 
@@ -105,9 +107,10 @@ pub extern "C" fn crane_batch(
         part messages.old result store.new out.new messages.new }
 {
     let made = events::set_up(contents::body(tape, 0), store);
-    let fresh = made.unwrap_or(exporter::set_up::refused_state());
-    let before = play(fresh, tape, FIRST_CALL, place, store, out);
-    let batch = batch_of(before.state, store, lent, messages, number);
-    let last = play(batch.state, tape, place.max(FIRST_CALL), end, store, out);
+    let mut state = made.unwrap_or(exporter::set_up::refused_state());
+    let _ = play(&mut state, tape, FIRST_CALL, place, store, out);
+    let batch = batch_of(state, store, lent, messages, number);
+    state = batch.state;
+    let last = play(&mut state, tape, place.max(FIRST_CALL), end, store, out);
     asked(part, batch, last)
 }

@@ -2,7 +2,7 @@
 #![tactic(auto)]
 
 use exporter::limits::SERVER_ENTRIES;
-use exporter::state::{Batch, Settings, State, Wrote};
+use exporter::state::{Settings, State, Wrote};
 use octets::{Refusal, answer_number};
 use std::io;
 
@@ -50,96 +50,162 @@ fn fresh(store: &[u8]) -> State {
     exporter::set_up::set_up(settings(), store).unwrap_or(exporter::set_up::refused_state())
 }
 
+// Puts a record and prints the answer. Each call of the exporter stands in a function that keeps a frame of its own: what a call answers
+// has the size of a state.
+#[inline(never)]
+fn put(
+    rt: &impl Print,
+    s: &mut State,
+    store: &mut [u8],
+    table: &[u8],
+    id: u16,
+    record: &[u8],
+    label: &[u8],
+) -> io::Result<()> {
+    let put = exporter::put::put(*s, store, table, id, record);
+    print(rt, label, &put)?;
+    if let Ok(state) = put {
+        *s = state;
+    }
+    Ok(())
+}
+
+// Prints what a call that may write answers, and takes the state that it leaves.
+fn take(
+    rt: &impl Print,
+    s: &mut State,
+    label: &[u8],
+    called: &Result<Wrote, Refusal>,
+) -> io::Result<()> {
+    print(rt, label, called)?;
+    if let Ok(wrote) = called {
+        *s = wrote.state;
+    }
+    Ok(())
+}
+
+// Takes a message from server 0 and prints the answer.
+#[inline(never)]
+fn receive(
+    rt: &impl Print,
+    s: &mut State,
+    message: &[u8],
+    out: &mut [u8],
+    label: &[u8],
+) -> io::Result<()> {
+    let called = exporter::receive::receive(*s, 0, message, out);
+    take(rt, s, label, &called)
+}
+
+// Offers the table of numbers to server 0 and prints the answer.
+#[inline(never)]
+fn offer(rt: &impl Print, s: &mut State, out: &mut [u8]) -> io::Result<()> {
+    let called = exporter::offer_templates::offer_templates(*s, 0, &NUMBER_TABLE, out);
+    take(rt, s, b"offer templates: ", &called)
+}
+
+// Sends the next record and prints the answer.
+#[inline(never)]
+fn send_next(rt: &impl Print, s: &mut State, store: &[u8], out: &mut [u8]) -> io::Result<()> {
+    let called = exporter::next_data::next_data(*s, store, out);
+    take(rt, s, b"next data: ", &called)
+}
+
+// Sends a batch, and prints its answer, how many messages it wrote and how many octets.
+#[inline(never)]
+fn send_batch(
+    rt: &impl Print,
+    s: &mut State,
+    store: &[u8],
+    out: &mut [u8],
+    limit: usize,
+    label: &[u8],
+) -> io::Result<()> {
+    let batch = exporter::batch::send_batch(*s, store, out, limit);
+    print(rt, label, &batch.answer)?;
+    *s = batch.state;
+    let count = batch.count;
+    let written = batch.written;
+    println!(rt; "  messages: {count}, octets: {written}")
+}
+
 // Puts a blob record of 1,024 octets, then the same with one octet more, into an empty store of 1,024.
 fn longest_record(rt: &impl Print) -> io::Result<()> {
     let mut store = [0u8; 1024];
     let mut record = [0u8; 1025];
     record[2] = 3;
     record[3] = 252;
-    let empty = fresh(&store);
-    let fits = exporter::put::put(empty, &mut store, &BLOB_TABLE, 4, &record[..1024]);
-    print(rt, b"1,024 octets, empty store of 1,024: ", &fits)?;
-    let full = fits.unwrap_or(empty);
-    let again = exporter::put::put(full, &mut store, &BLOB_TABLE, 4, &record[..1024]);
-    print(rt, b"1,024 octets, full store: ", &again)?;
+    let mut state = fresh(&store);
+    let first = b"1,024 octets, empty store of 1,024: ";
+    put(
+        rt,
+        &mut state,
+        &mut store,
+        &BLOB_TABLE,
+        4,
+        &record[..1024],
+        first,
+    )?;
+    let again = b"1,024 octets, full store: ";
+    put(
+        rt,
+        &mut state,
+        &mut store,
+        &BLOB_TABLE,
+        4,
+        &record[..1024],
+        again,
+    )?;
     record[3] = 253;
-    let longer = exporter::put::put(empty, &mut store, &BLOB_TABLE, 4, &record);
-    print(rt, b"1,025 octets, empty store: ", &longer)
+    state = fresh(&store);
+    let longer = b"1,025 octets, empty store: ";
+    put(rt, &mut state, &mut store, &BLOB_TABLE, 4, &record, longer)
 }
 
 // Puts a record of two octets n times, and prints each answer.
-fn put_many(rt: &impl Print, s: State, store: &mut [u8], n: u8) -> io::Result<State> {
+fn put_many(rt: &impl Print, s: &mut State, store: &mut [u8], n: u8) -> io::Result<()> {
     let record = [0u8, 5];
-    let mut state = s;
     for _ in 0..n {
-        let put = exporter::put::put(state, store, &NUMBER_TABLE, 3, &record);
-        print(rt, b"put: ", &put)?;
-        state = put.unwrap_or(state);
+        put(rt, s, store, &NUMBER_TABLE, 3, &record, b"put: ")?;
     }
-    Ok(state)
-}
-
-// Prints what a call that may write answers, and gives the state that it leaves.
-fn step(
-    rt: &impl Print,
-    s: State,
-    label: &[u8],
-    called: Result<Wrote, Refusal>,
-) -> io::Result<State> {
-    print(rt, label, &called)?;
-    match called {
-        Ok(wrote) => Ok(wrote.state),
-        Err(_) => Ok(s),
-    }
+    Ok(())
 }
 
 // Server 0 starts, is offered the table, agrees, is sent one record and acknowledges it.
-fn release_one(rt: &impl Print, s: State, store: &[u8]) -> io::Result<State> {
+fn release_one(rt: &impl Print, s: &mut State, store: &[u8]) -> io::Result<()> {
     let mut out = [0u8; 64];
-    let started = exporter::receive::receive(s, 0, &START, &mut out);
-    let began = step(rt, s, b"START: ", started)?;
-    let offered = exporter::offer_templates::offer_templates(began, 0, &NUMBER_TABLE, &mut out);
-    let offering = step(rt, began, b"offer templates: ", offered)?;
-    let agreed = exporter::receive::receive(offering, 0, &FINAL_TMPL_DATA_ACK, &mut out);
-    let active = step(rt, offering, b"FINAL TMPL DATA ACK: ", agreed)?;
-    let sent = exporter::next_data::next_data(active, store, &mut out);
-    let sending = step(rt, active, b"next data: ", sent)?;
-    let released = exporter::receive::receive(sending, 0, &ACK_OF_FIRST, &mut out);
-    step(rt, sending, b"DATA ACK of one record: ", released)
-}
-
-// Prints a batch's answer, how many messages it wrote and how many octets.
-fn print_batch(rt: &impl Print, label: &[u8], batch: Batch) -> io::Result<()> {
-    print(rt, label, &batch.answer)?;
-    let count = batch.count;
-    let written = batch.written;
-    println!(rt; "  messages: {count}, octets: {written}")
+    receive(rt, s, &START, &mut out, b"START: ")?;
+    offer(rt, s, &mut out)?;
+    receive(
+        rt,
+        s,
+        &FINAL_TMPL_DATA_ACK,
+        &mut out,
+        b"FINAL TMPL DATA ACK: ",
+    )?;
+    send_next(rt, s, store, &mut out)?;
+    receive(rt, s, &ACK_OF_FIRST, &mut out, b"DATA ACK of one record: ")
 }
 
 // Sends 64 records of two octets in batches: none, one, one more than there is room for, and more than are left.
-fn batches(rt: &impl Print, s: State, store: &[u8]) -> io::Result<()> {
+fn batches(rt: &impl Print, s: &mut State, store: &[u8]) -> io::Result<()> {
     let mut short = [0u8; 2 * DATA_OCTETS - 1];
     let mut out = [0u8; 64 * DATA_OCTETS];
-    let none = exporter::batch::send_batch(s, store, &mut short, 0);
-    print_batch(rt, b"batch of 0, room for 1: ", none)?;
-    let one = exporter::batch::send_batch(none.state, store, &mut short, 1);
-    print_batch(rt, b"batch of 1, room for 1: ", one)?;
-    let two = exporter::batch::send_batch(one.state, store, &mut short, 2);
-    print_batch(rt, b"batch of 2, room for 1: ", two)?;
-    let rest = exporter::batch::send_batch(two.state, store, &mut out, 64);
-    print_batch(rt, b"batch of 64, room for 64: ", rest)?;
-    let nothing = exporter::batch::send_batch(rest.state, store, &mut out, 1);
-    print_batch(rt, b"batch of 1, all sent: ", nothing)
+    send_batch(rt, s, store, &mut short, 0, b"batch of 0, room for 1: ")?;
+    send_batch(rt, s, store, &mut short, 1, b"batch of 1, room for 1: ")?;
+    send_batch(rt, s, store, &mut short, 2, b"batch of 2, room for 1: ")?;
+    send_batch(rt, s, store, &mut out, 64, b"batch of 64, room for 64: ")?;
+    send_batch(rt, s, store, &mut out, 1, b"batch of 1, all sent: ")
 }
 
 // Holds 64 records and tries record 65, releases one, tries record 65 again and then record 66; then sends what is held in batches.
 fn fullest_queue(rt: &impl Print) -> io::Result<()> {
     let mut store = [0u8; 1024];
-    let empty = fresh(&store);
-    let full = put_many(rt, empty, &mut store, 65)?;
-    let freed = release_one(rt, full, &store)?;
-    let refilled = put_many(rt, freed, &mut store, 2)?;
-    batches(rt, refilled, &store)
+    let mut state = fresh(&store);
+    put_many(rt, &mut state, &mut store, 65)?;
+    release_one(rt, &mut state, &store)?;
+    put_many(rt, &mut state, &mut store, 2)?;
+    batches(rt, &mut state, &store)
 }
 
 fn main(rt: HostRuntime) -> io::Result<()> {

@@ -170,8 +170,8 @@ fn offer(s: &mut State, server: u8, table: &[u8], out: &mut [u8]) -> Result<usiz
     take_wrote(s, &wrote)
 }
 
-// Makes the call of an event: answers how many octets it wrote, or the refusal, after which the state is as it was.
-fn make_call<'a>(
+// Makes the call of an event on a state that is lent: answers how many octets it wrote, or the refusal, after which the state is as it was.
+pub fn call_in_place<'a>(
     s: &mut State,
     kind: u8,
     server: u8,
@@ -205,7 +205,7 @@ pub fn call<'a>(
     ensures { Called table.now s store.old out.old
         (event_call kind server b.now out.old) result store.new out.new }
 {
-    match make_call(&mut s, kind, server, b, table, store, out) {
+    match call_in_place(&mut s, kind, server, b, table, store, out) {
         Ok(written) => Left {
             state: s,
             answer: DONE,

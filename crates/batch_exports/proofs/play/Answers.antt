@@ -1,7 +1,7 @@
 -- `play`: the answers to what its invariant leaves.
 use Rattle.std.proofs.Common.{◌≡◌, ◌-◌, refl, arith}
-use Rattle.batch_exports.specs.Calls.{progress, played}
-use Rattle.batch_exports.proofs.Calls.{played_more}
+use Rattle.batch_exports.specs.Calls.{played}
+use Rattle.batch_exports.proofs.Calls.{played_in_place}
 use Rattle.batch_exports.proofs.play.Goals as goal
 
 pub loop-i-init : goal.loop-i-init
@@ -14,5 +14,5 @@ loop-i-init c =
 pub loop-i-preserved : goal.loop-i-preserved
 loop-i-preserved c =
     let h = c.loop-i in
-    let more = played_more _ _ h.i _ (progress h.last h.store h.out) _ _ _ (omega arith) h.invariant.1.1 c.call_at-last.ensures in
+    let more = played_in_place _ _ h.i _ h.s h.last h.store h.out _ _ _ (omega arith) h.invariant.1.1 c.call_at-last.ensures in
     (omega arith, (omega arith, more))

@@ -1,8 +1,8 @@
--- `make_call` meets its contract: the kind says which call it is, and what is ensured of that call is its outcome.
+-- `call_in_place` meets its contract: the kind says which call it is, and what is ensured of that call is its outcome.
 use mathlib.Core.Path.{refl}
 use Rattle.events.proofs.Events.{is_put, is_message_lem, is_down, is_tick, is_next, is_offer, gives_of}
 use borrow.Author.Rules.{rules}
-use Rattle.events.proofs.make_call.Goals as goal
+use Rattle.events.proofs.call_in_place.Goals as goal
 
 pub returns-in-2 : goal.returns-in-2
 returns-in-2 c = gives_of _ _ _ _ _ _ _ _ (is_put _ _ _ _ _ _ _ c.in-2.is refl refl) (c.put_record.ensures c.args.out.now)
